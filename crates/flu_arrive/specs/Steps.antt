@@ -1,4 +1,4 @@
--- What each step on the arrival words tells: of the step, the seat before, the number found or stored, and the seat after.
+-- What each step on the arrival words says: of the step, the seat before, the number found or stored, and the seat after.
 use Rattle.std.specs.Prelude.{◌≡◌, ℕ, ◌+◌, ◌-◌, ◌≤◌, slice_index, slice_set}
 use Rattle.atomic_table.specs.Table.{Step}
 use Rattle.flu_arrive.specs.Notes.{note}

@@ -88,7 +88,7 @@ fn make_feeder(alloc: Global, limits: &[u64]) -> Result<Feeder, AllocError>
 ///
 /// # Errors
 ///
-/// Only where memory is wanting.
+/// Only if memory runs out.
 pub fn arrivals(
     alloc: Global,
     limits: &[u64],

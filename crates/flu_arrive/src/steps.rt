@@ -1,4 +1,4 @@
-//! What each step on the table tells.
+//! What each step on the table says.
 
 ghost use Rattle.flu_arrive.specs.Notes.{watching};
 ghost use Rattle.flu_arrive.specs.Steps.{fed, looked};

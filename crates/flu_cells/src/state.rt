@@ -29,7 +29,7 @@ const NEAR: u32 = 64;
 /// Contracts see it as the function `held` from each cell to what it holds, if anything. Two facts always hold of it: no
 /// cell holds a neutral value (a sum of 0), and each cell that holds something has a key from 0 to 65,535.
 ///
-/// The cells with a family and a key below 64 stand in a table, in which each is found in constant time, and all others in an
+/// The cells with a family and a key below 64 are in a table, in which each is found in constant time, and all others in an
 /// ordered map.
 #[derive(Drop)]
 pub struct State {
@@ -56,7 +56,7 @@ impl State {
         }
     }
 
-    /// What a cell holds; `None` where it is neutral.
+    /// What a cell holds; `None` if it is neutral.
     pub fn get(&self, c: Cell) -> Option<Worth>
         ensures { result ≡ held self.now c }
     {
@@ -75,7 +75,7 @@ impl State {
         &self.near
     }
 
-    /// Adds to the sum in a cell, which wraps at the ends of 128 bits; where it comes to 0, the cell is neutral again.
+    /// Adds to the sum in a cell, which wraps at the ends of 128 bits; if it comes to 0, the cell is neutral again.
     ///
     /// The key is at most 65,535. Where memory is refused, the state is as before.
     pub fn add(&mut self, c: Cell, n: i128) -> Result<(), AllocError>
@@ -236,7 +236,7 @@ impl State {
         }
     }
 
-    // Makes the cells of a family hold what they hold in another state, where that is something.
+    // Makes the cells of a family hold what they hold in another state, if that is something.
     fn copy_family(&mut self, other: &State, family: u32) -> Result<(), AllocError>
         ensures { OnOk result (held self.new ≡ overlay (held self.old) (only (λ c. c.family == family) (held other.now))) }
     {
@@ -247,7 +247,7 @@ impl State {
         Ok(())
     }
 
-    // Makes a cell hold what it holds in another state, where that is something.
+    // Makes a cell hold what it holds in another state, if that is something.
     fn copy_cell(&mut self, other: &State, cell: Cell) -> Result<(), AllocError>
         ensures { OnOk result (held self.new ≡ overlay (held self.old) (only (λ c. is_same_cell c cell) (held other.now))) }
     {

@@ -11,7 +11,7 @@ use std::alloc::{AllocError, Global};
 const ROW: u32 = 64;
 
 /// A finite map from slots, the numbers from 0 to 4,095, to values. A value is looked up, set and unset in constant time. The
-/// slots stand in rows of 64; a row takes memory up to the last of its slots that was ever held, and the table up to the last
+/// slots are in rows of 64; a row takes memory up to the last of its slots that was ever held, and the table up to the last
 /// such row.
 ///
 /// Contracts see it as the function `value_at` from each slot to its value, if it is held; no number from 4,096 on is held.

@@ -1,7 +1,7 @@
 -- DRAWS: the run of numbers that a seed determines.
 use Rattle.std.specs.Prelude.{ℕ, ◌+◌, ◌*◌, ◌/◌, ◌%◌, ◌^◌}
 
--- the number behind x; the first one is behind the seed
+-- the number after x; the first one comes after the seed
 unfoldable pub next_draw : ℕ → ℕ
 next_draw x = (x * 1103515245 + 12345) % 2 ^ 31
 

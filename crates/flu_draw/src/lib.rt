@@ -4,7 +4,7 @@
 ghost use Rattle.std.specs.Prelude.{◌≡◌, ◌^◌, ◌<◌};
 ghost use Rattle.flu_draw.specs.Draws.{next_draw, draw_of};
 
-/// The number behind x in the run, below 2^31; the first one is behind the seed.
+/// The number after x in the sequence, below 2^31; the first one comes after the seed.
 pub fn next_draw(x: u32) -> u32
     requires { x < 2 ^ 31 }
     ensures value { result ≡ next_draw x }

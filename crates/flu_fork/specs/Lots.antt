@@ -77,7 +77,7 @@ pub record HasJoinedCounts (k : Content) (w : ℕ) (left right lot : Lot) : Type
 
 -- ---- a case
 
--- it is that of a job, a plan, streams and an opening state
+-- it is the case of a job, a plan, streams and an opening state
 pub record IsCaseOf (c : Checked) (v : Valid) (s : Streams) (start : State) (k : Content) : Type 0 where
   pub checked : k.checked ≡ c
   pub valid : k.valid ≡ v

@@ -1,4 +1,4 @@
--- PLACES: where the events of the streams stand in the fold.
+-- PLACES: where the events of the streams are in the fold.
 use Rattle.std.specs.Prelude.{◌≡◌, ◌<◌, ℕ, true, List, ◌∷◌, ◌++◌}
 use Rattle.std.specs.List.{AllByRecursion}
 use Rattle.flu_model.specs.declared.events.Event.{Event}
@@ -8,7 +8,7 @@ use Rattle.flu_laws.specs.Spans.{Moment}
 use Rattle.flu_fork.specs.Settings.{Setting, IsSetting, moments}
 use Rattle.flu_fork.specs.Streams.{IsEventAt}
 
--- the one moment of event n of itag i: in front of it stand exactly the events that are before it in event order
+-- the one moment of event n of itag i: before it are exactly the events that are before it in event order
 pub record HasMoment (k : Setting) (i n : ℕ) (x : Event) : Type 0 where
   pub front : List Moment
   pub back : List Moment

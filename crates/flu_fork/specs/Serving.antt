@@ -49,7 +49,7 @@ pub record IsOnLoan (k : Content) (v : ℕ) (lent : LotCounts) (lot : Lot) : Typ
 abbrev pub CountsBefore : Program → Itags → List ℕ → List Moment → Moment → Type 0
 CountsBefore p set upto before m = AllByRecursion (λ q. set q.event.itag.0 ≡ true → depends_on p m q ≡ true → is_below upto q ≡ true) before
 
--- and those behind it are not
+-- and those after it are not
 abbrev pub CountsNoneBehind : Program → Itags → List ℕ → List Moment → Moment → Type 0
 CountsNoneBehind p set upto after m = AllByRecursion (λ q. set q.event.itag.0 ≡ true → depends_on p m q ≡ true → is_below upto q ≡ false) after
 
@@ -60,7 +60,7 @@ CountsJustBefore k set y upto =
     → CountsBefore (job k) set upto before m × CountsNoneBehind (job k) set upto after m
 
 -- SERVED: the lot comes back from the loan to a node, with all events of the subtree that are before the one that y names and on which it depends, and with
--- none of those behind it
+-- none of those after it
 pub record Served (k : Content) (v : ℕ) (lent : LotCounts) (y : Ask) (lot : Lot) : Type 0 where
   pub loan : IsOnLoan k v lent lot
   pub exact : CountsJustBefore k (below (job k) (nodes k) v) y lot.upto

@@ -16,7 +16,7 @@ use Rattle.flu_fork.specs.declared.rights.Right.{Right}
 abbrev pub IsSetOf : Program → List Node → ℕ → (Mode → Bool) → CellSet → Type 0
 IsSetOf p nodes w test set = (c : Cell) → is_in set c ≡ some_has p test (below p nodes w) c
 
--- those that are copied to a node, where that is a right child
+-- those that are copied to a node, if that is a right child
 abbrev pub IsCopiedSet : Program → List Node → ℕ → CellSet → Type 0
 IsCopiedSet p nodes right set = (c : Cell) → is_in set c ≡ is_copied p (below p nodes right) c
 
@@ -26,7 +26,7 @@ pub record IsRight (p : Program) (nodes : List Node) (right : ℕ) (table : Righ
   pub copied : (c : Cell) → is_in table.copied c ≡ is_copied p (below p nodes right) c
   pub itags : table.itags.items ≡ map (below p nodes right) (range_with_len 0 (count_of_itags p))
 
--- those of the right child of a node, where it has one
+-- those of the right child of a node, if it has one
 abbrev pub IsRightAt : Program → List Node → ℕ → Right → Type 0
 IsRightAt p nodes w table = (left right : ℕ) → kids_at nodes w ≡ Some (left, right) → IsRight p nodes right table
 
@@ -35,7 +35,7 @@ pub record AreTables (p : Program) (nodes : List Node) (tables : List Right) : T
   pub one_each : length tables ≡ length nodes
   pub right : (w : ℕ) (table : Right) → slice_get tables w ≡ Some table → IsRightAt p nodes w table
 
--- the count of an itag: that of the right ones where it is of them, and else that of the left ones
+-- the count of an itag: the right one if it is of the right ones, and else the left one
 abbrev pub count_by : List Bool → List ℕ → List ℕ → ℕ → ℕ
 count_by is_right lefts rights i = if slice_index_or is_right i false then slice_index rights i else slice_index lefts i
 

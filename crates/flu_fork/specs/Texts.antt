@@ -1,4 +1,4 @@
--- THE TEXTS of a set of itags: what the fold puts out for their counted events, each event's once.
+-- THE TEXTS of a set of itags: what the fold emits for their counted events, each event's once.
 use Rattle.std.specs.Prelude.{◌≡◌, ◌≢◌, ℕ, ◌+◌, ◌<◌, Bool, true, false, ◌&&◌, List, [], ◌∷◌, ◌++◌, length, slice_index}
 use Rattle.std.specs.List.{filter, flat_map}
 use Rattle.std.specs.List.Sorted.{IsPermutation}

@@ -68,7 +68,7 @@ impl<'a> Case<'a> {
     ///
     /// # Errors
     ///
-    /// Only where memory is wanting.
+    /// Only if memory runs out.
     pub fn new(
         alloc: Global,
         c: &'a Checked,

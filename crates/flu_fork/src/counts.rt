@@ -35,7 +35,7 @@ impl Counts {
         self.numbers.as_slice()
     }
 
-    /// The count of an itag, by its number; 0 where there is none. It takes no memory.
+    /// The count of an itag, by its number; 0 if there is none. It takes no memory.
     pub fn at(&self, itag: usize) -> u64
         ensures { result ≡ slice_index self.now itag }
     {
@@ -62,7 +62,7 @@ impl Counts {
     }
 }
 
-/// No event of any of so many itags.
+/// No event of any of this many itags.
 pub fn no_counts(alloc: Global, itags: u32) -> Result<Counts, AllocError>
     ensures { IfOk result (λ counts. counts ≡ map (λ i. 0) (range_with_len 0 itags)) }
 {

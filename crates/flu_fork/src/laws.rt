@@ -87,7 +87,7 @@ pub fn itags_are_of_nodes()
     laws_below();
 }
 
-/// Each event of the streams has one moment of the fold, with the earlier events in front of it and the later ones behind it,
+/// Each event of the streams has one moment of the fold, with the earlier events before it and the later ones after it,
 /// and each moment is that of an event of the streams. An itag with an event is one of the job.
 pub fn events_have_moments()
     ensures moments { EventsHaveMoments }

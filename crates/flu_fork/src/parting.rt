@@ -20,7 +20,7 @@ use std::alloc::{AllocError, Global};
 ///
 /// # Errors
 ///
-/// Only where memory is wanting.
+/// Only if memory runs out.
 pub fn opening_lot(alloc: Global, case: &Case) -> Result<Lot, AllocError>
     ensures fits { IfOk result (λ lot. LotFits case.now 0 lot) }
     ensures state { IfOk result (λ lot. held lot.state ≡ held case.now.opening) }
@@ -43,7 +43,7 @@ pub fn opening_lot(alloc: Global, case: &Case) -> Result<Lot, AllocError>
 ///
 /// # Errors
 ///
-/// Only where memory is wanting.
+/// Only if memory runs out.
 pub fn fork(alloc: Global, case: &Case, node: u32, lot: Lot) -> Result<(Lot, Lot), AllocError>
     requires node { node < length (nodes case.now) }
     requires inner { IsSome (kids case.now node) }
@@ -88,7 +88,7 @@ pub(crate) fn part(alloc: Global, right: &Right, lot: Lot) -> Result<(Lot, Lot),
 ///
 /// # Errors
 ///
-/// Only where memory is wanting.
+/// Only if memory runs out.
 pub fn join(alloc: Global, case: &Case, node: u32, left: Lot, right: Lot) -> Result<Lot, AllocError>
     requires node { node < length (nodes case.now) }
     requires inner { IsSome (kids case.now node) }

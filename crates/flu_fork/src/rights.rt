@@ -31,7 +31,7 @@ pub struct Right {
     pub itags: Vec<bool>,
 }
 
-/// What goes to a node, where that is a right child.
+/// What goes to a node, if that is a right child.
 pub fn right_of(alloc: Global, p: &Program, v: &Valid, right: u32) -> Result<Right, AllocError>
     requires { IsValidFor p.now v.now }
     ensures { IfOk result (λ table. IsRight p.now (plan_of v.now).nodes right table) }
@@ -107,7 +107,7 @@ fn add_needed(set: &mut CellSet, nothing: &CellSet, p: &Program, t: Tag) -> Resu
     add_targets(set, false, p, t)
 }
 
-// The cells that are copied to a node, where that is a right child.
+// The cells that are copied to a node, if that is a right child.
 fn copied_below(alloc: Global, p: &Program, v: &Valid, w: u32) -> Result<CellSet, AllocError>
     requires { IsValidFor p.now v.now }
     ensures { IfOk result (IsCopiedSet p.now (plan_of v.now).nodes w) }
@@ -218,7 +218,7 @@ fn nothing(alloc: Global) -> Right {
     }
 }
 
-// What goes to the right child of a node; nothing where it is a leaf.
+// What goes to the right child of a node; nothing if it is a leaf.
 fn right_at(alloc: Global, p: &Program, v: &Valid, w: u32) -> Result<Right, AllocError>
     requires valid { IsValidFor p.now v.now }
     requires node { w < length (plan_of v.now).nodes }

@@ -1,4 +1,4 @@
--- THE DEMO JOB: page views of a site and of an app, with the app's updates, told by each tick of a clock. As a text:
+-- THE DEMO JOB: page views of a site and of an app, with the app's updates, printed at each tick of a clock. As a text:
 --
 --     cell views keyed sum
 --     cell zip keyed last

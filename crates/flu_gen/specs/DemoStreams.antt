@@ -21,7 +21,7 @@ clock_tick = 30
 
 -- ---- draws
 
--- the number that a seed comes to in so many turns
+-- the number that a seed comes to in this many draws
 abbrev pub number_after : ℕ → ℕ → ℕ
 number_after seed zero = seed
 number_after seed (suc turns) = next_draw (number_after seed turns)
@@ -55,7 +55,7 @@ drawn_event time draw = event_at time (itag_drawn draw) (value_drawn draw)
 abbrev pub drawn_events : ℕ → ℕ → List Event
 drawn_events n seed = map (λ time. drawn_event time (draw_for seed time)) (range_with_len 1 n)
 
--- a tick at each thousandth time up to n, and one behind n
+-- a tick at each thousandth time up to n, and one after n
 abbrev pub tick_times : ℕ → List ℕ
 tick_times n = filter (λ time. time % 1000 == 0) (range_with_len 1 n) ++ (n + 1) ∷ []
 

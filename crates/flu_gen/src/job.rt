@@ -25,12 +25,12 @@ const UPDATE: u32 = 1;
 /// The number of the kind `tick`.
 const TICK: u32 = 2;
 
-/// The job of a demo: views of ten pages of a site and of an app, updates of these pages in the app, and a clock whose ticks tell the
+/// The job of a demo: views of ten pages of a site and of an app, updates of these pages in the app, and a clock whose ticks print the
 /// views of each page since the tick before.
 ///
 /// # Errors
 ///
-/// Only where memory is wanting.
+/// Only if memory runs out.
 pub fn demo_job(alloc: Global) -> Result<Program, AllocError>
     ensures { IfOk result IsDemoJob }
 {

@@ -19,7 +19,7 @@ const TICK_EVERY: u64 = 1000;
 ///
 /// # Errors
 ///
-/// Only where memory is wanting.
+/// Only if memory runs out.
 pub fn demo_streams(alloc: Global, p: &Program, n: u32, seed: u32) -> Result<Streams, AllocError>
     requires job { IsDemoJob p.now }
     requires few { n ≤ 1000000 }
@@ -61,7 +61,7 @@ fn items_of(alloc: Global, events: &[Event], itag: u32) -> Result<Vec<Item>, All
     Ok(items)
 }
 
-// Puts an event at the end of some items, where it is of the itag.
+// Puts an event at the end of some items, if it is of the itag.
 fn push_own(items: &mut Vec<Item>, event: Event, itag: u32) -> Result<(), AllocError>
     ensures { OnOk result (items.new.items ≡ items.old.items ++ (if event.itag.0 == itag then Item.Event event ∷ [] else [])) }
 {

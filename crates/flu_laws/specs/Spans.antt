@@ -64,7 +64,7 @@ value_below p ms opening c upto = changed_by p c opening (filter (is_below upto)
 abbrev pub AreAtMost : List ℕ → List ℕ → Type 0
 AreAtMost since upto = (i : ℕ) → slice_index since i ≤ slice_index upto i
 
--- spans add up over counts where no event between the first and the last counts needs the cell, so that all of them add to it or all raise it
+-- spans add up over counts if no event between the first and the last counts needs the cell, so that all of them add to it or all raise it
 abbrev pub SpansAddUp : Type 0
 SpansAddUp =
     (p : Program) (ms : List Moment) (c : Cell) (a b d : List ℕ)

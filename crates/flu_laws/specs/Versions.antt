@@ -13,7 +13,7 @@ use Rattle.flu_model.specs.Modes.{mode_of, mode_in_version_1, modes_conflict, ac
 abbrev pub NothingIsShared : Type 0
 NothingIsShared = (p : Program) (t : Tag) (c : Cell) → p.version ≡ 1 → mode_of p t c ≢ ReadMode
 
--- the mode is Own where the actions read or overwrite the cell, else Add where they add to it, else Raise where they raise it, else None
+-- the mode is Own if the actions read or overwrite the cell, else Add if they add to it, else Raise if they raise it, else None
 abbrev pub OwnsWhatItReads : Type 0
 OwnsWhatItReads =
     (p : Program) (t : Tag) (c : Cell) → p.version ≡ 1

@@ -1,4 +1,4 @@
--- The words of a text that is printed, each with the blanks behind it, and how they are laid out.
+-- The words of a text that is printed, each with the blanks after it, and how they are laid out.
 use Rattle.std.specs.Prelude.{◌≤◌, ℕ, ℤ, IsTrue, IsFalse, List, [], ◌∷◌, ◌++◌, length}
 use Rattle.std.specs.Fmt.{signed_decimal}
 use Rattle.std.specs.List.{list_all}
@@ -11,7 +11,7 @@ use Rattle.flu_text.specs.Grammar.{is_blank}
 use Rattle.flu_text.specs.Layout.{Piece, layout, NotFirst, makes_longer}
 use Rattle.flu_model.specs.Rules.{is_literal}
 
--- ---- words, each with what stands behind it
+-- ---- words, each with what comes after it
 
 abbrev pub blank : List ℕ
 blank = 32 ∷ []
@@ -39,11 +39,11 @@ number n behind = record { word = w.Number n; spelling = signed_decimal n; gap =
 
 -- ---- the rules of the layout
 
--- what stands behind a word: blanks, and then no byte of a name
+-- what comes after a word: blanks, and then no byte of a name
 abbrev pub EndsName : List ℕ → List Piece → Type 0
 EndsName behind rest = NotFirst is_name_byte (behind ++ layout rest)
 
--- the words are laid out: each is one of the language, and what stands behind it does not make it longer
+-- the words are laid out: each is one of the language, and what comes after it does not make it longer
 pub data AreLaid : List Piece → Type 0 where
   laid_none : AreLaid []
   laid_name : (n behind : List ℕ) (rest : List Piece) → IsTrue (is_name n) → IsTrue (list_all is_blank behind) → EndsName behind rest → AreLaid rest
@@ -57,10 +57,10 @@ pub data AreLaid : List Piece → Type 0 where
   -- a mark that no byte makes longer
   laid_mark : (word : Mark) (behind : List ℕ) (rest : List Piece) → ((b : ℕ) → IsFalse (makes_longer word b)) → IsTrue (list_all is_blank behind) → AreLaid rest
       → AreLaid (mark word behind ∷ rest)
-  -- any mark, with a blank behind it
+  -- any mark, with a blank after it
   laid_spaced : (word : Mark) (rest : List Piece) → AreLaid rest → AreLaid (mark word blank ∷ rest)
 
--- what stands behind a word that is still to come, and that it is laid out
+-- what comes after a word that is still to come, and that it is laid out
 pub record Follows (behind : List ℕ) (rest : List Piece) : Type 0 where
   pub blank : IsTrue (list_all is_blank behind)
   pub ends : EndsName behind rest

@@ -16,11 +16,11 @@ use Rattle.flu_layout.specs.Stands.{Stand, AreRead}
 abbrev pub LaidIsRead : Type 0
 LaidIsRead = (ps : List Piece) → AreLaid ps → IsUtf8 (layout ps) → (reading (layout ps) ≡ Ok (tokens_of 0 ps)) × Stand (layout ps) ps (tokens_of 0 ps)
 
--- the names of a text that was read are names, and what stands between its quotes may stand there
+-- the names of a text that was read are names, and what is between its quotes may be there
 abbrev pub ReadMayBePrinted : Type 0
 ReadMayBePrinted = (text : List ℕ) (ts : List Token) → IsUtf8 text → reading text ≡ Ok ts → AreRead text ts
 
--- signs that the tokens begin with, with nothing behind, are those of all tokens
+-- signs that the tokens begin with, with nothing after them, are those of all tokens
 abbrev pub BegunAreSigns : Type 0
 BegunAreSigns = (signs : List Sign) (ts : List Token) → Begins IsSign signs ts [] → AreSigns signs ts
 

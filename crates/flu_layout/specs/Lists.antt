@@ -29,7 +29,7 @@ keys_text keys.Alone = []
 keys_text (keys.One k) = codes "[" ++ decimal k ++ codes "]"
 keys_text (keys.Range low high) = codes "[" ++ decimal low ++ codes ".." ++ decimal high ++ codes "]"
 
--- what stands behind the kind of keys, and the keys' words
+-- what comes after the kind of keys, and the keys' words
 abbrev pub behind_kind : Keys → List ℕ → List ℕ
 behind_kind keys.Alone behind = behind
 behind_kind (keys.One k) behind = []

@@ -7,7 +7,7 @@ use Rattle.flu_text.specs.declared.written.WrittenSpan.{WrittenSpan}
 abbrev pub name_of : List ℕ → WrittenSpan → List ℕ
 name_of text s = spelled text s.from s.to
 
--- what stands between the quotes of a written text
+-- what is between the quotes of a written text
 abbrev pub inside : List ℕ → WrittenSpan → List ℕ
 inside text s = spelled text (s.from + 1) (s.to - 1)
 

@@ -28,7 +28,7 @@ abbrev pub Stand : List ℕ → List Piece → List Token → Type 0
 Stand whole [] ts = ts ≡ []
 Stand whole (p ∷ ps) ts = (t : Token) × (rest : List Token) × (ts ≡ t ∷ rest) × StandsFor whole p t × Stand whole ps rest
 
--- what stands between the quotes of a text that was read: at most 256 bytes that may stand there, with both ends between characters
+-- what is between the quotes of a text that was read: at most 256 bytes that may be there, with both ends between characters
 pub record IsQuoted (whole : List ℕ) (s : WrittenSpan) : Type 0 where
   pub room : s.from + 2 ≤ s.to
   pub begins : IsCharBoundary whole (s.from + 1)

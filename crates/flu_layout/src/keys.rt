@@ -7,11 +7,11 @@ ghost use Rattle.flu_layout.specs.Lists.{keys_text};
 use flu_model::Keys;
 use std::alloc::AllocError;
 
-/// Puts the keys that are listed of a kind behind a text: nothing, a number in brackets, or two of them with `..` between.
+/// Appends the keys that are listed of a kind to a text: nothing, a number in brackets, or two of them with `..` between.
 ///
 /// # Errors
 ///
-/// Only where memory is wanting.
+/// Only if memory runs out.
 pub fn add_keys(text: &mut String, keys: Keys) -> Result<(), AllocError>
     ensures { OnOk result (string_bytes text.new ≡ string_bytes text.old ++ keys_text keys) }
 {

@@ -14,7 +14,7 @@ pub fn laid_is_read()
     layout_is_read();
 }
 
-/// The names of a text that was read are names, and what stands between its quotes may stand there.
+/// The names of a text that was read are names, and what is between its quotes may be there.
 pub fn read_may_be_printed()
     ensures { ReadMayBePrinted }
 {

@@ -32,7 +32,7 @@ pub fn name_of(text: &str, span: WrittenSpan) -> &str
     spelled(text, span.from, span.to)
 }
 
-/// What stands between the quotes of a written text.
+/// What is between the quotes of a written text.
 pub fn inside(text: &str, span: WrittenSpan) -> &str
     ensures value { result.now ≡ inside text.now span }
     ensures within { 0 < length result.now → span.from + 1 + length result.now ≤ length text.now }

@@ -8,7 +8,7 @@ use Rattle.flu_fork.specs.Laws.{no_counts}
 use Rattle.flu_fork.specs.Lots.{job}
 use Rattle.flu_fork.specs.Serving.{LotCounts, counts_of, none_counted}
 
--- THE PHASES, in the order in which they follow one another; behind the last the first comes
+-- THE PHASES, in the order in which they follow one another; after the last the first comes
 abbrev pub phase_lent : ℕ
 phase_lent = 0
 
@@ -33,7 +33,7 @@ pub record UpperNote : Type 0 where
   -- the counts of the lot lent last, and the upto of the one taken last
   pub lent : LotCounts
   pub received : List ℕ
-  -- the event asked for last, and whether no ask stands whose lot is not yet taken
+  -- the event asked for last, and whether there is no ask whose lot is not yet taken
   pub ask : Ask
   pub taken : Bool
   -- how many looks at the phase it took
@@ -92,7 +92,7 @@ lower_start link k v = record {
   stop_found = 0;
 }
 
--- ---- the upper end, behind one more look, which found this phase; and behind each call that did what it is for
+-- ---- the upper end, after one more look, which found this phase; and after each call that did what it is for
 
 abbrev pub found_below : UpperNote → ℕ → UpperNote
 found_below u phase = record u { phase = phase; looks = u.looks + 1 }

@@ -13,7 +13,7 @@ use Rattle.flu_link.specs.declared.notes.View.TheVariants.{Fresh, Top, Bottom, J
 use Rattle.flu_link.specs.Seats.{loan, lent_counts, lower_seat}
 use Rattle.flu_link.specs.Notes.{phase_lent, phase_held, phase_asked, phase_given}
 
--- THE PHASE, by those that the ends noted last: where an end stores next, it knows the phase, and else the phase is what it noted or the one behind it
+-- THE PHASE, by those that the ends noted last: where an end stores next, it knows the phase, and else the phase is what it noted or the one after it
 pub record Follows (up low phase : ℕ) : Type 0 where
   pub four : phase ≤ phase_given
   pub upper_lent : up ≡ phase_lent → phase ≤ phase_held
@@ -71,7 +71,7 @@ pub record Linked (up : UpperSeat) (low : LowerSeat) (words : List ℕ) (homes :
   pub agrees : Agrees up low phase
   pub stops : Stops up low stop
 
--- what each view stands for. The mode is 0 where there is no lower end yet, 1 where there are both, 2 once they are joined, 3 once the link is closed
+-- what each view stands for. The mode is 0 if there is no lower end yet, 1 if there are both, 2 once they are joined, 3 once the link is closed
 module _ (upper lower mode : ℕ) (up : UpperSeat) (low : LowerSeat) (seat : ℕ) where
   abbrev pub Knows : View → Type 0
   Knows (Fresh u) = (seat ≡ upper) × (u ≡ up) × (mode ≡ 0) × (low ≡ lower_seat up.case up.lower)

@@ -1,4 +1,4 @@
--- What each step on a link's table tells: of the step, the seat before, the number found or stored, and the seat after.
+-- What each step on a link's table says: of the step, the seat before, the number found or stored, and the seat after.
 use Rattle.std.specs.Prelude.{◌≡◌, ◌≢◌, ℕ, ◌+◌, ◌^◌, ◌<◌, ◌≤◌, true, false, List, [], ◌∷◌, slice_index, Option, Some, None}
 use Rattle.atomic_table.specs.Table.{Step}
 use Rattle.flu_fork.specs.declared.lots.Lot.{Lot}

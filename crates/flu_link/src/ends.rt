@@ -24,7 +24,7 @@ use std::sync::Arc;
 /// The end of the worker above. It asks for lots, takes them and lends others.
 ///
 /// Contracts see of it which link it is, the content of the case and the lower node, the phase that it found or stored last, the
-/// counts of the lot lent last, the `upto` of the lot taken last, the event asked for last, whether no ask stands whose lot is not
+/// counts of the lot lent last, the `upto` of the lot taken last, the event asked for last, whether there is no ask whose lot is not
 /// yet taken, its looks at the phase, whether it stopped, and its looks at the stop word with the number found last.
 #[derive(Drop)]
 pub struct Upper {
@@ -83,7 +83,7 @@ impl Model for Lower {
 ///
 /// # Errors
 ///
-/// Only where memory is wanting.
+/// Only if memory runs out.
 pub fn link(alloc: Global, case: &Case, lower: u32) -> Result<(Upper, Lower), AllocError>
     ensures one_link { IfOk result (λ r. r.1.link ≡ r.0.link) }
     ensures upper { IfOk result (λ r. r.0 ≡ upper_start r.0.link case.now lower) }
@@ -259,7 +259,7 @@ impl Lower {
     }
 }
 
-/// Closes a link, and gives the lot that is in it. `None` exactly where a lot is held or asked for, or where nothing was given since
+/// Closes a link, and gives the lot that is in it. `None` exactly if a lot is held or asked for, or nothing was given since
 /// the link was made or since the last take.
 pub fn close(upper: Upper, lower: Lower) -> Option<Lot>
     requires { lower.link ≡ upper.link }

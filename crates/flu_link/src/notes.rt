@@ -5,7 +5,7 @@ use atomic_table::{Seat, Table, TableRule};
 use flu_fork::{Ask, CaseNote, Content, Counts, Lot};
 use std::alloc::Global;
 
-// The phases follow one another in this order, and behind the last the first comes.
+// The phases follow one another in this order, and after the last the first comes.
 
 /// The upper end has lent a lot: the lower end takes it next.
 pub(crate) const LENT: u64 = 0;
@@ -36,7 +36,7 @@ pub struct UpperSeat {
     /// The upto of the lot taken last.
     pub received: Counts,
     pub ask: Ask,
-    /// No ask stands whose lot is not yet taken.
+    /// There is no ask whose lot is not yet taken.
     pub taken: bool,
     /// The slot is out with this end.
     pub out: bool,

@@ -1,4 +1,4 @@
-//! What each step on the table tells.
+//! What each step on the table says.
 
 ghost use Rattle.flu_link.specs.Steps.{looks_up, fetches, stores_itag, stores_index, asks, lends, stops_up, sees_stop_up, looks_low, holds, replies};
 ghost use Rattle.flu_link.specs.Steps.{stores_held, gives_lot, sees_itag, sees_index, stops_low, sees_stop_low, ends};

@@ -28,13 +28,13 @@ PassingStays =
     (i low seen more count : ℕ) (items : List Item) (x : Event)
     → IsTrue (is_stream_from i low items) → seen ≤ more → passes (take seen items) count x ≡ true → passes (take more items) count x ≡ true
 
--- WHEN ALL IS SEEN, a stream lets x pass exactly where x is before each event that is not counted
+-- WHEN ALL IS SEEN, a stream lets x pass exactly if x is before each event that is not counted
 abbrev pub PassingIsExact : Type 0
 PassingIsExact =
     (i low count : ℕ) (items : List Item) (x : Event)
     → IsTrue (is_stream_from i low items) → (passes items count x ≡ true) ↔ ((y : Event) → IsUncounted items count y → is_before x y ≡ true)
 
--- and for an event of another itag, exactly where no event that is not counted is before x
+-- and for an event of another itag, exactly if no event that is not counted is before x
 abbrev pub PassingOthersIsExact : Type 0
 PassingOthersIsExact =
     (i low count : ℕ) (items : List Item) (x : Event)

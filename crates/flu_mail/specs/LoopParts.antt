@@ -1,4 +1,4 @@
--- Waiting, as a mailbox tells it from lists of itags.
+-- Waiting, as a mailbox decides it from lists of itags.
 use Rattle.std.specs.Prelude.{Bool, true, not, ◌==◌, ◌&&◌, ◌||◌, List, slice_index}
 use Rattle.flu_model.specs.declared.events.Event.{Event}
 use Rattle.flu_model.specs.declared.events.Itag.{Itag}

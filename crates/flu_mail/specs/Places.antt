@@ -1,10 +1,10 @@
--- Where the events of an itag stand among its items.
+-- The places of the events of an itag among its items.
 use Rattle.std.specs.Prelude.{ℕ, zero, suc, Bool, true, false, Option, Some, None, List, [], ◌∷◌}
 use Rattle.flu_model.specs.declared.events.Event.{Event}
 use Rattle.flu_model.specs.declared.events.Item.{Item}
 use Rattle.flu_model.specs.declared.events.Item.TheVariants.{Event as EventItem, Beat, End}
 
--- how many items come before the event with this index; all where there is none
+-- how many items come before the event with this index; all if there is none
 abbrev pub place_of : List Item → ℕ → ℕ
 place_of [] count = 0
 place_of (EventItem x ∷ rest) zero = 0

@@ -31,7 +31,7 @@ pub struct Entry {
     pub seen: u64,
     /// How many of its events were counted.
     pub count: u64,
-    /// How many items come before the event that is the next to be counted; all where there is none.
+    /// How many items come before the event that is the next to be counted; all if there is none.
     pub place: u64,
 }
 

@@ -13,8 +13,8 @@ pub fn passing_stays()
     ensures { PassingStays }
 {}
 
-/// When all is seen, an event passes exactly where it is before each event of the itag that is not counted; an event of another
-/// itag passes exactly where none of these is before it.
+/// When all is seen, an event passes exactly if it is before each event of the itag that is not counted; an event of another
+/// itag passes exactly if none of these is before it.
 pub fn passing_is_exact()
     ensures after { PassingIsExact }
     ensures clear { PassingOthersIsExact }

@@ -27,8 +27,8 @@ use std::alloc::{AllocError, Global};
 
 /// What the worker of a node has seen of each itag's stream, and how many of its events it has counted (`docs/TREE.md`).
 ///
-/// It is made over the streams of a job with a valid plan, and its calls are for these. For each itag it keeps where the next
-/// event stands, so that `next`, `pending` and `passes` look at one item each, and the calls that count go forward from there. It
+/// It is made over the streams of a job with a valid plan, and its calls are for these. For each itag it keeps the place of the
+/// next event, so that `next`, `pending` and `passes` look at one item each, and the calls that count go forward from there. It
 /// borrows nothing, so a worker that has one can go to another thread; the streams and the tables are handed to each call.
 #[derive(Drop)]
 pub struct Mailbox {
@@ -83,7 +83,7 @@ impl Mailbox {
         self.entries[i.0 as usize].seen = count;
     }
 
-    /// How many items of an itag's stream were seen; 0 where there is no such itag.
+    /// How many items of an itag's stream were seen; 0 if there is no such itag.
     pub fn seen(&self, i: Itag) -> u64
         ensures { result ≡ slice_index (seen_of self.now) i.0 }
     {
@@ -93,7 +93,7 @@ impl Mailbox {
         }
     }
 
-    /// How many events of an itag were counted; 0 where there is no such itag.
+    /// How many events of an itag were counted; 0 if there is no such itag.
     pub fn count(&self, i: Itag) -> u64
         ensures { result ≡ slice_index (counts_of self.now) i.0 }
     {

@@ -6,7 +6,7 @@ ghost use Rattle.flu_mail.specs.Places.{event_in};
 
 use flu_model::{Event, Item};
 
-/// The first so many items.
+/// The first items, this many.
 pub fn first_items(items: &[Item], count: u64) -> &[Item]
     requires { count ≤ length items.now }
     ensures { result.now ≡ take count items.now }
@@ -14,7 +14,7 @@ pub fn first_items(items: &[Item], count: u64) -> &[Item]
     &items[..count as usize]
 }
 
-/// The event at a place of the seen items; none where that place was not seen.
+/// The event at a place of the seen items; none if that place was not seen.
 pub fn event_at(seen: &[Item], place: u64) -> Option<Event>
     ensures { result ≡ event_in (slice_get seen.now place) }
 {

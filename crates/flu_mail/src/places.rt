@@ -1,4 +1,4 @@
-//! Where the events of an itag stand among its items.
+//! The places of the events of an itag among its items.
 
 ghost use Rattle.std.specs.Prelude.{◌≡◌, ◌≤◌, ◌+◌, length, drop};
 ghost use Rattle.flu_model.specs.Merging.{events_of};
@@ -6,7 +6,7 @@ ghost use Rattle.flu_mail.specs.Places.{place_of, is_event};
 
 use flu_model::Item;
 
-/// The place of the event with index n, all items where there is none, from that of an earlier one.
+/// The place of the event with index n, all items if there is none, from that of an earlier one.
 ///
 /// It looks at the items between the two places, each once.
 pub fn place_after(items: &[Item], place: u64, count: u64, n: u64) -> u64
@@ -22,7 +22,7 @@ pub fn place_after(items: &[Item], place: u64, count: u64, n: u64) -> u64
     place
 }
 
-/// The place of the first event from a place on; all items where there is none.
+/// The place of the first event from a place on; all items if there is none.
 pub fn first_event(items: &[Item], from: u64) -> u64
     requires { from ≤ length items.now }
     ensures { result ≡ from + place_of (drop from items.now) 0 }

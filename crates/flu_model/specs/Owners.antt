@@ -1,4 +1,4 @@
--- Which itags the nodes of a plan are responsible for, and how nodes stand to each other.
+-- Which itags the nodes of a plan are responsible for, and how nodes are related.
 use Rattle.std.specs.Prelude.{ℕ, zero, suc, Bool, true, false, not, nat_le, ◌==◌, ◌&&◌, ◌||◌, Option, Some, None, List, [], ◌∷◌, length, slice_get, position}
 use Rattle.std.specs.Prelude.{is_some}
 use Rattle.std.specs.List.{list_all, list_any}
@@ -91,7 +91,7 @@ is_kid v (Some kids) = (kids.0 == v) || (kids.1 == v)
 abbrev pub parent_of : List Node → ℕ → Option ℕ
 parent_of nodes v = position (λ (node : Node). is_kid v node.kids) nodes
 
--- a node, where there is one, and its ancestors, from it up, so many at most
+-- a node, if there is one, and its ancestors, from it up, at most this many
 abbrev pub climb : ℕ → List Node → Option ℕ → List ℕ
 climb zero nodes v = []
 climb (suc n) nodes None = []

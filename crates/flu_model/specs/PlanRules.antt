@@ -28,7 +28,7 @@ is_tree nodes = are_subtrees 0 (0 ∷ []) nodes
 
 -- ---- the depth
 
--- the depths of two children, where there are some, before those of what else is wanted
+-- the depths of two children, if there are some, before those of what else is wanted
 abbrev pub with_depths : ℕ → Option (ℕ × ℕ) → List ℕ → List ℕ
 with_depths d None wanted = wanted
 with_depths d (Some kids) wanted = (d + 1) ∷ (d + 1) ∷ wanted

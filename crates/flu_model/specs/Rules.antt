@@ -138,7 +138,7 @@ are_apart (TimeField ∷ ps) = are_apart ps
 are_apart (ReadField r ∷ ps) = are_apart ps
 are_apart (CellValue ∷ ps) = are_apart ps
 
--- what stands between two quotes has at most 256 bytes
+-- what is between two quotes has at most 256 bytes
 abbrev pub is_short : List ℕ → Bool
 is_short inside = nat_le (length inside) 256
 
@@ -193,7 +193,7 @@ tag_ref_fits kinds r = listed_kind_fits (slice_get kinds r.kind) r.keys
 abbrev pub is_same_tag : Tag → Tag → Bool
 is_same_tag a b = (a.kind == b.kind) && (a.key == b.key)
 
--- a file's name stands between quotes in a job text
+-- a file's name is between quotes in a job text
 abbrev pub is_file_text : List ℕ → Bool
 is_file_text t = nat_lt 0 (length t) && is_short t && list_all is_text_byte t
 

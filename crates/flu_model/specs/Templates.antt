@@ -32,6 +32,6 @@ written_piece families Time = codes "{time}"
 written_piece families (Read r) = codes "{" ++ written_cell families r ++ codes "}"
 written_piece families CellValue = codes "{cell}"
 
--- what stands between the quotes
+-- what is between the quotes
 abbrev pub written_template : List Family → List Piece → List ℕ
 written_template families pieces = flat_map (written_piece families) pieces

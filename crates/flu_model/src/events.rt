@@ -51,7 +51,7 @@ pub enum Worth {
     Last(i64),
 }
 
-/// An output: a text that an event of this tag put out at this time.
+/// An output: a text that an event of this tag emitted at this time.
 #[derive(Drop)]
 pub struct Out {
     pub time: u64,
@@ -89,7 +89,7 @@ impl Outs {
         self.all.as_slice()
     }
 
-    /// Puts the outputs of another list behind those of this one; where memory is refused this list is as before.
+    /// Appends the outputs of another list to this one; if memory is refused this list is as before.
     pub fn append(&mut self, other: Outs) -> Result<(), AllocError>
         ensures ok { OnOk result (self.new ≡ self.old ++ other) }
         ensures err { OnErr result (self.new ≡ self.old) }

@@ -71,9 +71,9 @@ pub enum Expr {
     Two(Op, Box<Expr>, Box<Expr>),
 }
 
-/// A piece of the text that an action puts out: plain bytes, or a field that is filled in.
+/// A piece of the text that an action emits: plain bytes, or a field that is filled in.
 ///
-/// `CellValue` stands only in a flush, where `Key` is the flushed cell's key; `Read` stands only in an emit.
+/// `CellValue` occurs only in a flush, where `Key` is the flushed cell's key; `Read` occurs only in an emit.
 #[derive(Drop)]
 pub enum Piece {
     Plain(Text),
@@ -84,8 +84,8 @@ pub enum Piece {
     CellValue,
 }
 
-/// What an action does: adds to a sum, raises a maximum, sets a last value, makes a cell neutral, puts out a text,
-/// or puts out a text for each cell of a family that is not neutral and makes all of them neutral.
+/// What an action does: adds to a sum, raises a maximum, sets a last value, makes a cell neutral, emits a text,
+/// or emits a text for each cell of a family that is not neutral and makes all of them neutral.
 #[derive(Drop)]
 pub enum Act {
     Add(CellRef, Expr),

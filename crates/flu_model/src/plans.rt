@@ -11,7 +11,7 @@ use crate::jobs::{Keys, Program};
 use crate::lists::List;
 use crate::words::Name;
 
-/// Which itags are meant: those of a kind, of all its keys or of some, and of a source, or of any where none is named.
+/// Which itags are meant: those of a kind, of all its keys or of some, and of a source, or of any source if none is named.
 ///
 /// Kinds and sources are named by their numbers. Where no kind is named the keys are alone and a source is named.
 #[derive(Clone, Copy, PartialEq, Eq, Debug)]
@@ -21,7 +21,7 @@ pub struct Pred {
     pub source: Option<u32>,
 }
 
-/// A node of a plan: what it is responsible for, and the numbers of its left and right child, where it has some.
+/// A node of a plan: what it is responsible for, and the numbers of its left and right child, if it has some.
 #[derive(Drop)]
 pub struct Node {
     pub name: Name,

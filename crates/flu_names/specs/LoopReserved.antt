@@ -1,4 +1,4 @@
--- Which letters tell most names from the reserved words at once: all of a word of two or three, and the first four of a longer one.
+-- Which letters distinguish most names from the reserved words at once: all of a word of two or three, and the first four of a longer one.
 use Rattle.std.specs.Prelude.{ℕ, Bool, false, if◌then◌else◌, ◌==◌, ◌||◌, ◌&&◌, List, [], ◌∷◌}
 
 abbrev pub is_pair : ℕ → ℕ → Bool

@@ -14,7 +14,7 @@ is_name_start b = is_ascii_alphabetic b || (b == 95)
 abbrev pub is_name_byte : ℕ → Bool
 is_name_byte b = is_ascii_alphanumeric b || (b == 95)
 
--- a byte of a character that may stand in a text: neither `"` nor below U+0020 nor U+007F
+-- a byte of a character that may occur in a text: neither `"` nor below U+0020 nor U+007F
 abbrev pub is_text_byte : ℕ → Bool
 is_text_byte b = nat_le 32 b && not (b == 34) && not (b == 127)
 

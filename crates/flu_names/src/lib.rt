@@ -16,7 +16,7 @@ pub use reserved::Reserved;
 /// How many bytes a name may have.
 pub const LONGEST_NAME: usize = 32;
 
-/// How many bytes may stand between the quotes of a text.
+/// How many bytes may be between the quotes of a text.
 pub const LONGEST_TEXT: usize = 256;
 
 /// Whether a text is a name: a letter or an underscore, then letters, digits and underscores, at most 32 bytes in all, and no
@@ -59,14 +59,14 @@ pub fn is_name_start(byte: u8) -> bool
     byte.is_ascii_alphabetic() || byte == b'_'
 }
 
-/// Whether a byte may stand in a name: a letter, a digit or an underscore.
+/// Whether a byte may occur in a name: a letter, a digit or an underscore.
 pub fn is_name_byte(byte: u8) -> bool
     ensures { result ≡ is_name_byte byte }
 {
     byte.is_ascii_alphanumeric() || byte == b'_'
 }
 
-/// Whether a byte may stand in a text between quotes: no quote, and none of a control character.
+/// Whether a byte may occur in a text between quotes: no quote, and none of a control character.
 pub fn is_text_byte(byte: u8) -> bool
     ensures { result ≡ is_text_byte byte }
 {

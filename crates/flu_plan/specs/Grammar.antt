@@ -74,12 +74,12 @@ PlansAreUnique = (tokens : List Token) (a b : List WrittenNode) → ArePlan toke
 abbrev pub MayGoOn : List Token → Type 0
 MayGoOn front = (more : List Token) × (nodes : List WrittenNode) × ArePlan (front ++ more) nodes
 
--- with the next token they may not go on, whatever follows; or no token is left and they are no plan yet
+-- with the next token they cannot be continued, whatever follows; or no token is left and they are no plan yet
 abbrev pub CannotTake : List Token → List Token → Type 0
 CannotTake front [] = (nodes : List WrittenNode) → ArePlan front nodes → ⊥
 CannotTake front (t ∷ rest) = (more : List Token) (nodes : List WrittenNode) → ArePlan ((front ++ t ∷ []) ++ more) nodes → ⊥
 
--- The place is that of the first token with which the tokens may no longer go on, or the end where they may go on.
+-- The place is that of the first token with which the tokens can no longer be continued, or the end if they can be continued.
 pub record IsFirstThatCannotFollow (end : ℕ) (tokens : List Token) (place : ℕ) : Type 0 where
   pub front : List Token
   pub rest : List Token

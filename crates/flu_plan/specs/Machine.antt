@@ -35,7 +35,7 @@ terminal_of (w.Mark m.At) = k.At
 terminal_of (w.Mark m.Arrow) = k.Arrow
 terminal_of _ = k.Other
 
--- the nodes so far, the name and the predicates so far of the node that is open, and what stands before the next token
+-- the nodes so far, the name and the predicates so far of the node that is open, and what comes before the next token
 pub record Turn : Type 0 where
   pub nodes : List WrittenNode
   pub name : WrittenSpan
@@ -176,7 +176,7 @@ stage_end end u stage.Source = whole u None
 stage_end end u (stage.Right left right) = whole u (Some (left, right))
 stage_end end u _ = Err (f.Unexpected end)
 
--- the nodes, where they may end here
+-- the nodes, if they may end here
 unfoldable pub ended : ℕ → Turn → Found (List WrittenNode)
 ended end u = stage_end end u u.stage
 

@@ -37,12 +37,12 @@ source_text p (Some source) = codes "@" ++ name_of_source (slice_get p.sources s
 abbrev pub pred_text : Program → Pred → List ℕ
 pred_text p q = kind_text p q.kind q.keys ++ source_text p q.source
 
--- the predicates behind a blank, if there are some
+-- the predicates after a blank, if there are some
 abbrev pub preds_text : Program → List Pred → List ℕ
 preds_text p [] = []
 preds_text p (q ∷ preds) = codes " " ++ separated (codes ", ") (pred_text p) (q ∷ preds)
 
--- the children's names behind an arrow, if there are some
+-- the children's names after an arrow, if there are some
 abbrev pub kids_text : List Node → Option (ℕ × ℕ) → List ℕ
 kids_text nodes None = []
 kids_text nodes (Some kids) = codes " -> " ++ name_of_child (slice_get nodes kids.0) ++ codes " " ++ name_of_child (slice_get nodes kids.1)

@@ -17,7 +17,7 @@ use Rattle.flu_plan.specs.Shape.{children_of, preorder, all_below}
 use Rattle.flu_plan.specs.Limits.{within_limits}
 use Rattle.flu_plan.specs.Numbering.{planned}
 
--- the bytes where they are UTF-8
+-- the bytes if they are UTF-8
 abbrev pub text_in : List ℕ → Found (List ℕ)
 text_in bytes = do
   unless (is_utf8 bytes) (f.BadToken (utf8_valid_len bytes))

@@ -51,7 +51,7 @@ abbrev pub with_visits : ℕ → Option (ℕ × ℕ) → List Visit → List Vis
 with_visits d None wanted = wanted
 with_visits d (Some kids) wanted = visit kids.0 (d + 1) ∷ visit kids.1 (d + 1) ∷ wanted
 
--- the wanted nodes, each followed by those below it, so many at most
+-- the wanted nodes, each followed by those below it, at most this many
 unfoldable pub walk : List DraftNode → ℕ → List Visit → List Visit
 walk nodes zero wanted = []
 walk nodes (suc n) [] = []

@@ -26,7 +26,7 @@ pub enum PlanFault {
     /// There is more of this than the language allows: one more, or the key itself.
     #[error("over a limit")]
     OverLimit { what: What, count: u64 },
-    /// Memory is wanting.
+    /// Out of memory.
     #[error("out of memory")]
     NoMemory,
 }

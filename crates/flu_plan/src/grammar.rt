@@ -15,7 +15,7 @@ use flu_text::{Token, WrittenKeys, WrittenNumber, WrittenSpan};
 use std::alloc::Global;
 use std::mem;
 
-/// What stands before the next token.
+/// What comes before the next token.
 #[derive(Clone, Copy)]
 pub enum Stage {
     /// Nothing.
@@ -24,17 +24,17 @@ pub enum Stage {
     Node,
     /// The name of a node.
     Name,
-    /// The colon behind it.
+    /// The colon after it.
     Colon,
-    /// The comma behind a predicate.
+    /// The comma after a predicate.
     Comma,
     /// The kind of a predicate.
     Kind(WrittenSpan),
-    /// The opening bracket behind it.
+    /// The opening bracket after it.
     Open(WrittenSpan),
     /// The first number in brackets.
     Low(WrittenSpan, WrittenNumber),
-    /// The two dots behind it.
+    /// The two dots after it.
     Dots(WrittenSpan, WrittenNumber),
     /// The second number.
     High(WrittenSpan, WrittenKeys),
@@ -430,7 +430,7 @@ fn span_of(token: Token) -> WrittenSpan
 /// # Errors
 ///
 /// [`PlanFault::Unexpected`] at the first token with which the tokens before it can no longer be continued to a plan, or at
-/// `end` where all of them can and are none yet.
+/// `end` if all of them can and are none yet.
 pub fn written_in(
     alloc: Global,
     tokens: &[Token],

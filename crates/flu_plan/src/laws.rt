@@ -12,7 +12,7 @@ pub fn found_is_plan()
     ensures unique { PlansAreUnique }
 {}
 
-/// An unexpected token is the first with which the tokens before it can no longer be continued to a plan; and where that is the
+/// An unexpected token is the first with which the tokens before it can no longer be continued to a plan; and if that is the
 /// end, they can be and are none yet.
 pub fn unexpected_is_first()
     ensures { UnexpectedIsFirst }

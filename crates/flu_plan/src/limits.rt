@@ -17,7 +17,7 @@ const MOST_NODES: usize = 127;
 /// The most predicates of a plan.
 const MOST_PREDICATES: usize = 4096;
 
-/// The greatest depth of a node, where that of the root is 0.
+/// The greatest depth of a node, the root's being 0.
 const GREATEST_DEPTH: usize = 6;
 
 // The fault of what is over a limit, unless it is not.

@@ -97,7 +97,7 @@ fn planned_node(
     })
 }
 
-// The node that is met, if it is one of the nodes, behind those before it.
+// The node that is met, if it is one of the nodes, after those before it.
 fn add_planned(
     alloc: Global,
     plan: &mut Vec<Node>,

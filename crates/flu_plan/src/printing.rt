@@ -120,7 +120,7 @@ fn printed(alloc: Global, p: &Program, nodes: &[Node]) -> Result<String, AllocEr
 ///
 /// # Errors
 ///
-/// Only where memory is wanting.
+/// Only if memory runs out.
 pub fn print_plan(alloc: Global, p: &Program, plan: &Plan) -> Result<Text, AllocError>
     ensures text { IfOk result (λ text. text ≡ printed p.now plan.now.nodes) }
     ensures read_again { IfOk result (λ text. IsTrue (has_text p.now plan.now.nodes) → plan_in p.now text ≡ Ok plan.now.nodes) }

@@ -42,7 +42,7 @@ fn tokens_in(alloc: Global, text: &str) -> Result<Vec<Token>, PlanFault>
     }
 }
 
-// The nodes of the plan that nodes are, where they are one tree within the limits.
+// The nodes of the plan that nodes are, if they are one tree within the limits.
 #[tactic(auto, unfolding(crate::specs::Reading::tree_in))]
 fn tree_in(alloc: Global, text: &str, nodes: &[DraftNode]) -> Result<Vec<Node>, PlanFault>
     ensures { Gives (λ plan. plan.items) result (tree_in text.now nodes.now) }
@@ -105,7 +105,7 @@ fn plan_with(nodes: Vec<Node>) -> Plan
 /// the first name of a node that was declared before; [`PlanFault::UnknownName`] at the first kind, source or child that is
 /// unknown; [`PlanFault::NotATree`] with the first child that was one before or is the root, and then with the first node that is
 /// not below the root; [`PlanFault::OverLimit`] for 128 nodes, for 4,097 predicates, for depth 7, and for the first key above
-/// 65,535. [`PlanFault::NoMemory`] where memory is wanting.
+/// 65,535. [`PlanFault::NoMemory`] if memory runs out.
 pub fn read_plan(alloc: Global, p: &Program, bytes: &[u8]) -> Result<Plan, PlanFault>
     ensures { Gives (λ plan. plan.nodes) result (plan_in p.now bytes.now) }
 {

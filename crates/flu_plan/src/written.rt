@@ -11,7 +11,7 @@ pub struct WrittenPred {
     pub source: Option<WrittenSpan>,
 }
 
-/// A node: its name, its predicates, and the names of its left and right child, where it has some.
+/// A node: its name, its predicates, and the names of its left and right child, if it has some.
 #[derive(Drop)]
 pub struct WrittenNode {
     pub name: WrittenSpan,

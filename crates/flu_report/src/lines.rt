@@ -1,4 +1,4 @@
-//! The lines of a report, whose tags and texts stand elsewhere.
+//! The lines of a report, whose tags and texts are elsewhere.
 
 ghost use Rattle.std.specs.Prelude.{◌≡◌, IfOk, map};
 ghost use Rattle.std.specs.List.{flat_map};

@@ -20,7 +20,7 @@ pub fn tags_of(alloc: Global, p: &Program, outs: &[Out]) -> Result<BTreeMap<Tag,
     Ok(tags)
 }
 
-// Puts a tag and its text into the map, where it is not there.
+// Puts a tag and its text into the map, if it is not there.
 fn add_tag(
     alloc: Global,
     p: &Program,

@@ -21,12 +21,12 @@ last_key (Range lo hi) = hi
 abbrev pub share_tag : TagRef → TagRef → Bool
 share_tag a b = list_any (λ t. list_any (is_same_tag t) (listed_tags b)) (listed_tags a)
 
--- they do where they are of one kind, and the later of their first keys is not behind the earlier of their last ones
+-- they do if they are of one kind, and the later of their first keys is not after the earlier of their last ones
 abbrev pub TagsMeet : Type 0
 TagsMeet =
     (a b : TagRef)
     → share_tag a b ≡ ((a.kind == b.kind) && nat_le (max (first_key a.keys) (first_key b.keys)) (min (last_key a.keys) (last_key b.keys)))
 
--- no tag is listed twice where no two parts share one
+-- no tag is listed twice if no two parts share one
 abbrev pub TagsDiffer : Type 0
 TagsDiffer = (rs : List TagRef) → are_distinct is_same_tag (flat_map listed_tags rs) ≡ are_distinct share_tag rs

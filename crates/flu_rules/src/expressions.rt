@@ -55,7 +55,7 @@ pub fn is_good_expr(families: &[Family], keyed: bool, has_value: bool, expr: &Ex
     is_within(expr, MOST_LEVELS) && expr_fits(families, keyed, has_value, expr)
 }
 
-// Whether an expression is at most so many levels high.
+// Whether an expression has at most this height.
 fn is_within(expr: &Expr, levels: u32) -> bool
     ensures { result ≡ nat_le (height expr.now) levels }
 {

@@ -1,4 +1,4 @@
-//! The rules of the job language (`docs/LANGUAGE.md`) as a test at run time: from parts to a job, where they keep the rules.
+//! The rules of the job language (`docs/LANGUAGE.md`) as a test at run time: from parts to a job, if they keep the rules.
 #![tactic(auto)]
 
 ghost use Rattle.std.specs.Prelude.{◌≡◌, ◌↔◌, IsTrue, IfSome, IfNone};
@@ -27,14 +27,14 @@ const MOST_PARTS: usize = 64;
 /// The most dependencies of a job.
 const MOST_DEPENDS: usize = 4096;
 
-/// Parts of sources' lists share a tag where they are of one kind and their keys meet; and no tag is listed twice where no two
+/// Parts of sources' lists share a tag if they are of one kind and their keys meet; and no tag is listed twice if no two
 /// parts share one.
 pub fn tags_meet_by_their_ends()
     ensures meet { TagsMeet }
     ensures differ { TagsDiffer }
 {}
 
-/// The job of this version with these parts, where they keep the rules of the language (`docs/LANGUAGE.md`); none where they
+/// The job of this version with these parts, if they keep the rules of the language (`docs/LANGUAGE.md`); none if they
 /// break one.
 ///
 /// The parts may be any, so what the lists hold need not have been looked at before. It takes no memory: ranges of keys

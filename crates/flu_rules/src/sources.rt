@@ -15,7 +15,7 @@ const GREATEST_RATE: u64 = 1_000_000_000;
 /// The greatest slack of a source, in the unit of its times.
 const GREATEST_SLACK: u64 = 60_000;
 
-/// Whether a dependency names declared kinds, and keyed ones where it is at the same key.
+/// Whether a dependency names declared kinds, and keyed ones if it is at the same key.
 pub fn depend_fits(kinds: &[Kind], depend: &Depend) -> bool
     ensures { result ≡ depend_fits kinds.now depend.now }
 {
@@ -65,7 +65,7 @@ fn keys_fit(keyed: bool, keys: &Keys) -> bool
     }
 }
 
-// Whether a text may name a file: 1 to 256 bytes that stand between quotes.
+// Whether a text may name a file: 1 to 256 bytes that may be between quotes.
 fn is_file_text(text: &str) -> bool
     ensures { result ≡ is_file_text text.now }
 {

@@ -17,7 +17,7 @@ use Rattle.flu_model.specs.Sorts.{IsStateOf}
 use Rattle.flu_model.specs.Templates.{family_name}
 use Rattle.flu_parse.specs.Printing.{normal_form}
 
--- the number that a cell holds; 0 where it is neutral
+-- the number that a cell holds; 0 if it is neutral
 abbrev pub number_held : Option Worth → ℤ
 number_held None = pos 0
 number_held (Some (Sum n)) = n

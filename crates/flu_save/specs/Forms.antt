@@ -48,12 +48,12 @@ pub record IsSave (p : Program) (t : ℕ) (s : Contents) (bytes : List ℕ) : Ty
   pub json : IsJsonOf bytes value
   pub checkpoint : IsCheckpoint p t s value
 
--- the value is no checkpoint, though its three members are there and its text is that of the job
+-- the value is no checkpoint, though its three members are there and its text is the job's
 pub record HasWrongEntries (p : Program) (d : Data) : Type 0 where
   pub job : IsOfJob d (normal_form (job_of p))
   pub none : (t : ℕ) (s : Contents) → IsCheckpoint p t s d → ⊥
 
--- the value has the three members, and its text is not that of the job
+-- the value has the three members, and its text is not the job's
 pub record HasOtherJob (p : Program) (d : Data) : Type 0 where
   pub job : List ℕ
   pub parts : IsOfJob d job
@@ -62,7 +62,7 @@ pub record HasOtherJob (p : Program) (d : Data) : Type 0 where
 abbrev pub IsShort : List ℕ → Type 0
 IsShort bytes = length bytes ≤ most_bytes
 
--- WHY BYTES ARE NO CHECKPOINT: in this order, each where no earlier one stands
+-- WHY BYTES ARE NO CHECKPOINT: in this order, each if no earlier one applies
 abbrev pub IsFaultOf : Program → List ℕ → SaveFault → Type 0
 IsFaultOf p bytes (OverLimit count) = (most_bytes < length bytes) × (count ≡ most_bytes + 1)
 IsFaultOf p bytes NotJson = IsShort bytes × ((d : Data) → IsJsonOf bytes d → ⊥)

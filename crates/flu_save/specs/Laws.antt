@@ -20,12 +20,12 @@ abbrev pub LawOfOneMeaning : Type 0
 LawOfOneMeaning =
     (p : Program) (bytes : List ℕ) (t u : ℕ) (s r : Contents) → IsSave p t s bytes → IsSave p u r bytes → (t ≡ u) × (s ≡ r)
 
--- LAW OF SHORT TEXTS: the text of a checkpoint has no more bytes than are read, where that of its job is short
+-- LAW OF SHORT TEXTS: the text of a checkpoint has no more bytes than are read, if the text of its job is short
 abbrev pub LawOfShortTexts : Type 0
 LawOfShortTexts =
     (p : Program) (t : ℕ) (s : Contents) → t < 2 ^ 63 → IsSavable p.families s → HasShortText p → length (save p t s) ≤ most_bytes
 
--- LAW OF SAVES: the text of a checkpoint is one, of its border and its state, where that of its job is short and UTF-8
+-- LAW OF SAVES: the text of a checkpoint is one, of its border and its state, if the text of its job is short and UTF-8
 abbrev pub LawOfSaves : Type 0
 LawOfSaves =
     (p : Program) (t : ℕ) (s : Contents) → t < 2 ^ 63 → IsSavable p.families s → HasShortText p → IsUtf8 (normal_form (job_of p))

@@ -1,4 +1,4 @@
--- Which cells hold values that have 64 bits, where they are maxima or last values.
+-- Which cells hold values that have 64 bits, if they are maxima or last values.
 use Rattle.std.specs.Prelude.{ℕ, ◌<◌, List, length, slice_index}
 use Rattle.std.specs.List.{AllByRecursion}
 use Rattle.flu_model.specs.declared.events.Cell.{Cell}

@@ -25,7 +25,7 @@ struct Entry<'v> {
     value: &'v str,
 }
 
-// The cell of an entry and what it holds, where the entry is that of a cell of the job.
+// The cell of an entry and what it holds, if the entry is of a cell of the job.
 pub(crate) fn cell_in(p: &Program, entry: &Value) -> Option<(Cell, Worth)>
     ensures fits { IfSome result (λ r. MayHold p.now.families r.0 (Some r.1) × HasWordWidth (Some r.1)) }
     ensures found { (s : Contents) (c : Cell) (w : Worth) → IsSavable p.now.families s → s c ≡ Some w
@@ -88,7 +88,7 @@ fn key_in(family: &Family, key: u64) -> Option<u32>
     if key < limit { Some(key as u32) } else { None }
 }
 
-// What a cell of a sort holds by its text, where it is not neutral.
+// What a cell of a sort holds by its text, if it is not neutral.
 fn worth_in(sort: Sort, text: &str) -> Option<Worth>
     ensures sort { IfSome result (λ w. IsWorthOf sort w × HasWordWidth (Some w)) }
     ensures found { (w : Worth) → IsWorthOf sort w → HasWordWidth (Some w) → text.now ≡ signed_decimal (number_held (Some w))

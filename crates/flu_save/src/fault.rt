@@ -6,7 +6,7 @@ ghost use Rattle.flu_save.specs.declared.fault.SaveFault.TheVariants.{NoMemory};
 use std::alloc::{AllocError, AllocFailed};
 use thiserror::Error;
 
-/// Why bytes are not read as a checkpoint of a job: the first of these, in this order, that stands.
+/// Why bytes are not read as a checkpoint of a job: the first of these, in this order, that applies.
 #[derive(Clone, Copy, Debug, PartialEq, Eq, Error)]
 pub enum SaveFault {
     /// There are more than 536,870,912 bytes; the count is one more than that.
@@ -15,14 +15,14 @@ pub enum SaveFault {
     /// The bytes are not UTF-8 or no JSON text that `serde_json` takes.
     #[error("not json")]
     NotJson,
-    /// The value is not an object with just a border, a list and a text; or, where the text is that of the job, the list is not
-    /// that of the cells of a state of the job's sorts.
+    /// The value is not an object with just a border, a list and a text; or, if the text is the job's, the list is not
+    /// the list of cells of any state of the job's sorts.
     #[error("wrong form")]
     WrongForm,
     /// The text is not the normal form of the job.
     #[error("other job")]
     OtherJob,
-    /// Memory is wanting.
+    /// Out of memory.
     #[error("out of memory")]
     NoMemory,
 }

@@ -18,7 +18,7 @@ pub fn save_is_short()
 {}
 
 /// The text of a checkpoint is a checkpoint of its border, at most 2^63 - 1, and of its state, which has values of the job's sorts that
-/// fit them: so `read_save` of it fails only where memory is wanting. For this the normal form of the job has to be UTF-8 of at most
+/// fit them: so `read_save` of it fails only if memory runs out. For this the normal form of the job has to be UTF-8 of at most
 /// 26,214,400 bytes. And it is a checkpoint of no other border or state.
 pub fn save_is_a_checkpoint()
     ensures checkpoint { LawOfSaves }

@@ -88,7 +88,7 @@ fn has_three_members(value: &Value) -> bool
     }
 }
 
-// The members of a value, where it is an object with just the three of a checkpoint.
+// The members of a value, if it is an object with just the three of a checkpoint.
 fn parts_of(value: &Value) -> Option<Parts<'_>>
     ensures some { IfSome result (λ r. HasParts (view value.now) r.border (items_view r.entries.now) r.job.now) }
     ensures none { IfNone result (HasForm (view value.now) → ⊥) }
@@ -137,7 +137,7 @@ fn state_of(alloc: Global, p: &Program, entries: &[Value]) -> Result<Option<Stat
     Ok(Some(state))
 }
 
-// Whether a value is that of the checkpoint of a border and a state: it is where both have the same text.
+// Whether a value is the checkpoint of a border and a state: it is if both have the same text.
 fn is_value_of(
     alloc: Global,
     value: &Value,
@@ -178,11 +178,11 @@ fn saved_in(
 }
 
 /// What a checkpoint of a job holds, from its text, with blanks or without: a border from 0 to 2^63 - 1, and a state of the
-/// job's sorts. What `save_text` wrote of a border and such a state is read as them, where it has at most 536,870,912 bytes.
+/// job's sorts. What `save_text` wrote of a border and such a state is read as them, if it has at most 536,870,912 bytes.
 ///
 /// # Errors
 ///
-/// The first that stands of those of `SaveFault`, in their order; and `NoMemory` where memory is wanting.
+/// The first of those of `SaveFault` that applies, in their order; and `NoMemory` if memory runs out.
 pub fn read_save(alloc: Global, p: &Program, bytes: &[u8]) -> Result<Saved, SaveFault>
     ensures saved { IfOk result (λ saved. IsSave p.now saved.border (held saved.state) bytes.now) }
     ensures fault { IfErr result (IsFaultOf p.now bytes.now) }

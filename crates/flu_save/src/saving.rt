@@ -15,7 +15,7 @@ use flu_parse::print_job;
 use serde_json::{Value, json};
 use std::alloc::{AllocError, Global};
 
-// The number that a cell holds; 0 where it is neutral.
+// The number that a cell holds; 0 if it is neutral.
 fn number_held(worth: Option<Worth>) -> i128
     ensures value { result ≡ number_held worth }
     ensures width { HasWordWidth worth }
@@ -36,7 +36,7 @@ fn entry(alloc: Global, family: &str, key: u32, value: i128) -> Result<Value, Al
     json!(in alloc; [family, key, text])
 }
 
-// The entries of a family's cells, by rising key, behind those that are there.
+// The entries of a family's cells, by rising key, after those that are there.
 fn add_family(
     entries: &mut Vec<Value>,
     alloc: Global,
@@ -93,7 +93,7 @@ fn checkpoint(alloc: Global, p: &Program, border: u64, s: &State) -> Result<Valu
 ///
 /// # Errors
 ///
-/// Only where memory is wanting.
+/// Only if memory runs out.
 pub fn save_text(alloc: Global, p: &Program, border: u64, s: &State) -> Result<Vec<u8>, AllocError>
     requires { border < 2 ^ 63 }
     ensures text { IfOk result (λ v. v.items ≡ save p.now border (held s.now)) }

@@ -32,7 +32,7 @@ abbrev pub is_run : ℕ → ℕ → List Event → Bool
 is_run i low [] = true
 is_run i low (x ∷ xs) = (x.itag.0 == i) && nat_le low x.time && is_run i (x.time + 1) xs
 
--- the head stands in its itag's list, and what is behind it rises
+-- the head is in its itag's list, and what comes after it rises
 abbrev pub is_good : List (List Item) → Reverse Head → Bool
 is_good lists r =
     nat_lt r.0.itag (length lists) && nat_le r.0.place (length (items_at lists r.0.itag)) && is_run r.0.itag 0 (rest_of lists r.0)

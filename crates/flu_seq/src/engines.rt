@@ -16,7 +16,7 @@ use std::alloc::{AllocError, Global};
 
 /// Runs the events of streams from an opening state, for one job that it keeps (`docs/MODEL.md`).
 ///
-/// It runs by a runtime `R`. What the runtime may do stands at the impl: an engine that folds runs by any and never waits,
+/// It runs by a runtime `R`. What the runtime may do is stated at the impl: an engine that folds runs by any and never waits,
 /// one of threads by one that may wait.
 pub trait Engine<R> {
     ghost use Rattle.flu_model.specs.declared.jobs.Program.{Program};

@@ -12,7 +12,7 @@ use std::alloc::{AllocError, Global};
 use std::cmp::Reverse;
 use std::collections::BinaryHeap;
 
-/// The next event of an itag, and the place behind it among the itag's items.
+/// The next event of an itag, and the place after it among the itag's items.
 #[derive(Clone, Copy, PartialEq, Eq, PartialOrd, Ord)]
 struct Head {
     time: u64,

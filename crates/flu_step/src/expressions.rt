@@ -131,7 +131,7 @@ fn operand(e: &Expr, scope: &Scope<'_>) -> i64
     }
 }
 
-// The same where it is likely no number: the event's value costs a short call, and all others are evaluated.
+// The same if it is likely no number: the event's value costs a short call, and all others are evaluated.
 #[cycle(expression)]
 #[inline(never)]
 fn other_operand(e: &Expr, scope: &Scope<'_>) -> i64
@@ -184,7 +184,7 @@ fn clamped_sum(n: i128) -> i64
     i64::try_from(n).unwrap_or(if n < 0 { i64::MIN } else { i64::MAX })
 }
 
-// The result of an operator. Most are sums, differences and products, so these are told from the others first.
+// The result of an operator. Most are sums, differences and products, so these are tested first.
 #[inline(always)]
 fn result_of(op: Op, a: i64, b: i64) -> i64
     ensures { result ≡ meaning.result_of op a b }

@@ -1,4 +1,4 @@
-//! What an event does to a state: the values of expressions, the texts that are put out, and the update.
+//! What an event does to a state: the values of expressions, the texts that are emitted, and the update.
 #![tactic(auto)]
 
 pub mod expressions;

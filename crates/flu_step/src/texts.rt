@@ -1,4 +1,4 @@
-//! The texts that actions put out.
+//! The texts that actions emit.
 
 ghost use Rattle.std.specs.Prelude.{◌≡◌, ◌++◌, OnOk, IfOk, slice_get};
 ghost use Rattle.std.specs.Fmt.{decimal, signed_decimal};

@@ -16,7 +16,7 @@ abbrev pub above_of : Option Share → List Itag
 above_of None = []
 above_of (Some share) = share.above.items
 
--- it is that of node w
+-- it is node w's
 pub record IsShareOf (p : Program) (nodes : List Node) (w : ℕ) (share : Share) : Type 0 where
   pub own : share.own.items ≡ itags_where p (owns p nodes w)
   pub above : share.above.items ≡ itags_where p (ancestors_own p nodes w)

@@ -17,7 +17,7 @@ pub fn rows(alloc: Global, p: &Program) -> Result<Vec<Vec<bool>>, AllocError>
     rows_among(alloc, p, tags.as_slice())
 }
 
-// The tags of the itags, and last that of no itag.
+// The tags of the itags, and last the tag of no itag.
 fn tags(alloc: Global, p: &Program) -> Result<Vec<Tag>, AllocError>
     ensures { IfOk result (λ tags. tags.items ≡ tags_with_none p.now) }
 {
@@ -50,7 +50,7 @@ fn row(alloc: Global, p: &Program, a: Tag, tags: &[Tag]) -> Result<Vec<bool>, Al
     Ok(row)
 }
 
-/// What stands in rows for two itags, of so many; every number that is no itag's has the last place.
+/// The entry of rows for two itags, of this many; every number that is not an itag's has the last place.
 pub fn place_of(rows: &[Vec<bool>], itags: u32, i: Itag, j: Itag) -> bool
     ensures { result ≡ place_in (map (λ row. row.items) rows.now) itags i j }
 {

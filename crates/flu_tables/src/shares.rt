@@ -70,7 +70,7 @@ fn itags_above(alloc: Global, p: &Program, v: &Valid, w: u32) -> Result<Vec<Itag
     Ok(itags)
 }
 
-// Whether a node owns an itag. The table of owners tells it without a look at the predicates.
+// Whether a node owns an itag, by the table of owners and without a look at the predicates.
 fn owns(p: &Program, v: &Valid, w: u32, i: Itag) -> bool
     requires valid { IsValidFor p.now v.now }
     requires in_range { i.0 < count_of_itags p.now }
@@ -90,7 +90,7 @@ fn ancestors_own(p: &Program, v: &Valid, w: u32, i: Itag) -> bool
     owner != w && nodes::is_within(v.plan(), owner, w)
 }
 
-/// The itags that are listed for a node; none where there is no such node.
+/// The itags that are listed for a node; none if there is no such node.
 pub fn own_of(shares: &[Share], w: u32) -> &[Itag]
     ensures { result.now ≡ listing.own_of (slice_get shares.now w) }
 {
@@ -100,7 +100,7 @@ pub fn own_of(shares: &[Share], w: u32) -> &[Itag]
     }
 }
 
-/// The itags that are listed for a node's proper ancestors; none where there is no such node.
+/// The itags that are listed for a node's proper ancestors; none if there is no such node.
 pub fn above_of(shares: &[Share], w: u32) -> &[Itag]
     ensures { result.now ≡ listing.above_of (slice_get shares.now w) }
 {

@@ -39,7 +39,7 @@ impl Tables {
     ///
     /// # Errors
     ///
-    /// Only where memory is wanting.
+    /// Only if memory runs out.
     pub fn new(alloc: Global, c: &Checked, v: &Valid) -> Result<Tables, AllocError>
         requires { IsValidFor (program_of c.now) v.now }
         ensures { IfOk result (AreTablesOf (program_of c.now) (plan_of v.now).nodes) }
@@ -57,14 +57,14 @@ impl Tables {
         })
     }
 
-    /// The itags that a node owns, by rising number; none where there is no such node.
+    /// The itags that a node owns, by rising number; none if there is no such node.
     pub fn own(&self, w: u32) -> &[Itag]
         ensures { result.now ≡ itags_where (program_in self.now) (owns (program_in self.now) (nodes_in self.now) w) }
     {
         own_of(self.shares.as_slice(), w)
     }
 
-    /// The itags that the proper ancestors of a node own, by rising number; none where there is no such node.
+    /// The itags that the proper ancestors of a node own, by rising number; none if there is no such node.
     pub fn above(&self, w: u32) -> &[Itag]
         ensures { result.now ≡ itags_where (program_in self.now) (ancestors_own (program_in self.now) (nodes_in self.now) w) }
     {

@@ -1,4 +1,4 @@
--- The lexical grammar, as relations: which bytes spell which word, where a token stands in a text, and what stands between tokens.
+-- The lexical grammar, as relations: which bytes spell which word, where a token is in a text, and what is between tokens.
 use Rattle.std.specs.Prelude.{◌≡◌, ◌≢◌, ◌⊎◌, ℕ, ◌+◌, ◌-◌, ◌<◌, ◌≤◌, ◌^◌, Bool, ◌||◌, ◌==◌, IsTrue, ℤ, pos, List, [], ◌∷◌, ◌++◌, length, slice_index}
 use Rattle.std.specs.Prelude.{slice_range}
 use Rattle.std.specs.Char.{is_ascii_digit}
@@ -76,14 +76,14 @@ Spells (w.Mark mark) s = s ≡ mark_spelling mark
 abbrev pub bytes_of : List ℕ → Token → List ℕ
 bytes_of text t = slice_range text t.from t.to
 
--- The token stands in the text: its bytes spell its word, and no lexeme that begins where it begins is longer. So the longest
+-- The token is in the text: its bytes spell its word, and no lexeme that begins where it begins is longer. So the longest
 -- run of a token's characters is taken first, and its limit is looked at then.
 pub record IsToken (text : List ℕ) (t : Token) : Type 0 where
   pub within : t.to ≤ length text
   pub spelled : Spells t.word (bytes_of text t)
   pub longest : (to : ℕ) → to ≤ length text → IsLexeme (slice_range text t.from to) → to ≤ t.to
 
--- Where comments may begin at `from`, the byte at this place is one of a comment: a `#` stands there or before, and no line
+-- Where comments may begin at `from`, the byte at this place is one of a comment: there is a `#` there or before, and no line
 -- feed from it up to there.
 pub record IsInComment (text : List ℕ) (from place : ℕ) : Type 0 where
   pub start : ℕ
@@ -95,14 +95,14 @@ pub record IsInComment (text : List ℕ) (from place : ℕ) : Type 0 where
 abbrev pub IsBlankOrComment : List ℕ → ℕ → ℕ → Type 0
 IsBlankOrComment text from place = IsTrue (is_blank (slice_index text place)) ⊎ IsInComment text from place
 
--- from one place to another stand blanks and comments alone, and there something else begins or the text ends
+-- from one place to another there are only blanks and comments, and there something else begins or the text ends
 pub record IsGap (text : List ℕ) (from to : ℕ) : Type 0 where
   pub rises : from ≤ to
   pub within : to ≤ length text
   pub blank : (place : ℕ) → from ≤ place → place < to → IsBlankOrComment text from place
   pub ends : to < length text → IsBlankOrComment text from to → ⊥
 
--- from one place to another stand these tokens, with blanks and comments alone before each and behind the last
+-- from one place to another are these tokens, with only blanks and comments before each and after the last
 abbrev pub LeadsTo : List ℕ → ℕ → List Token → ℕ → Type 0
 LeadsTo text from [] to = IsGap text from to
 LeadsTo text from (t ∷ ts) to = IsGap text from t.from × IsToken text t × LeadsTo text t.to ts to
@@ -125,7 +125,7 @@ pub record IsSpan (text : List ℕ) (t : Token) : Type 0 where
   pub begins : IsCharBoundary text t.from
   pub ends : IsCharBoundary text t.to
 
--- between the quotes of a text stand at most 256 bytes that may stand in one, and both ends are between characters
+-- between the quotes of a text are at most 256 bytes that may be in one, and both ends are between characters
 pub record IsInside (text : List ℕ) (t : Token) : Type 0 where
   pub room : t.from + 2 ≤ t.to
   pub short : t.to ≤ t.from + 258
@@ -136,6 +136,6 @@ pub record IsInside (text : List ℕ) (t : Token) : Type 0 where
 abbrev pub IsInsideOfText : List ℕ → Token → Type 0
 IsInsideOfText text t = t.word ≡ w.Text → IsInside text t
 
--- each token begins where the one before it ends, or behind
+-- each token begins where the one before it ends, or later
 abbrev pub Rise : List Token → Type 0
 Rise ts = AllAdjacentBelow (λ a b. a.to ≤ b.from) ts (length ts)

@@ -22,15 +22,15 @@ BadPlaceIsUnique = (text : List ℕ) (a b : ℕ) → IsFirstBadPlace text a → 
 abbrev pub TokensOrBadPlace : Type 0
 TokensOrBadPlace = (text : List ℕ) (ts : List Token) (place : ℕ) → AreTokens text ts → IsFirstBadPlace text place → ⊥
 
--- the reading is the tokens exactly where the text is those tokens
+-- the reading is the tokens exactly if the text is those tokens
 abbrev pub ReadingIsTokens : Type 0
 ReadingIsTokens = (text : List ℕ) (ts : List Token) → (reading text ≡ Ok ts) ↔ AreTokens text ts
 
--- and a place exactly where that is the first bad one
+-- and a place exactly if that is the first bad one
 abbrev pub ReadingIsBadPlace : Type 0
 ReadingIsBadPlace = (text : List ℕ) (place : ℕ) → (reading text ≡ Err place) ↔ IsFirstBadPlace text place
 
--- each token of a text stands in it
+-- each token of a text is in it
 abbrev pub EachIsToken : Type 0
 EachIsToken = (text : List ℕ) (ts : List Token) → AreTokens text ts → All (IsToken text) ts
 
@@ -38,7 +38,7 @@ EachIsToken = (text : List ℕ) (ts : List Token) → AreTokens text ts → All 
 abbrev pub EachIsSpan : Type 0
 EachIsSpan = (text : List ℕ) (ts : List Token) → IsUtf8 text → AreTokens text ts → All (IsSpan text) ts
 
--- and so is what stands between the quotes of its texts
+-- and so is what is between the quotes of its texts
 abbrev pub EachIsInside : Type 0
 EachIsInside = (text : List ℕ) (ts : List Token) → IsUtf8 text → AreTokens text ts → All (IsInsideOfText text) ts
 

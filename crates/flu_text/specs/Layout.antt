@@ -22,7 +22,7 @@ makes_longer m.More b = b == 61
 makes_longer m.Minus b = b == 62
 makes_longer _ b = false
 
--- what stands behind does not make the word longer
+-- what comes after does not make the word longer
 abbrev pub Ends : Word → List ℕ → Type 0
 Ends w.Name rest = NotFirst is_name_byte rest
 Ends (w.Reserved r) rest = NotFirst is_name_byte rest
@@ -30,7 +30,7 @@ Ends (w.Number n) rest = NotFirst is_ascii_digit rest
 Ends w.Text rest = Unit {0}
 Ends (w.Mark mark) rest = NotFirst (makes_longer mark) rest
 
--- a word, how it is spelled, and the blanks behind it
+-- a word, how it is spelled, and the blanks after it
 pub record Piece : Type 0 where
   pub word : Word
   pub spelling : List ℕ

@@ -18,7 +18,7 @@ name_at bytes =
     let n = prefix_len is_name_byte bytes in
     if nat_lt 32 n then None else Some (unwrap_or (option_map w.Reserved (reserved_of (take n bytes))) w.Name, n)
 
--- the number that the digits write, where it is small enough
+-- the number that the digits write, if it is small enough
 unfoldable pub number_of : List ℕ → Option ℕ
 number_of digits = if nat_lt (digits_value 10 digits) (2 ^ 63) then Some (digits_value 10 digits) else None
 
@@ -27,7 +27,7 @@ number_at bytes =
     let n = prefix_len is_ascii_digit bytes in
     option_map (λ v. (w.Number (pos v), n)) (number_of (take n bytes))
 
--- a text behind its first quote
+-- a text after its first quote
 unfoldable pub text_at : List ℕ → Option (Word × ℕ)
 text_at bytes =
     let n = prefix_len is_text_byte bytes in

@@ -8,7 +8,7 @@ use Rattle.flu_text.specs.declared.reading.TextFault.TheVariants as f
 use Rattle.flu_text.specs.Grammar.{number_sign, line_feed, is_blank}
 use Rattle.flu_text.specs.Lexeme.{word_at}
 
--- how many bytes of blanks and comments stand at the front, where in_comment says that a comment is open
+-- how many bytes of blanks and comments there are at the front, where in_comment says that a comment is open
 unfoldable pub gap_len : Bool → List ℕ → ℕ
 gap_len in_comment [] = 0
 gap_len true (b ∷ bytes) = gap_len (not (b == line_feed)) bytes + 1
@@ -17,7 +17,7 @@ gap_len false (b ∷ bytes) =
     else if is_blank b then gap_len false bytes + 1
     else 0
 
--- the place behind the blanks and comments that stand at a place
+-- the place after the blanks and comments at a place
 abbrev pub next_place : List ℕ → ℕ → ℕ
 next_place text place = place + gap_len false (drop place text)
 
@@ -49,7 +49,7 @@ reading_from (suc most) text place =
 unfoldable pub reading : List ℕ → Reading
 reading text = reading_from (length text) text 0
 
--- the answer tells the reading, unless memory is wanting
+-- the answer is the reading, unless memory runs out
 abbrev pub Gives : Reading → Result (Vec Token Global) TextFault → Type 0
 Gives r (Ok found) = r ≡ Ok found.items
 Gives r (Err (f.BadToken place)) = r ≡ Err place

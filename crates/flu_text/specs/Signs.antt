@@ -1,4 +1,4 @@
--- Signs, by which grammars over tokens say what stands where, and what is written of a token.
+-- Signs, by which grammars over tokens say what is where, and what is written of a token.
 use Rattle.std.specs.Prelude.{◌≡◌, ℕ, ℤ, List, [], ◌∷◌, ◌++◌, Contains}
 use Rattle.std.specs.List.{flat_map}
 use Rattle.flu_text.specs.declared.words.Word.{Word}

@@ -16,7 +16,7 @@ pub fn reading_is_exact()
     ensures bad_place { ReadingIsBadPlace }
 {}
 
-/// Each token of a text stands in it, and in a text that is UTF-8 it begins and ends between characters, as does what stands
+/// Each token of a text is in it, and in a text that is UTF-8 it begins and ends between characters, as does what is
 /// between the quotes of a text.
 pub fn tokens_stand()
     ensures each { EachIsToken }

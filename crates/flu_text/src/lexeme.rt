@@ -100,7 +100,7 @@ fn text_len(bytes: &[u8]) -> usize
     bytes.iter().take_while(|byte| is_text_byte(**byte)).count()
 }
 
-/// The text whose first quote stands before these bytes.
+/// The text whose first quote is before these bytes.
 #[tactic(auto, unfolding(crate::specs::Lexeme::text_at))]
 fn text_at(bytes: &[u8]) -> Option<(Word, usize)>
     ensures { result ≡ text_at bytes.now }

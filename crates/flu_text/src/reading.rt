@@ -15,12 +15,12 @@ pub enum TextFault {
     /// No token begins at this byte, counted from 0, and no blank or comment either.
     #[error("no token begins here")]
     BadToken { at: usize },
-    /// Memory is wanting.
+    /// Out of memory.
     #[error("out of memory")]
     NoMemory,
 }
 
-/// How many bytes of blanks and comments stand at the front.
+/// How many bytes of blanks and comments there are at the front.
 fn gap_len(bytes: &[u8]) -> usize
     ensures value { result ≡ gap_len false bytes.now }
     ensures within { result ≤ length bytes.now }
@@ -53,7 +53,7 @@ fn token_at(text: &[u8], from: usize) -> Option<Token>
     })
 }
 
-/// The tokens of a text, in order, each with the bytes that it takes. Between them stand blanks alone, which are space, tab,
+/// The tokens of a text, in order, each with the bytes that it takes. Between them are only blanks, which are space, tab,
 /// carriage return and line feed, and comments, from `#` to before the next line feed or the end. At each place the longest run
 /// of a token's characters is taken first, and its limit is looked at then.
 ///
@@ -61,7 +61,7 @@ fn token_at(text: &[u8], from: usize) -> Option<Token>
 ///
 /// [`TextFault::BadToken`] at the first place where no token begins: at a name of more than 32 bytes, a number above
 /// 9223372036854775807, a text of more than 256 bytes or without its second quote, or any other character.
-/// [`TextFault::NoMemory`] where memory is wanting.
+/// [`TextFault::NoMemory`] if memory runs out.
 pub fn tokens(alloc: Global, text: &str) -> Result<Vec<Token>, TextFault>
     // The whole text is these tokens, with blanks and comments alone between them.
     ensures tokens { IfOk result (λ found. AreTokens text.now found.items) }

@@ -20,7 +20,7 @@ use owners::sole_owners;
 /// Whether a plan is valid for a job: each itag has exactly one owner, and the itags of nodes that are not related are
 /// independent.
 ///
-/// The fault is the first itag, by number, that has no owner or more than one; where there is none it is the first clash, by
+/// The fault is the first itag, by number, that has no owner or more than one; if there is none it is the first clash, by
 /// its first node, its second node, its first itag and its second itag. In both cases the same plan comes back. It takes no
 /// memory.
 pub fn validate(c: &Checked, plan: Plan) -> Result<Valid, ValidFault>
@@ -36,7 +36,7 @@ pub fn validate(c: &Checked, plan: Plan) -> Result<Valid, ValidFault>
     }
 }
 
-// The first fault of a plan; none where it is valid.
+// The first fault of a plan; none if it is valid.
 fn first_fault(p: &Program, plan: &Plan) -> Option<Invalid>
     ensures first { IfSome result (IsFirstPlanFault p.now plan.now.nodes) }
     ensures none { IfNone result (IsValid p.now plan.now.nodes) }
