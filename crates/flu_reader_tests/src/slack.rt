@@ -66,12 +66,17 @@ fn late_rows_are_sorted(rt: HostRuntime) -> Result<(), Fail> {
 /// A job whose report has a line for each row of its source.
 const SHOWN: &str = "tag inc int on inc: emit \"{value}\" source a \"a.csv\" slack 60: inc";
 
-/// 300 rows whose times fall within each block of so many, and rise from block to block, and then another row.
-fn falling(alloc: Global, block: u32, then: &str) -> Result<String, AllocError> {
+/// Rows whose times fall within each of some blocks of so many, and rise from block to block, and then others.
+fn falling(alloc: Global, blocks: u32, size: u32, then: &str) -> Result<String, AllocError> {
     let mut rows = String::new(alloc);
-    for row in 0..300_u32 {
-        let time = row - row % block + (block - 1 - row % block);
-        rows.push_str(format!(in alloc; "{time},inc,{row}\n", row = time % 7)?.as_str())?;
+    let mut end: u32 = 0;
+    for _ in 0..blocks {
+        end = end.saturating_add(size);
+        for back in 0..size {
+            let time = end.saturating_sub(1).saturating_sub(back);
+            let row = format!(in alloc; "{time},inc,{value}\n", value = time % 7)?;
+            rows.push_str(row.as_str())?;
+        }
     }
     rows.push_str(then)?;
     rows.push_str("end\n")?;
@@ -84,15 +89,15 @@ fn falling(alloc: Global, block: u32, then: &str) -> Result<String, AllocError> 
 fn falling_rows_are_sorted(rt: HostRuntime) -> Result<(), Fail> {
     let alloc = rt.alloc();
     let p = read_job(alloc, SHOWN.as_bytes())?;
-    let ordered = outcome(alloc, &p, falling(alloc, 1, "")?.as_str())?;
+    let ordered = outcome(alloc, &p, falling(alloc, 300, 1, "")?.as_str())?;
     assert!(rt; ordered.starts_with("0,inc,0\n1,inc,1\n"), "{ordered}");
-    for block in [2, 3, 50, 60] {
-        let got = outcome(alloc, &p, falling(alloc, block, "")?.as_str())?;
-        assert_eq!(rt; got.as_str(), ordered.as_str(), "{block}");
+    for (blocks, size) in [(150, 2), (100, 3), (6, 50), (5, 60)] {
+        let got = outcome(alloc, &p, falling(alloc, blocks, size, "")?.as_str())?;
+        assert_eq!(rt; got.as_str(), ordered.as_str(), "{size}");
     }
-    let low = outcome(alloc, &p, falling(alloc, 100, "")?.as_str())?;
+    let low = outcome(alloc, &p, falling(alloc, 3, 100, "")?.as_str())?;
     assert_eq!(rt; low.as_str(), "0 61 Disordered { last: 99, got: 39 }");
-    let again = outcome(alloc, &p, falling(alloc, 60, "270,inc,1\n")?.as_str())?;
+    let again = outcome(alloc, &p, falling(alloc, 5, 60, "270,inc,1\n")?.as_str())?;
     assert_eq!(rt; again.as_str(), "0 301 Disordered { last: 299, got: 270 }");
     Ok(())
 }
