@@ -116,7 +116,7 @@ pub record FaultsFirst (words : List (List ℕ)) (left : Option Contents) (befor
   pub same_out : status ≢ 8 → now.out ≡ before.out
   pub same_puts : status ≢ 12 → SameCounts before.puts now.puts
 
--- a read fault hides nothing: status 7 comes only where nothing that was taken settles what the command comes to
+-- a read fault hides nothing: status 7 comes only where no fault was met in what was taken
 pub record HidesNothing (words : List (List ℕ)) (old new : Option Contents) (before now : Faults) (status : ℕ) : Type 0 where
   pub failed : status ≡ 7 → (command : Command) × (command_in words ≡ Ok command) × HasReadFault command old new before.takes now.takes
 

@@ -1,4 +1,4 @@
--- What is true where a read fault ends a command: nothing that was taken settles what the command comes to.
+-- What is true where a read fault ends a command: no fault was met in what was taken.
 use Rattle.std.specs.Prelude.{◌≡◌, ℕ, List, ◌∷◌, ◌++◌, Option}
 use Rattle.flu_outside.specs.Outside.{Contents, WhereTold, Rose}
 use Rattle.flu_outside.specs.Taking.{TookAtMost}
@@ -33,7 +33,8 @@ pub record HidesNoDefect (command : Command) (name : List ℕ) (old new : Option
   pub told : WhereTold old new (λ was is. HasJob (job_wanted command) was p
       × StopsWithout p.kinds earlier source read (ahead place is) (emptied_each (texts_named command) was))
 
--- the command can start, and the round in which the source with this file failed is unfinished: nothing that was read settles it
+-- the command can start, and the round in which the source with this file failed is unfinished: the rows that were read of it have no
+-- defect, and are not enough
 pub record HidesNoRow (command : Command) (name : List ℕ) (old new : Option Contents) : Type 0 where
   pub p : Program
   pub o : Opening
@@ -42,9 +43,8 @@ pub record HidesNoRow (command : Command) (name : List ℕ) (old new : Option Co
   pub told : WhereTold old new (λ was is. HasJob (job_wanted command) was p × StartsFrom command was p o
       × IsUnfinished p o round (lines_behind (texts_named command) was p) is)
 
--- A NAME THAT IS READ FAILED, AND NOTHING THAT WAS TAKEN SETTLES A REFUSAL: what is read before it has no fault; of a job's text, of a
--- plan's and of a checkpoint no more bytes were taken than such a text may have; and no row that was read of the sources has a defect,
--- nor do the rows of a round meet its end
+-- A NAME THAT IS READ FAILED, AND NO FAULT WAS MET: what is read before it has none; a job's text, a plan's or a checkpoint, which is
+-- judged once it is whole, was not too long yet; and no row that was read of the sources has a defect
 pub data HasReadFault (command : Command) (old new : Option Contents) (before now : List ℕ → ℕ) : Type 0 where
   InJob : (name : List ℕ) → job_wanted command ≡ Named name → Rose (before name) (now name)
       → WhereTold old new (TookAtMost name 1048576) → HasReadFault command old new before now

@@ -1,4 +1,4 @@
--- A round that a read fault ends: what was read of the sources, which settles nothing.
+-- A round that a read fault ends: what was read of the sources, in which no defect was met.
 use Rattle.std.specs.Prelude.{◌≡◌, ◌<◌, ◌≤◌, ℕ, false, List, ◌++◌, length, take, slice_get, Option, Some, None}
 use Rattle.flu_lemmas.specs.Elements.{AtEach}
 use Rattle.flu_outside.specs.Outside.{Contents}

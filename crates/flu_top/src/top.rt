@@ -84,7 +84,7 @@ pub fn flumina<F: Files, K: Sink, E: Sink, G: Gate, R: Threads + Wait + Sync>(
         (faults (F.faults files.old) (F.put_faults files.old) (K.faults out.old))
         (faults (F.faults files.new) (F.put_faults files.new) (K.faults out.new)) result }
 
-    // A read fault hides nothing: nothing that was taken settles what the command comes to.
+    // A read fault hides nothing: no fault was met in what was taken. A text is judged once it is whole, and was not too long yet.
     ensures hides { HidesNothing (map string_bytes words.now) (F.left files.old) (F.left files.new)
         (faults (F.faults files.old) (F.put_faults files.old) (K.faults out.old))
         (faults (F.faults files.new) (F.put_faults files.new) (K.faults out.new)) result }
