@@ -1,7 +1,8 @@
 //! What the steps of a run cost, in nanoseconds.
 //!
-//! They are measured by `bench/measure_prices.sh`, on a machine of four processors, which are threads of two cores, beside other work:
-//! each is the least of several runs, rounded. Only their ratios count, so another machine's would do as well.
+//! `bench/measure_prices.sh` measures them, and `docs/PERFORMANCE.md`, "Rounds without a plan", has what it found on four processors
+//! beside other work. Those of the tree are set above what was measured with few workers, so that a round is folded where it is close:
+//! what a worker waits grows where there are more workers than processors, or other programs. Only their ratios count.
 
 /// An event in the fold, without its actions: it is merged with the others, and its kind is looked up.
 pub(crate) const EVENT: u64 = 70;
