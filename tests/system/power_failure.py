@@ -6,10 +6,11 @@ the whole report.
 
 The system calls are recorded, and their order is checked: each new checkpoint is flushed before it gets its name, and so is standard
 output, if it is a plain file, after all that was written to it; the folder is flushed after that. Then each of the three flushes fails
-once, which is status 12."""
+once, which is status 12. With `--unflushed` nothing is flushed, and all other calls come in the same order."""
 
 import errno
 import os
+import re
 
 from system import Folder, Watch, need, program
 
@@ -17,9 +18,14 @@ program()
 watch = Watch()
 
 
-def saved_to_a_file(folder, **fault):
+def saved_to_a_file(folder, *options, **fault):
     with open(folder.path("report"), "wb") as out:
-        return folder.call("run", "job", "--save", "save", out=out, env=watch.env(**fault))[0]
+        return folder.call("run", "job", "--save", "save", *options, out=out, env=watch.env(**fault))[0]
+
+
+def but_flushes():
+    """The calls of the last run in order, without its flushes, and without its number in the name of a file beside."""
+    return [[re.sub(r"flumina-new-\d+", "flumina-new", word) for word in call] for call in watch.calls() if call[0] != "fsync"]
 
 
 folder = Folder(rows=9_000, every=100)
@@ -44,6 +50,17 @@ for call, first, second in watch.calls():
         puts += 1
 need(puts == 3, "a checkpoint after each of three rounds")
 need(not renamed, "the folder is flushed after the last checkpoint")
+
+flushed, saved = but_flushes(), folder.read("save")
+for options in (["--unflushed"], ["--unflushed", "--resume", "old"]):
+    folder.write("old", saved)
+    need(saved_to_a_file(folder, *options) == 0, f"status 0 with {options}")
+    need(all(call != "fsync" for call, _, _ in watch.calls()), f"nothing is flushed with {options}")
+    need(folder.read("save") == saved, f"the checkpoint is the same with {options}")
+    if len(options) == 1:
+        need(folder.read("report") == whole, "the report is the same with `--unflushed`")
+        need(but_flushes() == flushed, "with `--unflushed` all calls but flushes are made in the same order")
+need(folder.call("run", "job", "--save", "/dev/full", "--unflushed")[0] == 12, "status 12 for a full device with `--unflushed`")
 
 folder = Folder()
 whole = folder.call("fold", "job")[1]

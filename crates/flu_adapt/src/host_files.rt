@@ -32,6 +32,8 @@ pub struct ProgramCall {
     pub process: u32,
     /// The name of a file that is taken from and may be put over by another name too, as the checkpoint that a run goes on from.
     pub resumed: Option<String>,
+    /// Whether a put waits for no device: it then flushes neither standard output nor what it writes.
+    pub unflushed: bool,
 }
 
 /// Files of the system, each opened when it is first taken from, and kept open until it is put. They tell nothing of what they hold.
@@ -71,7 +73,8 @@ impl<R: rt::Files + AllocGlobal> HostFiles<R> {
         }
     }
 
-    /// The files of a program that is called. They flush its standard output before each put, and none has failed.
+    /// The files of a program that is called. They flush its standard output before each put, unless the call is unflushed; and none has
+    /// failed.
     pub fn of_program(rt: R, call: ProgramCall) -> HostFiles<R>
         ensures count { count_of result ≡ 0 }
         ensures put_count { put_count_of result ≡ 0 }
@@ -120,9 +123,11 @@ impl<R: rt::Files + AllocGlobal> HostFiles<R> {
                 return Err(Unput::Failed(io::Error::new(ErrorKind::InvalidInput, message)));
             }
         }
-        let mut process = 0;
-        if let Some(call) = &self.call {
-            process = call.process;
+        let (process, unflushed) = match &self.call {
+            Some(call) => (call.process, call.unflushed),
+            None => (0, false),
+        };
+        if self.call.is_some() && !unflushed {
             if let Err(error) = flush_output(&self.rt) {
                 return Err(Unput::Unflushed(error));
             }
@@ -132,6 +137,7 @@ impl<R: rt::Files + AllocGlobal> HostFiles<R> {
             process,
             open: &open,
             limit: self.limit,
+            unflushed,
         };
         replace(&self.rt, name, new)?;
         Ok(())

@@ -46,9 +46,11 @@ pub(crate) struct Replacing<'t> {
     pub open: &'t [FileId],
     /// The greatest length of a plain file, in bytes.
     pub limit: Option<u64>,
+    /// Whether nothing is flushed.
+    pub unflushed: bool,
 }
 
-/// Gives the file of a name new bytes, in place of those that it has, and answers once they are on its device.
+/// Gives the file of a name new bytes, in place of those that it has, and answers once they are on its device, unless it is unflushed.
 ///
 /// A plain file is written beside the one that is there, under a name that no file has, `NAME.flumina-new-PROCESS`; it is flushed to
 /// its device, and then takes that one's place, with its mode and its owner. Where the name is a link, that is done to the file
@@ -61,7 +63,7 @@ pub(crate) fn replace<R: rt::Files + AllocGlobal>(
     match rt.symlink_metadata(name) {
         Ok(there) if there.is_symlink() => replace_linked(rt, name, new),
         Ok(there) if there.is_file() => replace_plain(rt, name, Some(&there), new),
-        Ok(_) => Ok(write_in_place(rt, name, new.bytes)?),
+        Ok(_) => Ok(write_in_place(rt, name, new)?),
         Err(error) if error.kind() == ErrorKind::NotFound => replace_plain(rt, name, None, new),
         Err(error) => Err(Unreplaced::Failed(error)),
     }
@@ -78,19 +80,22 @@ fn replace_linked<R: rt::Files + AllocGlobal>(
             let target = fs::canonicalize(rt, name)?;
             replace_plain(rt, target.as_str(), Some(&there), new)
         }
-        _ => Ok(write_in_place(rt, name, new.bytes)?),
+        _ => Ok(write_in_place(rt, name, new)?),
     }
 }
 
 // Writes a device or a pipe, and flushes it where it can be.
-fn write_in_place<R: rt::Files>(rt: &R, name: &str, bytes: &[u8]) -> io::Result<()> {
+fn write_in_place<R: rt::Files>(rt: &R, name: &str, new: Replacing) -> io::Result<()> {
     let mut file = fs::create(rt, name)?;
-    file.write_all(bytes)?;
-    flush(&file)
+    file.write_all(new.bytes)?;
+    flush(&file, new.unflushed)
 }
 
-// Flushes a file to its device. What has no device to be flushed to, as a pipe, is let be.
-fn flush<F: OpenFile>(file: &F) -> io::Result<()> {
+// Flushes a file to its device, unless it is to be left unflushed. What has no device to be flushed to, as a pipe, is let be.
+fn flush<F: OpenFile>(file: &F, unflushed: bool) -> io::Result<()> {
+    if unflushed {
+        return Ok(());
+    }
     match file.sync_all() {
         Err(error) if error.kind() != ErrorKind::InvalidInput => Err(error),
         _ => Ok(()),
@@ -116,7 +121,7 @@ fn replace_plain<R: rt::Files + AllocGlobal>(
         take_away(rt, &file, beside);
         return Err(Unreplaced::Failed(error));
     }
-    Ok(flush(&folder)?)
+    Ok(flush(&folder, new.unflushed)?)
 }
 
 // The folder in which a file is.
@@ -165,7 +170,8 @@ fn is_left<R: rt::Files>(rt: &R, name: &str, open: &[FileId]) -> bool {
     }
 }
 
-// Gives a new file its owner, its mode and its bytes, and flushes it. What `close` would tell, `sync_all` has told before.
+// Gives a new file its owner, its mode and its bytes, and flushes it, unless it is to be left unflushed. What `close` would tell,
+// `sync_all` has told before.
 fn fill<R: rt::Files>(
     rt: &R,
     file: &mut R::File,
@@ -183,7 +189,11 @@ fn fill<R: rt::Files>(
     }
     check_length(new.bytes.len(), new.limit)?;
     file.write_all(new.bytes)?;
-    file.sync_all()
+    if new.unflushed {
+        Ok(())
+    } else {
+        file.sync_all()
+    }
 }
 
 // Gives a file the name of another, if it still has its own.

@@ -1,8 +1,8 @@
 //! The call of the program.
 
 use crate::help;
-use crate::words::{resumed_name, words_of};
-use flu_adapt::{HostFiles, HostSink, ProgramCall, Standard, StandardStream};
+use crate::words::{call_of, words_of};
+use flu_adapt::{HostFiles, HostSink, Standard, StandardStream};
 use flu_hints::Failure;
 use flu_outside::{Files, MemSink, Sink, write_all};
 use flu_seq::OpenGate;
@@ -37,9 +37,8 @@ pub fn answer_call<
     let Some(words) = words_of(rt) else {
         return ExitCode::from(NO_MEMORY);
     };
-    let resumed = resumed_name(rt.alloc(), &words);
     let is_for_a_person = err.is_terminal();
-    let mut files = HostFiles::of_program(rt, ProgramCall { process, resumed });
+    let mut files = HostFiles::of_program(rt, call_of(rt.alloc(), &words, process));
     let mut out = HostSink::new(StandardStream::new(rt, Standard::Output, out));
     let mut err = HostSink::new(StandardStream::new(rt, Standard::Error, err));
     let status = if is_for_a_person {

@@ -1,5 +1,7 @@
 //! The words of a call.
 
+use flu_adapt::ProgramCall;
+use flu_words::{Command, read_words};
 use std::alloc::{AllocError, Global};
 use std::env::{Env, FillError};
 use std::io::ErrorKind;
@@ -59,9 +61,16 @@ fn text_in(bytes: &[u8], count: usize) -> &str {
     }
 }
 
-/// The name of the checkpoint that a run is to go on from; none where the words name none, and where there is no memory for it.
-pub(crate) fn resumed_name(alloc: Global, words: &[String]) -> Option<String> {
-    let option = words.iter().position(|word| word.as_str() == "--resume")?;
-    let name = words.get(option.checked_add(1)?)?;
-    String::from_str(alloc, name.as_str()).ok()
+/// What the files of the system are to know of the call: the number of its process, and of a run the name of the checkpoint that it goes on
+/// from and whether it leaves the flushes out. Where there is no memory for the name, it is left out.
+pub(crate) fn call_of(alloc: Global, words: &[String], process: u32) -> ProgramCall {
+    let (resume, unflushed) = match read_words(words) {
+        Ok(Command::Run { options, .. }) => (options.resume, options.unflushed),
+        _ => (None, false),
+    };
+    ProgramCall {
+        process,
+        resumed: resume.and_then(|name| String::from_str(alloc, name).ok()),
+        unflushed,
+    }
 }

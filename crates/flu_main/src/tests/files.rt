@@ -20,6 +20,7 @@ fn files_are_taken_on_and_put_whole(rt: HostRuntime) -> Result<(), Fail> {
     let call = ProgramCall {
         process: 7,
         resumed: None,
+        unflushed: false,
     };
     let mut files = HostFiles::of_program(&rt, call);
 
