@@ -204,17 +204,27 @@ def barriers(every):
     gawk('for (n = every; n <= rows; n += every) printf "%d,barrier\\n", n; print "end"', "clock.csv", every=every, rows=some(1000000))
 
 
+def one_source():
+    """The samples of the first source of `windows` alone: the others end at once."""
+    for s in range(1, 4):
+        write(f"s{s}.csv", "end\n")
+
+
 def fees():
-    """Views of four pages from two sources read the page's fee, which an update sets after every 1,000 views: 1,000,000 views."""
+    """Views of four pages from two sources read the page's fee, which an update sets (`updates`): 1,000,000 views."""
     views = [f'{it} "{it}.csv" rate 1000: view[0..3]' for it in ("web", "app")]
     job("views.job", "fees.head", *views, 'desk "desk.csv": update[0..3]', 'clock "hours.csv": hour')
     for s, name in enumerate(("web", "app")):
         rows = 'for (n = 0; n < rows; n++) printf "%d,view[%d]\\n", 2 * n + s + 1, n % 4; print "end"'
         gawk(rows, f"{name}.csv", s=s, rows=some(500000))
-    rows = some(1000000)
-    gawk('for (n = 1000; n < rows; n += 1000) printf "%d,update[%d],%d\\n", n, n / 1000 % 4, n % 97; print "end"', "desk.csv", rows=rows)
-    gawk('for (n = 100000; n <= rows; n += 100000) printf "%d,hour\\n", n; print "end"', "hours.csv", rows=rows)
+    updates(1000)
+    gawk('for (n = 100000; n <= rows; n += 100000) printf "%d,hour\\n", n; print "end"', "hours.csv", rows=some(1000000))
     plans("views15")
+
+
+def updates(every):
+    rows = 'for (n = every; n < rows; n += every) printf "%d,update[%d],%d\\n", n, n / every % 4, n % 97; print "end"'
+    gawk(rows, "desk.csv", every=every, rows=some(1000000))
 
 
 def long_actions():

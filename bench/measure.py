@@ -228,22 +228,29 @@ def simulate(bench):
         row(f"{inputs.some(events):,}", f"{steps:,}", f"{figures['simulate'].busy:.2f}", f"{figures['fold'].busy:.2f}")
 
 
-@measurement("A run on threads")
+@measurement("A run on threads, by a plan and without one")
 def run(bench):
-    table("What", "fold", "run", "wall", "processor time")
+    table("What", "fold", "run PLAN", "run", "wall", "processor time")
 
     def beside(what, job, plan):
-        figures = bench.compare(same=("fold", "run"), fold=bench.flumina("fold", job), run=bench.flumina("run", job, plan))
-        one, many = figures["fold"], figures["run"]
-        row(what, one, many, f"{many.wall / one.wall:.2f} times", f"{many.busy / max(one.busy, 0.01):.2f} times")
+        commands = {"fold": bench.flumina("fold", job), "run": bench.flumina("run", job, plan), "own": bench.flumina("run", job)}
+        figures = bench.compare(same=commands, **commands)
+        one, many, own = (figures[it] for it in ("fold", "run", "own"))
+        wall = f"{many.wall / one.wall:.2f} and {own.wall / one.wall:.2f} times"
+        row(what, one, many, own, wall, f"{many.busy / max(one.busy, 0.01):.2f} and {own.busy / max(one.busy, 0.01):.2f} times")
 
     inputs.windows()
     for every in 10000, 1000, 100:
         inputs.barriers(every)
         for nodes in 1, 3, 7, 15:
             beside(f"windows of {every} samples, {nodes} node{'s' if nodes > 1 else ''}", "windows.job", f"windows{nodes}.plan")
+    inputs.one_source()
+    inputs.barriers(10000)
+    beside("one source alone, 7 nodes", "windows.job", "windows7.plan")
     inputs.fees()
-    beside("views of pages, version 2, 15 nodes", "views.job", "views15.plan")
+    for every in 1000, 100, 10, 4:
+        inputs.updates(every)
+        beside(f"views of pages, an update after every {every}, 15 nodes", "views.job", "views15.plan")
     inputs.long_actions()
     beside("events of 32 long actions, 7 nodes", "long.job", "long7.plan")
 
@@ -452,7 +459,7 @@ def prices(bench):
     def price(name, seconds, count):
         row(name, f"{seconds * 1e9 / count:.1f}")
 
-    price("EVENT", (of("merging::merge") + of("folding::fold_events")) / whole * fold["plain"].busy, events)
+    price("EVENT, with one action", of("folding::fold") / whole * fold["plain"].busy, events)
     price("ACTION", fold["acts"].busy - fold["plain"].busy, 31 * events)
     price("TERM", fold["terms"].busy - fold["acts"].busy, 31 * 28 * events)
     price("PIECE", fold["texts"].busy - fold["short"].busy, 14 * events)
