@@ -1,10 +1,11 @@
 #!/usr/bin/env bash
-# Measures `flumina run` beside `flumina fold`, on inputs that it makes itself: windows of samples that a barrier ends, by plans of
-# 1, 3, 7 and 15 nodes; views of pages that read the page's fee, under version 2; and events of 32 long actions. Run at the top of the
+# Measures `flumina run` beside `flumina fold`, by a plan and without one, on inputs that it makes itself: windows of samples that a barrier
+# ends, by plans of 1, 3, 7 and 15 nodes; samples of one source alone; views of pages that read the page's fee, under version 2, which
+# is set after every 1,000, 100, 10 and 4 views; and events of 32 long actions. Run at the top of the
 # repository, where `rt ci` or `rt run` has built the program: bench/measure_run.sh [FOLDER [ROUNDS [WORD..]]]. The words are put before
-# the program, as `taskset -c 0-3`, or as `chrt -r 1` on a machine that does other work too. In each round fold and run take turns, and
-# each line has the least of the rounds, 5 where none are given: wall and, in brackets, processor time of fold and of run in seconds,
-# and how many times fold's those of run are.
+# the program, as `taskset -c 0-3`, or as `chrt -r 1` on a machine that does other work too. In each round fold and both runs take turns, and
+# each line has the least of the rounds, 5 where none are given: wall and, in brackets, processor time of fold, of run by the plan and of
+# run without one in seconds, and how many times fold's those of both runs are.
 set -eu
 program=${PROGRAM:-$PWD/crates/flumina/out/flumina}
 jobs=$PWD/bench/jobs
@@ -26,17 +27,21 @@ measure() {
 }
 least() { sort -n "$1" | head -n 1; }
 
-# One line: a job by fold, and by run with a plan.
+# One line: a job by fold, by run with a plan, and by run without one.
 compare() {
     local title=$1 job=$2 plan=$3
-    rm -f fold.wall fold.busy run.wall run.busy
+    rm -f fold.wall fold.busy run.wall run.busy own.wall own.busy
     for _ in $(seq "$rounds"); do
         measure fold "$program" fold "$job"
         measure run "$program" run "$job" "$plan"
+        measure own "$program" run "$job"
         cmp fold.txt run.txt
+        cmp fold.txt own.txt
     done
-    awk -v title="$title" -v fw="$(least fold.wall)" -v fb="$(least fold.busy)" -v rw="$(least run.wall)" -v rb="$(least run.busy)" 'BEGIN {
-        printf "%-44s fold %.2f (%.2f)  run %.2f (%.2f)  wall %.2f times, processor time %.2f times\n", title, fw, fb, rw, rb, rw / fw, rb / fb
+    awk -v title="$title" -v fw="$(least fold.wall)" -v fb="$(least fold.busy)" -v rw="$(least run.wall)" -v rb="$(least run.busy)" \
+        -v ow="$(least own.wall)" -v ob="$(least own.busy)" 'BEGIN {
+        printf "%-46s fold %.2f (%.2f)  run PLAN %.2f (%.2f)  run %.2f (%.2f)  wall %.2f and %.2f times, processor time %.2f and %.2f times\n",
+            title, fw, fb, rw, rb, ow, ob, rw / fw, ow / fw, rb / fb, ob / fb
     }'
 }
 
@@ -97,7 +102,12 @@ for every in 10000 1000 100; do
     done
 done
 
-# ---- views of four pages from two sources read the page's fee, which an update sets after every 1,000 views: 1,000,000 views
+# ---- the samples of one source alone
+for s in 1 2 3; do mv s$s.csv all$s.csv; echo end > s$s.csv; done
+awk 'BEGIN { for (n = 10000; n <= 1000000; n += 10000) printf "%d,barrier\n", n; print "end" }' > clock.csv
+compare 'one source alone, 7 nodes' windows.job windows7.plan
+
+# ---- views of four pages from two sources read the page's fee, which an update sets after every so many views: 1,000,000 views
 {
     cat "$jobs/fees.head"
     echo 'source web "web.csv" rate 1000: view[0..3]'
@@ -108,7 +118,6 @@ done
 for s in 0 1; do
     awk -v s=$s 'BEGIN { for (n = 0; n < 500000; n++) printf "%d,view[%d]\n", 2 * n + s + 1, n % 4; print "end" }' > "$([ $s = 0 ] && echo web || echo app).csv"
 done
-awk 'BEGIN { for (n = 1000; n < 1000000; n += 1000) printf "%d,update[%d],%d\n", n, n / 1000 % 4, n % 97; print "end" }' > desk.csv
 awk 'BEGIN { for (n = 100000; n <= 1000000; n += 100000) printf "%d,hour\n", n; print "end" }' > hours.csv
 cat > views15.plan <<'PLAN'
 node root: hour -> left right
@@ -127,7 +136,10 @@ node page3: update[3] -> web3 app3
 node web3: view[3]@web
 node app3: view[3]@app
 PLAN
-compare 'views of pages, version 2, 15 nodes' views.job views15.plan
+for every in 1000 100 10 4; do
+    awk -v every=$every 'BEGIN { for (n = every; n < 1000000; n += every) printf "%d,update[%d],%d\n", n, n / every % 4, n % 97; print "end" }' > desk.csv
+    compare "views of pages, version 2, $every, 15 nodes" views.job views15.plan
+done
 
 # ---- 100,000 events of 32 long actions each, from four sources, and a barrier after every 10,000
 awk 'BEGIN {
