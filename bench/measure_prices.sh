@@ -74,7 +74,7 @@ for n in $(seq 1 31); do terms="$terms; add c$n (value * 3 * 5 * 7 * 11) + (valu
 job terms "$one$terms"
 job short 'add c0 value; emit "{value}"'
 job texts 'add c0 value; emit "{value} {value} {value} {value} {value} {value} {value} {value}"'
-echo 'node all: inc, rest, some' > one.plan
+echo 'node root: inc, rest, some' > one.plan
 printf 'node root: inc, rest, some -> l r\nnode l:\nnode r:\n' > three.plan
 printf 'node root: inc, some -> l r\nnode l:\nnode r: rest\n' > cells.plan
 printf 'node root: inc, rest -> l r\nnode l:\nnode r: some\n' > cell.plan
@@ -98,8 +98,8 @@ for name in plain keys acts terms short texts; do measure "fold_$name" fold "$na
 valgrind --tool=callgrind --callgrind-out-file=callgrind.out "$program" fold plain.job > report.txt 2> valgrind.txt
 callgrind_annotate --inclusive=yes --threshold=100 callgrind.out > functions.txt
 of() { awk -v name="$1" 'index($0, name) { gsub(",", "", $1); print $1; exit }' functions.txt; }
-awk -v merge="$(of merging::merge)" -v fold="$(of folding::fold_events)" -v all="$(of 'PROGRAM TOTALS')" -v time="$(cat fold_plain.busy)" -v events="$events" \
-    'BEGIN { printf "%-10s %8.1f\n", "EVENT", (merge + fold) / all * time / events }'
+awk -v fold="$(of folding::fold)" -v all="$(of 'PROGRAM TOTALS')" -v time="$(cat fold_plain.busy)" -v events="$events" \
+    'BEGIN { printf "%-10s %8.1f with one action\n", "EVENT", fold / all * time / events }'
 price ACTION fold_acts.busy fold_plain.busy $((31 * events))
 price TERM fold_terms.busy fold_acts.busy $((31 * 28 * events))
 price PIECE fold_texts.busy fold_short.busy $((14 * events))
