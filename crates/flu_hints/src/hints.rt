@@ -13,7 +13,7 @@ const USAGE: &str = "  flumina fold JOB
   flumina check JOB
   flumina valid JOB PLAN
   flumina plan JOB [--depth D]
-  flumina run JOB [PLAN] [--adapt] [--save FILE] [--resume FILE]
+  flumina run JOB [PLAN | --depth D] [--adapt] [--save FILE [--unflushed]] [--resume FILE]
   flumina simulate JOB PLAN SEED [--trace]
   flumina replay JOB PLAN TRACE
   flumina demo N SEED

@@ -13,9 +13,10 @@ pub const HELP: &str =
   flumina check JOB              say whether the job's work may be shared, write the job in normal form
   flumina valid JOB PLAN         say whether a plan shares that work rightly, write the plan in normal form
   flumina plan JOB [--depth D]   write a plan, with at most D levels below its root: 0 to 6, or 3
-  flumina run JOB [PLAN]         run the job on a thread for each node of the plan, or of a made one, write the report
+  flumina run JOB [PLAN]         run the job on a thread for each node of the plan, or where that pays, write the report
+  flumina run JOB --depth D      the same where that pays, by plans with at most D levels below their roots
   flumina run JOB [PLAN] --adapt the same, but let the plan follow the counts of events, and say the last one on standard error
-  flumina run JOB [PLAN] [--adapt] [--save FILE] [--resume FILE]
+  flumina run JOB [PLAN | --depth D] [--adapt] [--save FILE [--unflushed]] [--resume FILE]
                                  the same, but put a checkpoint under FILE after each round, or go on from the one in FILE
   flumina simulate JOB PLAN SEED run the job by the steps that a seed draws, write the report, then count the steps
   flumina simulate JOB PLAN SEED --trace

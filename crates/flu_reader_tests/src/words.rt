@@ -27,10 +27,12 @@ fn told(alloc: Global, command: Command) -> Result<String, AllocError> {
         Command::Plan { job, depth } => format!(in alloc; "plan {job} {}", depth.levels),
         Command::Run { job, plan, options } => {
             let plan = plan.unwrap_or("-");
+            let depth = options.depth.levels;
             let adapt = if options.adapt { "adapt" } else { "-" };
             let save = options.save.unwrap_or("-");
+            let flushes = if options.unflushed { "unflushed" } else { "-" };
             let resume = options.resume.unwrap_or("-");
-            format!(in alloc; "run {job} {plan} {adapt} {save} {resume}")
+            format!(in alloc; "run {job} {plan} {depth} {adapt} {save} {flushes} {resume}")
         }
         Command::Simulate {
             job,
@@ -77,19 +79,31 @@ replay|J|P|T => replay J P T
 demo|0|1 => demo 0 1
 demo|1000000|0000000007 => demo 1000000 7
 fold|fold => fold fold
-run|J => run J - - - -
-run|J|P => run J P - - -
-run|J|J => run J J - - -
-run|J|--save|s => run J - - s -
-run|J|--resume|s => run J - - - s
-run|J|P|--save|s => run J P - s -
-run|J|P|--save|s|--resume|t => run J P - s t
-run|J|P|--save|s|--resume|s => run J P - s s
-run|J|--adapt => run J - adapt - -
-run|J|P|--adapt => run J P adapt - -
-run|J|--adapt|--save|s => run J - adapt s -
-run|J|P|--adapt|--resume|t => run J P adapt - t
-run|J|P|--adapt|--save|s|--resume|t => run J P adapt s t";
+run|J => run J - 3 - - - -
+run|J|P => run J P 3 - - - -
+run|J|J => run J J 3 - - - -
+run|J|--save|s => run J - 3 - s - -
+run|J|--resume|s => run J - 3 - - - s
+run|J|P|--save|s => run J P 3 - s - -
+run|J|P|--save|s|--resume|t => run J P 3 - s - t
+run|J|P|--save|s|--resume|s => run J P 3 - s - s
+run|J|--adapt => run J - 3 adapt - - -
+run|J|P|--adapt => run J P 3 adapt - - -
+run|J|--adapt|--save|s => run J - 3 adapt s - -
+run|J|P|--adapt|--resume|t => run J P 3 adapt - - t
+run|J|P|--adapt|--save|s|--resume|t => run J P 3 adapt s - t
+run|J|--depth|0 => run J - 0 - - - -
+run|J|--depth|0000000006 => run J - 6 - - - -
+run|J|--depth|3 => run J - 3 - - - -
+run|J|--depth|1|--adapt => run J - 1 adapt - - -
+run|J|--depth|2|--save|s => run J - 2 - s - -
+run|J|--depth|4|--resume|t => run J - 4 - - - t
+run|J|--save|s|--unflushed => run J - 3 - s unflushed -
+run|J|P|--save|s|--unflushed => run J P 3 - s unflushed -
+run|J|--adapt|--save|s|--unflushed => run J - 3 adapt s unflushed -
+run|J|--save|s|--unflushed|--resume|t => run J - 3 - s unflushed t
+run|J|P|--adapt|--save|s|--unflushed|--resume|t => run J P 3 adapt s unflushed t
+run|J|--depth|5|--adapt|--save|s|--unflushed|--resume|t => run J - 5 adapt s unflushed t";
 
 #[test]
 fn commands_are_read(rt: HostRuntime) -> Result<(), Fail> {
@@ -154,7 +168,34 @@ run|J|P|--resume|s|--save|t => bad words at 5
 run|J|--save|s|--resume => bad words at 5
 run|J|P|--save|s|--resume|P => bad words at 6
 run|J|P|--save|s|--resume|t|x => bad words at 7
-run|J|P|--adapt|--save|s|--resume|t|x => bad words at 8";
+run|J|P|--adapt|--save|s|--resume|t|x => bad words at 8
+run|--depth|1 => bad words at 1
+run|J|--dept|1 => bad words at 2
+run|J|--depth => bad words at 3
+run|J|--depth|7 => bad words at 3
+run|J|--depth|-1 => bad words at 3
+run|J|--depth|00000000003 => bad words at 3
+run|J|--depth| => bad words at 3
+run|J|--depth|--adapt => bad words at 3
+run|J|P|--depth|1 => bad words at 3
+run|J|--depth|1|P => bad words at 4
+run|J|--depth|1|--depth|1 => bad words at 4
+run|J|--adapt|--depth|1 => bad words at 3
+run|J|--save|s|--depth|1 => bad words at 4
+run|J|--depth|1|--save|J => bad words at 5
+run|J|--unflushed => bad words at 2
+run|J|P|--unflushed => bad words at 3
+run|J|--unflushed|--save|s => bad words at 2
+run|J|--adapt|--unflushed => bad words at 3
+run|J|--save|--unflushed => bad words at 3
+run|J|--save|s|--unflushe => bad words at 4
+run|J|--save|s|--unflushed|--unflushed => bad words at 5
+run|J|--save|s|--unflushed|--adapt => bad words at 5
+run|J|--resume|t|--unflushed => bad words at 4
+run|J|--save|s|--resume|t|--unflushed => bad words at 6
+run|J|--save|s|--unflushed|--resume => bad words at 6
+run|J|--save|s|--unflushed|--resume|J => bad words at 6
+run|J|--depth|1|--adapt|--save|s|--unflushed|--resume|t|x => bad words at 10";
 
 #[test]
 fn words_are_refused(rt: HostRuntime) -> Result<(), Fail> {

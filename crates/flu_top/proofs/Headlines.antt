@@ -169,12 +169,12 @@ fold_law jobs words old new before now status outcome complete job left p word t
     (fold_good job left p text good) (λ trace named. absurd (no_name trace named)) (fold_writes jobs job left p text)
 
 -- ---- run
-abbrev run_fresh : List ℕ → Option (List ℕ) → Option (List ℕ) → Bool → Command
-run_fresh job plan save adapt = Run job plan (record { adapt = adapt; save = save; resume = None })
+abbrev run_fresh : List ℕ → Option (List ℕ) → ℕ → Bool → Option (List ℕ) → Bool → Command
+run_fresh job plan depth adapt save unflushed = Run job plan (record { depth = depth; adapt = adapt; save = save; unflushed = unflushed; resume = None })
 
-run_among : (job : List ℕ) (plan save : Option (List ℕ)) (adapt : Bool) (p : Program)
-    → AreAmong (run_fresh job plan save adapt) job p ((job ∷ if_named plan) ++ files_of p.sources)
-run_among job plan save adapt p = record {
+run_among : (job : List ℕ) (plan : Option (List ℕ)) (depth : ℕ) (adapt : Bool) (save : Option (List ℕ)) (unflushed : Bool) (p : Program)
+    → AreAmong (run_fresh job plan depth adapt save unflushed) job p ((job ∷ if_named plan) ++ files_of p.sources)
+run_among job plan depth adapt save unflushed p = record {
   its_job = refl;
   fresh = refl;
   job_in = (0, omega arith, refl);
@@ -183,12 +183,13 @@ run_among job plan save adapt p = record {
   sources_in = λ name found. Contains-append_right (job ∷ if_named plan) (files_of p.sources) name found;
 }
 
-run_good : (job : List ℕ) (plan save : Option (List ℕ)) (adapt : Bool) (left : Contents) (p : Program) → HasJob (Named job) left p → IsAccepted p
+run_good : (job : List ℕ) (plan : Option (List ℕ)) (depth : ℕ) (adapt : Bool) (save : Option (List ℕ)) (unflushed : Bool) (left : Contents) (p : Program)
+    → HasJob (Named job) left p → IsAccepted p
     → ((name : List ℕ) → plan ≡ Some name → IsValidPlanText name (emptied job left) p)
     → HaveNoDefect p (emptied_each (job ∷ if_named plan) left)
-    → ((name : List ℕ) → save ≡ Some name → ¬ Contains (files_of p.sources) name) → IsGood (run_fresh job plan save adapt) left p
+    → ((name : List ℕ) → save ≡ Some name → ¬ Contains (files_of p.sources) name) → IsGood (run_fresh job plan depth adapt save unflushed) left p
 unfolding plan_behind
-run_good job plan save adapt left p text accepted valid good apart = record {
+run_good job plan depth adapt save unflushed left p text accepted valid good apart = record {
   has = text;
   accepted = λ asked. accepted;
   plan = valid;
@@ -197,23 +198,24 @@ run_good job plan save adapt left p text accepted valid good apart = record {
       (sound p (emptied_each (job ∷ if_named plan) left) good);
 }
 
-run_writes : JobsAreGrammar → (job : List ℕ) (plan save : Option (List ℕ)) (adapt : Bool) (left : Contents) (p : Program) → HasJob (Named job) left p
-    → WritesOnly (run_fresh job plan save adapt) left (fold_report p (emptied_each (job ∷ if_named plan) left))
+run_writes : JobsAreGrammar → (job : List ℕ) (plan : Option (List ℕ)) (depth : ℕ) (adapt : Bool) (save : Option (List ℕ)) (unflushed : Bool)
+    → (left : Contents) (p : Program) → HasJob (Named job) left p
+    → WritesOnly (run_fresh job plan depth adapt save unflushed) left (fold_report p (emptied_each (job ∷ if_named plan) left))
 unfolding lists_behind
-run_writes jobs job plan save adapt left p text q other its is =
+run_writes jobs job plan depth adapt save unflushed left p text q other its is =
     is.2
     ∙ (ap (λ (o : Opening). report_from o ((job ∷ if_named plan) ++ []) left q) is.1
     ∙ (ap (λ (texts : List (List ℕ)). report_from fresh texts left q) (append-nil (job ∷ if_named plan))
     ∙ one_report jobs job left (emptied_each (job ∷ if_named plan) left) p q text its))
 
 pub run_law : JobsAreGrammar → RunIsTheFold
-run_law jobs words old new before now status outcome complete job plan save adapt left p word told text accepted valid good none puts =
-    let command = run_fresh job plan save adapt in
+run_law jobs words old new before now status outcome complete job plan depth adapt save unflushed left p word told text accepted valid good none puts =
+    let command = run_fresh job plan depth adapt save unflushed in
     writes words old new before now status outcome complete command left p (fold_report p (emptied_each (job ∷ if_named plan) left)) word told
-    (nothing_failed jobs command job left p ((job ∷ if_named plan) ++ files_of p.sources) (run_among job plan save adapt p) text old.left before now told none
-    (λ name named. (puts name named).1))
-    (run_good job plan save adapt left p text accepted valid good (λ name named. (puts name named).0)) (λ trace named. absurd (no_name trace named))
-    (run_writes jobs job plan save adapt left p text)
+    (nothing_failed jobs command job left p ((job ∷ if_named plan) ++ files_of p.sources) (run_among job plan depth adapt save unflushed p) text
+    old.left before now told none (λ name named. (puts name named).1))
+    (run_good job plan depth adapt save unflushed left p text accepted valid good (λ name named. (puts name named).0))
+    (λ trace named. absurd (no_name trace named)) (run_writes jobs job plan depth adapt save unflushed left p text)
 
 -- ---- simulate and replay
 simulation_among : (job plan : List ℕ) (seed : ℕ) (p : Program) → AreAmong (Simulate job plan seed false) job p ((job ∷ plan ∷ []) ++ files_of p.sources)

@@ -41,7 +41,8 @@ pub simulation_law : SimulationIsHeard
 simulation_law words old new status outcome is job plan seed trace word = heard_at_0 words old new status outcome is job plan seed trace word
 
 pub adapted_law : AdaptedPlanIsHeard
-adapted_law words old new status outcome is job plan save resume word = adapted_at_0 words old new status outcome is job plan save resume word
+adapted_law words old new status outcome is job plan depth save unflushed resume word =
+    adapted_at_0 words old new status outcome is job plan depth save unflushed resume word
 
 pub bad_words_law : BadWordsExactly
 bad_words_law words old new status outcome = bad_words_exactly words old new status outcome

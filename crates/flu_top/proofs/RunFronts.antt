@@ -299,7 +299,7 @@ mended_law jobs fronts nexts words old new status outcome job plan options left 
 -- ---- what the report is
 pub fresh_law : FreshRunsReportTheFold
 unfolding lists_behind report_behind
-fresh_law job plan adapt save left p o starts =
+fresh_law job plan depth adapt save unflushed left p o starts =
     ap (λ (from : Opening). report_from from ((job ∷ if_named plan) ++ []) left p) starts.opens
     ∙ ap (λ (texts : List (List ℕ)). report_behind texts left p) (append-nil (job ∷ if_named plan))
 

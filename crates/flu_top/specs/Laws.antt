@@ -72,10 +72,11 @@ SimulationIsHeard =
 abbrev pub AdaptedPlanIsHeard : Type 0
 AdaptedPlanIsHeard =
     (words : List (List ℕ)) (old new : Outside) (status : ℕ) → Outcome words old new status → status ≡ 0
-    → (job : List ℕ) (plan save resume : Option (List ℕ)) → command_in words ≡ Ok (Run job plan (record { adapt = true; save = save; resume = resume }))
+    → (job : List ℕ) (plan : Option (List ℕ)) (depth : ℕ) (save : Option (List ℕ)) (unflushed : Bool) (resume : Option (List ℕ))
+    → command_in words ≡ Ok (Run job plan (record { depth = depth; adapt = true; save = save; unflushed = unflushed; resume = resume }))
     → (line : List ℕ) × IsSomePlanText line × Said old new line
     × WhereTold old.left new.left (λ left _. (p : Program) × HasJob (Named job) left p
-    × ((text : List ℕ) × Writes (Run job plan (record { adapt = false; save = save; resume = resume })) left p text
+    × ((text : List ℕ) × Writes (Run job plan (record { depth = depth; adapt = false; save = save; unflushed = unflushed; resume = resume })) left p text
     × WhereTold old.out new.out (AppendsAll text))
     × IsObservedText (job ∷ if_named plan) resume left p line)
 
@@ -225,9 +226,11 @@ RunsWriteFronts =
 -- a run that is not resumed opens fresh, so that its report is that of the fold of all events from the empty state
 abbrev pub FreshRunsReportTheFold : Type 0
 FreshRunsReportTheFold =
-    (job : List ℕ) (plan : Option (List ℕ)) (adapt : Bool) (save : Option (List ℕ)) (left : Contents) (p : Program) (o : Opening)
-    → StartsFrom (Run job plan (record { adapt = adapt; save = save; resume = None })) left p o
-    → report_from o (texts_named (Run job plan (record { adapt = adapt; save = save; resume = None }))) left p ≡ report_behind (job ∷ if_named plan) left p
+    (job : List ℕ) (plan : Option (List ℕ)) (depth : ℕ) (adapt : Bool) (save : Option (List ℕ)) (unflushed : Bool)
+    → (left : Contents) (p : Program) (o : Opening)
+    → StartsFrom (Run job plan (record { depth = depth; adapt = adapt; save = save; unflushed = unflushed; resume = None })) left p o
+    → report_from o (texts_named (Run job plan (record { depth = depth; adapt = adapt; save = save; unflushed = unflushed; resume = None }))) left p
+    ≡ report_behind (job ∷ if_named plan) left p
 
 -- the report up to a border and that of a run which is resumed from its checkpoint are together the report of the whole: the later
 -- events, from the state of the earlier ones

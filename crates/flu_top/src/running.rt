@@ -1,5 +1,5 @@
-//! `run JOB [PLAN] [--adapt] [--save FILE] [--resume FILE]`: the report of a run of a job's events, in rounds, on the tree of threads where
-//! a plan is named or the tree pays.
+//! `run JOB [PLAN | --depth D] [--adapt] [--save FILE [--unflushed]] [--resume FILE]`: the report of a run of a job's events, in rounds, on
+//! the tree of threads where a plan is named or the tree pays.
 
 ghost use Rattle.std.specs.Prelude.{◌≡◌, ◌≢◌, ◌<◌, ◌≤◌, ◌⊎◌, ℕ, Bool, option_map, length, List, ◌∷◌, Option, Some, None, Ok, Err, IfOk, IfErr, OnOk, IsErrOf};
 ghost use Rattle.std.specs.Prelude.{IsTrue};
@@ -58,7 +58,7 @@ use flu_rounds::{
 use flu_run::TreeEngine;
 use flu_seq::{Engine, Gate};
 use flu_streams::{rounds_are_counted_in_turn, rounds_are_folded_in_turn};
-use flu_words::{Depth, RunOptions, USUAL_DEPTH};
+use flu_words::{Depth, RunOptions};
 use std::alloc::{AllocError, Global};
 use std::sync::Wait;
 use std::thread::Threads;
@@ -76,8 +76,8 @@ enum RunFault {
 }
 
 /// Writes the report of the job that a file holds, which is run by the plan that another file holds, or where none is named each round
-/// by its own counts: from its opening, and with a checkpoint behind each round where it saves. Where its plan follows the events that were
-/// run, it answers the text of the plan in force at the end.
+/// by its own counts, by plans of at most the depth in the options: from its opening, and with a checkpoint behind each round where it
+/// saves. Where its plan follows the events that were run, it answers the text of the plan in force at the end.
 pub fn run_job<F: Files, K: Sink, G: Gate, R: Threads + Wait + Sync>(
     rt: &R,
     alloc: Global,
@@ -110,7 +110,7 @@ pub fn run_job<F: Files, K: Sink, G: Gate, R: Threads + Wait + Sync>(
     };
     let chooses = match plan {
         Some(_) => None,
-        None => Some(USUAL_DEPTH),
+        None => Some(options.depth),
     };
     run_in_rounds(
         rt,

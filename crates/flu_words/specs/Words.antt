@@ -6,11 +6,14 @@ use Rattle.flu_words.specs.declared.words.Command.{Command as NamedCommand}
 use Rattle.flu_words.specs.declared.words.Command.TheVariants as named
 use Rattle.flu_words.specs.Numbers.{depth_of, seed_of, draws_of}
 
--- what else a run does: whether its plan follows what is observed, the name of the file that its checkpoints are put under, and of the
--- checkpoint that it is resumed from
+-- what else a run does: how deep its greedy plan may be where no plan is named, whether its plan follows what is observed, the name of
+-- the file that its checkpoints are put under, whether the flushes at each put are left out, and the name of the checkpoint that it is
+-- resumed from
 pub record RunOptions : Type 0 where
+  pub depth : ℕ
   pub adapt : Bool
   pub save : Option (List ℕ)
+  pub unflushed : Bool
   pub resume : Option (List ℕ)
 
 -- what the words ask for, each with the names of its files, where a plan may be left out, how deep a plan is wanted, the seed of
@@ -27,8 +30,13 @@ pub data Command : Type 0 where
 
 -- a run's options without where their names lie in memory
 abbrev pub plain_options : NamedOptions → RunOptions
-plain_options options =
-    record { adapt = options.adapt; save = option_map (λ name. name.now) options.save; resume = option_map (λ name. name.now) options.resume }
+plain_options options = record {
+  depth = options.depth.levels;
+  adapt = options.adapt;
+  save = option_map (λ name. name.now) options.save;
+  unflushed = options.unflushed;
+  resume = option_map (λ name. name.now) options.resume;
+}
 
 -- a command without where its names lie in memory
 abbrev pub plain_command : NamedCommand → Command
@@ -82,14 +90,34 @@ no_word_after_number at None ws = Err at
 no_word_after_number at (Some n) [] = Ok n
 no_word_after_number at (Some n) (w ∷ ws) = Err (at + 1)
 
-abbrev pub depth_behind : List (List ℕ) → Result ℕ ℕ
-depth_behind [] = Err 3
-depth_behind (w ∷ ws) = no_word_after_number 3 (depth_of w) ws
+-- A depth, the place of the first word after it, and the words from there on.
+abbrev pub DepthBegun : Type 0
+DepthBegun = ℕ × ℕ × List (List ℕ)
 
--- the depth in the words behind a job's name: 3 where there are none, else what stands behind `--depth`
+abbrev pub depth_from : ℕ → Option ℕ → List (List ℕ) → Result DepthBegun ℕ
+depth_from at None ws = Err at
+depth_from at (Some depth) ws = Ok (depth, at + 1, ws)
+
+abbrev pub depth_at : ℕ → List (List ℕ) → Result DepthBegun ℕ
+depth_at at [] = Err at
+depth_at at (w ∷ ws) = depth_from at (depth_of w) ws
+
+-- the depth that the words from a place on begin with: the one after `--depth`, and 3 where they don't begin with that
+abbrev pub depth_and_rest : ℕ → List (List ℕ) → Result DepthBegun ℕ
+depth_and_rest at [] = Ok (3, at, [])
+depth_and_rest at (w ∷ ws) = if bytes_eq w (codes "--depth") then depth_at (at + 1) ws else Ok (3, at, w ∷ ws)
+
+abbrev pub no_word_after_depth : ℕ → ℕ → List (List ℕ) → Result ℕ ℕ
+no_word_after_depth depth at [] = Ok depth
+no_word_after_depth depth at (w ∷ ws) = Err at
+
+abbrev pub depth_alone : Result DepthBegun ℕ → Result ℕ ℕ
+depth_alone (Ok begun) = no_word_after_depth begun.0 begun.1 begun.2
+depth_alone (Err at) = Err at
+
+-- the depth in the words behind a job's name, which have no others
 abbrev pub depth_after : List (List ℕ) → Result ℕ ℕ
-depth_after [] = Ok 3
-depth_after (w ∷ ws) = if bytes_eq w (codes "--depth") then depth_behind ws else Err 2
+depth_after ws = depth_alone (depth_and_rest 2 ws)
 
 abbrev pub with_job : List ℕ → Result ℕ ℕ → Result (List ℕ × ℕ) ℕ
 with_job job (Ok depth) = Ok (job, depth)
@@ -130,29 +158,48 @@ abbrev pub file_after : List ℕ → List ℕ → Option (List ℕ) → ℕ → 
 file_after option job plan at [] = Ok (None, at, [])
 file_after option job plan at (w ∷ ws) = if bytes_eq w option then file_behind job plan (at + 1) ws else Ok (None, at, w ∷ ws)
 
--- whether the words from a place on begin with `--adapt`
-abbrev pub adapt_and_rest : ℕ → List (List ℕ) → Bool × ℕ × List (List ℕ)
-adapt_and_rest at [] = (false, at, [])
-adapt_and_rest at (w ∷ ws) = if bytes_eq w (codes "--adapt") then (true, at + 1, ws) else (false, at, w ∷ ws)
+-- the depth of the greedy plan in the words from a place on, which may give one only where no plan is named
+abbrev pub depth_without : Option (List ℕ) → ℕ → List (List ℕ) → Result DepthBegun ℕ
+depth_without (Some plan) at ws = Ok (3, at, ws)
+depth_without None at ws = depth_and_rest at ws
+
+-- whether the words from a place on begin with an option that has no value
+abbrev pub option_and_rest : List ℕ → ℕ → List (List ℕ) → Bool × ℕ × List (List ℕ)
+option_and_rest option at [] = (false, at, [])
+option_and_rest option at (w ∷ ws) = if bytes_eq w option then (true, at + 1, ws) else (false, at, w ∷ ws)
+
+-- whether the flushes are left out, which the words from a place on may say only right after the file of `--save`
+abbrev pub unflushed_after : Option (List ℕ) → ℕ → List (List ℕ) → Bool × ℕ × List (List ℕ)
+unflushed_after None at ws = (false, at, ws)
+unflushed_after (Some file) at ws = option_and_rest (codes "--unflushed") at ws
 
 abbrev pub no_word_after_options : RunOptions → ℕ → List (List ℕ) → Result RunOptions ℕ
 no_word_after_options options at [] = Ok options
 no_word_after_options options at (w ∷ ws) = Err at
 
-abbrev pub with_resume : Bool → Option (List ℕ) → Result Begun ℕ → Result RunOptions ℕ
-with_resume adapt save (Ok begun) = no_word_after_options (record { adapt = adapt; save = save; resume = begun.0 }) begun.1 begun.2
-with_resume adapt save (Err at) = Err at
+abbrev pub with_resume : ℕ → Bool → Option (List ℕ) → Bool → Result Begun ℕ → Result RunOptions ℕ
+with_resume depth adapt save unflushed (Ok begun) = no_word_after_options
+    (record { depth = depth; adapt = adapt; save = save; unflushed = unflushed; resume = begun.0 }) begun.1 begun.2
+with_resume depth adapt save unflushed (Err at) = Err at
 
-abbrev pub with_save : List ℕ → Option (List ℕ) → Bool → Result Begun ℕ → Result RunOptions ℕ
-with_save job plan adapt (Ok begun) = with_resume adapt begun.0 (file_after (codes "--resume") job plan begun.1 begun.2)
-with_save job plan adapt (Err at) = Err at
+abbrev pub with_unflushed : List ℕ → Option (List ℕ) → ℕ → Bool → Option (List ℕ) → Bool × ℕ × List (List ℕ) → Result RunOptions ℕ
+with_unflushed job plan depth adapt save begun =
+    with_resume depth adapt save begun.0 (file_after (codes "--resume") job plan begun.1 begun.2)
 
-abbrev pub with_adapt : List ℕ → Option (List ℕ) → Bool × ℕ × List (List ℕ) → Result RunOptions ℕ
-with_adapt job plan begun = with_save job plan begun.0 (file_after (codes "--save") job plan begun.1 begun.2)
+abbrev pub with_save : List ℕ → Option (List ℕ) → ℕ → Bool → Result Begun ℕ → Result RunOptions ℕ
+with_save job plan depth adapt (Ok begun) = with_unflushed job plan depth adapt begun.0 (unflushed_after begun.0 begun.1 begun.2)
+with_save job plan depth adapt (Err at) = Err at
+
+abbrev pub with_adapt : List ℕ → Option (List ℕ) → ℕ → Bool × ℕ × List (List ℕ) → Result RunOptions ℕ
+with_adapt job plan depth begun = with_save job plan depth begun.0 (file_after (codes "--save") job plan begun.1 begun.2)
+
+abbrev pub with_depth : List ℕ → Option (List ℕ) → Result DepthBegun ℕ → Result RunOptions ℕ
+with_depth job plan (Ok begun) = with_adapt job plan begun.0 (option_and_rest (codes "--adapt") begun.1 begun.2)
+with_depth job plan (Err at) = Err at
 
 -- the options of a run in the words from a place on, which have no others
 abbrev pub run_options : List ℕ → Option (List ℕ) → ℕ → List (List ℕ) → Result RunOptions ℕ
-run_options job plan at ws = with_adapt job plan (adapt_and_rest at ws)
+run_options job plan at ws = with_depth job plan (depth_without plan at ws)
 
 abbrev pub on_options : (RunOptions → Command) → Result RunOptions ℕ → Result Command ℕ
 on_options command (Ok options) = Ok (command options)

@@ -2,8 +2,8 @@
 
 ghost use Rattle.std.specs.Prelude.{◌≡◌, ◌<◌, ◌≤◌, ◌+◌, MatchResult, IfOk, Ok, Err, map, option_map, string_bytes};
 ghost use Rattle.flu_words.specs.Words.{command_in, plain_command, plain_options, job_alone, job_and_plan, job_and_depth, run_command, plan_and_rest};
-ghost use Rattle.flu_words.specs.Words.{run_options, adapt_and_rest, file_after, is_other_file, depth_after, trace_after, seed_alone, both_and_rest};
-ghost use Rattle.flu_words.specs.Words.{simulation, replay, demo, is_file_name};
+ghost use Rattle.flu_words.specs.Words.{run_options, depth_without, option_and_rest, file_after, unflushed_after, is_other_file, depth_after, depth_and_rest};
+ghost use Rattle.flu_words.specs.Words.{trace_after, seed_alone, both_and_rest, simulation, replay, demo, is_file_name};
 
 use crate::numbers::{Depth, Draws, Seed, USUAL_DEPTH, depth_of, draws_of, seed_of};
 
@@ -16,10 +16,14 @@ pub struct BadWords {
 /// What else a run does. The names are neither the job's nor the plan's.
 #[derive(Clone, Copy)]
 pub struct RunOptions<'a> {
+    /// How deep the greedy plan may be: 3 levels where no depth is given, and where a plan is named.
+    pub depth: Depth,
     /// Whether the plan follows what is observed.
     pub adapt: bool,
     /// The name of the file that a checkpoint is put under after each round that wrote its report.
     pub save: Option<&'a str>,
+    /// Whether the flushes at each put of a checkpoint are left out.
+    pub unflushed: bool,
     /// The name of the file that has the checkpoint that the run is resumed from.
     pub resume: Option<&'a str>,
 }
@@ -45,9 +49,9 @@ pub enum Command<'a> {
         job: &'a str,
         depth: Depth,
     },
-    /// `run JOB [PLAN] [--adapt] [--save FILE] [--resume FILE]`: the report of a run on the tree of threads, by the plan, or by the
-    /// greedy plan where none is named; by a plan that follows what is observed, with checkpoints that are put under a file, or resumed
-    /// from one.
+    /// `run JOB [PLAN | --depth D] [--adapt] [--save FILE [--unflushed]] [--resume FILE]`: the report of a run on the tree of threads, by
+    /// the plan, or by the greedy plan of a depth where none is named; by a plan that follows what is observed, with checkpoints that are
+    /// put under a file, or resumed from one.
     Run {
         job: &'a str,
         plan: Option<&'a str>,
@@ -196,32 +200,75 @@ fn run_options<'a>(
         (λ options. run_options job.now (option_map (λ name. name.now) plan.entry) at (map string_bytes words.now) ≡ Ok (plain_options options))
         (λ bad. run_options job.now (option_map (λ name. name.now) plan.entry) at (map string_bytes words.now) ≡ Err bad.at) }
 {
-    let (adapt, behind_adapt, files) = adapt_and_rest(at, words);
-    let (save, behind_save, others) = file_after("--save", job, plan, behind_adapt, files)?;
-    let (resume, behind_resume, none) = file_after("--resume", job, plan, behind_save, others)?;
-    if !none.is_empty() {
-        return Err(BadWords { at: behind_resume });
+    let (depth, at, words) = depth_without(plan, at, words)?;
+    let (adapt, at, words) = option_and_rest("--adapt", at, words);
+    let (save, at, words) = file_after("--save", job, plan, at, words)?;
+    let (unflushed, at, words) = unflushed_after(save, at, words);
+    let (resume, at, words) = file_after("--resume", job, plan, at, words)?;
+    if !words.is_empty() {
+        return Err(BadWords { at });
     }
     Ok(RunOptions {
+        depth,
         adapt,
         save,
+        unflushed,
         resume,
     })
 }
 
-// Whether the words from a place on begin with `--adapt`, the place of the first word behind it, and the words from there on.
-fn adapt_and_rest(at: usize, words: &[String]) -> (bool, usize, &[String])
+// The depth of the greedy plan in the words from a place on, which may give one only where no plan is named; the place of the first word
+// after it, and the words from there on.
+fn depth_without<'a>(
+    plan: Option<&str>,
+    at: usize,
+    words: &'a [String],
+) -> Result<(Depth, usize, &'a [String]), BadWords>
     requires { at ≤ 3 }
-    ensures value { adapt_and_rest at (map string_bytes words.now) ≡ (result.0, result.1, map string_bytes result.2.now) }
+    ensures value { MatchResult result
+        (λ begun. depth_without (option_map (λ name. name.now) plan.entry) at (map string_bytes words.now) ≡ Ok
+        (begun.0.levels, begun.1, map string_bytes begun.2.now))
+        (λ bad. depth_without (option_map (λ name. name.now) plan.entry) at (map string_bytes words.now) ≡ Err bad.at) }
+    ensures near { IfOk result (λ begun. begun.1 ≤ at + 2) }
+{
+    match plan {
+        Some(_) => Ok((USUAL_DEPTH, at, words)),
+        None => depth_and_rest(at, words),
+    }
+}
+
+// Whether the words from a place on begin with an option that has no value, the place of the first word after it, and the words from
+// there on.
+fn option_and_rest<'a>(option: &str, at: usize, words: &'a [String]) -> (bool, usize, &'a [String])
+    requires { at ≤ 8 }
+    ensures value { option_and_rest option.now at (map string_bytes words.now) ≡ (result.0, result.1, map string_bytes result.2.now) }
     ensures near { result.1 ≤ at + 1 }
 {
     let [word, behind @ ..] = words else {
         return (false, at, words);
     };
-    if word.as_str() == "--adapt" {
+    if word.as_str() == option {
         (true, at + 1, behind)
     } else {
         (false, at, words)
+    }
+}
+
+// Whether the flushes are left out, which the words from a place on may say only right after the file of `--save`; the place of the first
+// word after that, and the words from there on.
+fn unflushed_after<'a>(
+    save: Option<&str>,
+    at: usize,
+    words: &'a [String],
+) -> (bool, usize, &'a [String])
+    requires { at ≤ 8 }
+    ensures value { unflushed_after (option_map (λ name. name.now) save.entry) at (map string_bytes words.now)
+        ≡ (result.0, result.1, map string_bytes result.2.now) }
+    ensures near { result.1 ≤ at + 1 }
+{
+    match save {
+        Some(_) => option_and_rest("--unflushed", at, words),
+        None => (false, at, words),
     }
 }
 
@@ -234,7 +281,7 @@ fn file_after<'a>(
     at: usize,
     words: &'a [String],
 ) -> Result<(Option<&'a str>, usize, &'a [String]), BadWords>
-    requires { at ≤ 6 }
+    requires { at ≤ 9 }
     ensures value { MatchResult result
         (λ begun. file_after option.now job.now (option_map (λ name. name.now) plan.entry) at (map string_bytes words.now) ≡ Ok
         (option_map (λ name. name.now) begun.0, begun.1, map string_bytes begun.2.now))
@@ -278,22 +325,35 @@ fn depth_after(options: &[String]) -> Result<Depth, BadWords>
         (λ depth. depth_after (map string_bytes options.now) ≡ Ok depth.levels)
         (λ bad. depth_after (map string_bytes options.now) ≡ Err bad.at) }
 {
-    let [option, values @ ..] = options else {
-        return Ok(USUAL_DEPTH);
-    };
-    if option.as_str() != "--depth" {
-        return Err(BadWords { at: 2 });
-    }
-    let [value, others @ ..] = values else {
-        return Err(BadWords { at: 3 });
-    };
-    let Some(depth) = depth_of(value.as_str().as_bytes()) else {
-        return Err(BadWords { at: 3 });
-    };
+    let (depth, at, others) = depth_and_rest(2, options)?;
     if !others.is_empty() {
-        return Err(BadWords { at: 4 });
+        return Err(BadWords { at });
     }
     Ok(depth)
+}
+
+// The depth that the words from a place on begin with, or the usual one; the place of the first word after it, and the words from there
+// on.
+fn depth_and_rest(at: usize, words: &[String]) -> Result<(Depth, usize, &[String]), BadWords>
+    requires { at ≤ 3 }
+    ensures value { MatchResult result
+        (λ begun. depth_and_rest at (map string_bytes words.now) ≡ Ok (begun.0.levels, begun.1, map string_bytes begun.2.now))
+        (λ bad. depth_and_rest at (map string_bytes words.now) ≡ Err bad.at) }
+    ensures near { IfOk result (λ begun. begun.1 ≤ at + 2) }
+{
+    let [option, values @ ..] = words else {
+        return Ok((USUAL_DEPTH, at, words));
+    };
+    if option.as_str() != "--depth" {
+        return Ok((USUAL_DEPTH, at, words));
+    }
+    let [value, others @ ..] = values else {
+        return Err(BadWords { at: at + 1 });
+    };
+    let Some(depth) = depth_of(value.as_str().as_bytes()) else {
+        return Err(BadWords { at: at + 1 });
+    };
+    Ok((depth, at + 2, others))
 }
 
 // The names of a job and a plan that the words behind a command begin with, and the words behind them.
