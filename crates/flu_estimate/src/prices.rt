@@ -1,8 +1,9 @@
 //! What the steps of a run cost, in nanoseconds.
 //!
-//! `bench/measure_prices.sh` measures them, and `docs/PERFORMANCE.md`, "Rounds without a plan", has what it found on four processors
-//! beside other work. Those of the tree are set above what was measured with few workers, so that a round is folded where it is close:
-//! what a worker waits grows where there are more workers than processors, or other programs. Only their ratios count.
+//! `bench/measure.py prices PROGRAM` measures them, and `docs/PERFORMANCE.md`, "Rounds without a plan", has what it found on four
+//! processors beside other work, next to these. Most of those of the tree are set above what was measured with few workers, so that a round
+//! is folded where it is close: what a worker waits grows if there are more workers than processors, or other programs. Only the ratios
+//! of the prices count.
 
 /// An event in the fold, without its actions: it is merged with the others, and its kind is looked up.
 pub(crate) const EVENT: u64 = 70;
@@ -13,7 +14,7 @@ pub(crate) const ACTION: u64 = 20;
 /// A node of an expression.
 pub(crate) const TERM: u64 = 3;
 
-/// A piece of a text that is put out.
+/// A piece of a text that is emitted.
 pub(crate) const PIECE: u64 = 30;
 
 /// An event at a worker in place of the fold, without its actions: the worker's turn, in which it looks for its next event.
