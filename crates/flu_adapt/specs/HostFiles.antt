@@ -2,10 +2,10 @@
 use Rattle.std.specs.Prelude.{ℕ}
 use Rattle.flu_adapt.specs.declared.host_files.HostFiles.{HostFiles}
 
--- how often the taking of a name failed
+-- how often a take of a name failed
 abbrev pub count_of : {R A F : Type 0} → HostFiles R A F → ℕ
 count_of f = f.faults
 
--- how often the putting of a name failed
+-- how often a put of a name failed
 abbrev pub put_count_of : {R A F : Type 0} → HostFiles R A F → ℕ
 put_count_of f = f.put_faults

@@ -16,7 +16,7 @@ use std::fs::OpenFile;
 use std::io::{ErrorKind, Read};
 use std::{fs, io, rt};
 
-/// The failure of a name, as the system tells it.
+/// The failure of a name, as the system reports it.
 #[derive(Drop)]
 pub struct FileFailure {
     /// The name that was to be opened, read or written.
@@ -25,21 +25,21 @@ pub struct FileFailure {
     pub error: io::Error,
 }
 
-/// What a program that is called tells its files.
+/// What a program that is called tells its files about the call.
 #[derive(Drop)]
 pub struct ProgramCall {
-    /// The number of the process, which no other that runs on the machine has.
+    /// The number of the process, which no other process on the machine has.
     pub process: u32,
-    /// The name of a file that is taken from and may be put over by another name too, as the checkpoint that a run goes on from.
+    /// The name of a file that is taken from and may be replaced by another name too, such as the checkpoint that a run resumes from.
     pub resumed: Option<String>,
-    /// Whether a put waits for no device: it then flushes neither standard output nor what it writes.
+    /// Whether a put flushes nothing: it then flushes neither standard output nor what it writes, and waits for no device.
     pub unflushed: bool,
 }
 
-/// Files of the system, each opened when it is first taken from, and kept open until it is put. They tell nothing of what they hold.
+/// Files of the system, each opened when it is first taken from, and kept open until it is put. Nothing is known of what they hold.
 ///
-/// Contracts see how often a name failed to be taken (`count_of` of `specs/HostFiles.antt`) and to be put (`put_count_of`); all names
-/// share one count of each kind.
+/// Contracts see how often a take of a name failed (`count_of` of `specs/HostFiles.antt`) and how often a put failed (`put_count_of`); all
+/// names share one count of each kind.
 #[derive(Drop)]
 pub struct HostFiles<R: rt::Files + AllocGlobal> {
     rt: R,
@@ -84,7 +84,7 @@ impl<R: rt::Files + AllocGlobal> HostFiles<R> {
         files
     }
 
-    /// The last failure of a name. None where no name has failed, and where no memory was left to keep the name.
+    /// The last failure of a name. None if no name has failed, or if no memory was left to keep the name.
     pub fn last_failure(&self) -> Option<&FileFailure> {
         self.last.as_ref()
     }
@@ -114,7 +114,7 @@ impl<R: rt::Files + AllocGlobal> HostFiles<R> {
         }
     }
 
-    // Puts the file of a name, behind what was written to standard output.
+    // Puts the file of a name, after what was written to standard output.
     fn put_now(&self, name: &str, bytes: &[u8]) -> Result<(), Unput> {
         let open = self.open_files(name)?;
         if let Ok(there) = self.rt.metadata(name) {
@@ -143,7 +143,7 @@ impl<R: rt::Files + AllocGlobal> HostFiles<R> {
         Ok(())
     }
 
-    // The files that are open by other names than this one, and that of standard output.
+    // The files that are open by other names than this one, and the file of standard output.
     fn open_files(&self, name: &str) -> Result<Vec<FileId>, AllocError> {
         let mut open = Vec::new(self.rt.alloc());
         for (other, file) in self.opened.iter() {
@@ -192,7 +192,7 @@ impl<R: rt::Files + AllocGlobal> Files for HostFiles<R> {
         ensures counts { count_of self.old ≤ count_of self.new }
         ensures puts { put_count_of self.new ≡ put_count_of self.old }
 
-        // Each failure is counted, up to the last number, and want of memory is none.
+        // Each failure is counted, up to the greatest number, and running out of memory is no failure.
         ensures raised { IsErrOf result TakeFault.Failed → count_of self.new ≡ min (count_of self.old + 1) (2 ^ 64 - 1) }
         ensures no_memory { IsErrOf result TakeFault.NoMemory → count_of self.new ≡ count_of self.old }
     {
@@ -211,15 +211,15 @@ impl<R: rt::Files + AllocGlobal> Files for HostFiles<R> {
         taken
     }
 
-    /// Writes the file whole, in place of the one that is there, so that whoever is stopped in the middle leaves the old one or the new
-    /// one, where it is a plain file (`replacing.rt`). The next take of it begins at its front. A plain file that another name was taken
+    /// Writes the whole file, in place of the one that is there, so that if the process is stopped in the middle the old one or the new
+    /// one is left, if it is a plain file (`replacing.rt`). The next take of it begins at its front. A plain file that another name was taken
     /// from, or that is standard output, is refused.
     fn put(&mut self, name: &str, bytes: Vec<u8>) -> Result<(), PutFault>
         ensures quiet { OnOk result (put_count_of self.new ≡ put_count_of self.old) }
         ensures counts { put_count_of self.old ≤ put_count_of self.new }
         ensures takes { count_of self.new ≡ count_of self.old }
 
-        // Each failure is counted, up to the last number, and want of memory is none.
+        // Each failure is counted, up to the greatest number, and running out of memory is no failure.
         ensures raised { IsErrOf result PutFault.Failed → put_count_of self.new ≡ min (put_count_of self.old + 1) (2 ^ 64 - 1) }
         ensures no_memory { IsErrOf result PutFault.NoMemory → put_count_of self.new ≡ put_count_of self.old }
     {
@@ -268,7 +268,7 @@ impl From<Unreplaced> for Unput {
     }
 }
 
-// A failure with its name, where there is memory for the name.
+// A failure with its name, if there is memory for the name.
 fn failure_of(alloc: Global, name: &str, error: io::Error) -> Option<FileFailure> {
     let name = String::from_str(alloc, name).ok()?;
     Some(FileFailure { name, error })
@@ -297,7 +297,7 @@ fn read_some<F: Read>(
     }
 }
 
-/// One read, tried again where a signal interrupts it.
+/// One read, retried if a signal interrupts it.
 pub(crate) fn read_once<F: Read>(file: &mut F, buf: &mut [u8]) -> io::Result<usize>
     ensures bytes { ReadConsumes (F.remaining file.old) (F.remaining file.new) result buf.new }
     ensures bound { IfOk result (λ n. n ≤ length buf.old) }

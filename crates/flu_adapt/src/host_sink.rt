@@ -8,7 +8,7 @@ use flu_outside::{Failed, Sink};
 use std::io;
 use std::io::Write;
 
-/// A writer of the system, as standard output. It tells nothing of what it took.
+/// A writer of the system, such as standard output. Nothing is known of what it took.
 ///
 /// Contracts see the writer (`writer_of` of `specs/HostSink.antt`) and how often it failed (`count_of`).
 #[derive(Drop)]
@@ -33,7 +33,7 @@ impl<W: Write> HostSink<W> {
         }
     }
 
-    /// What the writer said when it last failed. None where it has not, and where it took no byte without a reason.
+    /// What the writer said when it last failed. None if it has not, or if it took no byte and gave no reason.
     pub fn last_failure(&self) -> Option<io::Error> {
         self.last
     }
@@ -55,10 +55,10 @@ impl<W: Write> Sink for HostSink<W> {
         ensures failed { OnErr result (Rose (count_of self.old) (count_of self.new)) }
         ensures counts { count_of self.old ≤ count_of self.new }
 
-        // The writer has taken what the answer says, where it tells what it holds.
+        // The writer has taken what the answer says, if it is known what it holds.
         ensures passes { WriteAppends (W.contents (writer_of self.old)) (W.contents (writer_of self.new)) result bytes.now }
 
-        // Each failure is counted, up to the last number.
+        // Each failure is counted, up to the greatest number.
         ensures raised { OnErr result (count_of self.new ≡ min (count_of self.old + 1) (2 ^ 64 - 1)) }
     {
         match self.writer.write(bytes) {

@@ -1,4 +1,4 @@
-//! Real files and writers as the program sees them. They tell nothing of what they hold, only how often they failed.
+//! Real files and writers as the program sees them. Nothing is known of what they hold, only how often they failed.
 #![tactic(auto)]
 
 mod host_files;

@@ -1,4 +1,4 @@
-//! Files that get other bytes, so that whoever is stopped in the middle, the system too, leaves the old ones or the new ones.
+//! Files that are replaced so that, if the process or the system is stopped in the middle, the old bytes or the new ones are left.
 
 use crate::same_file::{FileId, id_of};
 use crate::standard::check_length;
@@ -12,7 +12,7 @@ use std::{fs, io, rt};
 /// The mode bits that say who may read, write and run a file.
 const ACCESS_BITS: u32 = 0o777;
 
-/// Who may read and write a file that was not there, before the process's mask.
+/// Who may read and write a file that was not there, before the process's mask is applied.
 const USUAL_ACCESS: u32 = 0o666;
 
 /// Why a file did not get its bytes.
@@ -35,14 +35,14 @@ impl From<io::Error> for Unreplaced {
     }
 }
 
-/// What a file is replaced by: its new bytes, and what the file beside it has to do with others.
+/// What a file is replaced by: its new bytes, and how the file beside it relates to others.
 #[derive(Clone, Copy)]
 pub(crate) struct Replacing<'t> {
     /// The new bytes.
     pub bytes: &'t [u8],
-    /// The number of the process, which stands in the name of the file beside.
+    /// The number of the process, which is part of the name of the file beside.
     pub process: u32,
-    /// The files that the process has open, none of which is taken away.
+    /// The files that the process has open, none of which is removed.
     pub open: &'t [FileId],
     /// The greatest length of a plain file, in bytes.
     pub limit: Option<u64>,
@@ -50,11 +50,11 @@ pub(crate) struct Replacing<'t> {
     pub unflushed: bool,
 }
 
-/// Gives the file of a name new bytes, in place of those that it has, and answers once they are on its device, unless it is unflushed.
+/// Gives the file of a name new bytes, in place of those that it has, and returns once they are on its device, unless it is unflushed.
 ///
 /// A plain file is written beside the one that is there, under a name that no file has, `NAME.flumina-new-PROCESS`; it is flushed to
-/// its device, and then takes that one's place, with its mode and its owner. Where the name is a link, that is done to the file
-/// that it leads to. What can't be replaced so, a device or a pipe, is written where it is, and so is what a link leads to that is not there.
+/// its device, and then takes that one's place, with its mode and its owner. If the name is a link, this is done to the file
+/// that it leads to. What can't be replaced like this, a device or a pipe, is written in place, and so is a link's target that is not there.
 pub(crate) fn replace<R: rt::Files + AllocGlobal>(
     rt: &R,
     name: &str,
@@ -84,14 +84,14 @@ fn replace_linked<R: rt::Files + AllocGlobal>(
     }
 }
 
-// Writes a device or a pipe, and flushes it where it can be.
+// Writes a device or a pipe, and flushes it if it can be flushed.
 fn write_in_place<R: rt::Files>(rt: &R, name: &str, new: Replacing) -> io::Result<()> {
     let mut file = fs::create(rt, name)?;
     file.write_all(new.bytes)?;
     flush(&file, new.unflushed)
 }
 
-// Flushes a file to its device, unless it is to be left unflushed. What has no device to be flushed to, as a pipe, is let be.
+// Flushes a file to its device, unless it has to be left unflushed. What has no device to be flushed to, such as a pipe, is skipped.
 fn flush<F: OpenFile>(file: &F, unflushed: bool) -> io::Result<()> {
     if unflushed {
         return Ok(());
@@ -170,8 +170,8 @@ fn is_left<R: rt::Files>(rt: &R, name: &str, open: &[FileId]) -> bool {
     }
 }
 
-// Gives a new file its owner, its mode and its bytes, and flushes it, unless it is to be left unflushed. What `close` would tell,
-// `sync_all` has told before.
+// Gives a new file its owner, its mode and its bytes, and flushes it, unless it has to be left unflushed. What `close` would report,
+// `sync_all` has reported before.
 fn fill<R: rt::Files>(
     rt: &R,
     file: &mut R::File,
@@ -213,7 +213,7 @@ fn take_away<R: rt::Files>(rt: &R, file: &R::File, beside: &str) {
     }
 }
 
-// Whether a name is still that of an open file.
+// Whether a name is still the name of an open file.
 fn is_still<R: rt::Files>(rt: &R, file: &R::File, name: &str) -> bool {
     match (file.metadata(), rt.symlink_metadata(name)) {
         (Ok(own), Ok(there)) => id_of(&own) == id_of(&there),

@@ -1,9 +1,9 @@
-//! Which names are of one file.
+//! Which names are names of one file.
 
 use std::fs::Metadata;
 use std::os::unix::fs::MetadataExt;
 
-/// What tells a file from each other one, whatever its names: its device, and its number there.
+/// What distinguishes a file from every other one, whatever its names: its device, and its number there.
 #[derive(Clone, Copy, PartialEq, Eq, Drop)]
 pub(crate) struct FileId {
     device: u64,

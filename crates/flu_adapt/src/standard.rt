@@ -1,4 +1,4 @@
-//! Standard output and standard error, as a program that is not to be ended by them writes them.
+//! Standard output and standard error, written so that they do not end the program.
 
 ghost use Rattle.std.specs.Io.KnownBytes.{WriteAppends, Keeps};
 ghost use Rattle.std.specs.Io.{WritesAtMost};
@@ -11,7 +11,7 @@ use std::thread::Parker;
 use std::time::Duration;
 use std::{fs, io, rt};
 
-/// What the system says where a file would be longer than the process may make one, `EFBIG` of Linux.
+/// What the system says if a file would be longer than the process may make one, `EFBIG` of Linux.
 const FILE_TOO_LARGE: i32 = 27;
 
 /// The longest pause between two tries of a write that finds a stream full, in milliseconds.
@@ -35,7 +35,7 @@ impl Standard {
         }
     }
 
-    // The name of the file that tells where its next write begins.
+    // The name of the file that says where its next write begins.
     fn position_file(self) -> &'static str {
         match self {
             Standard::Output => "/proc/self/fdinfo/1",
@@ -44,16 +44,16 @@ impl Standard {
     }
 }
 
-/// A standard stream. A write waits where the stream does not block and is full, and goes on where a signal interrupts it. Where a plain
-/// file has no room up to the process's limit of a file's length, it fails: the system would end the process there.
+/// A standard stream. A write waits if the stream does not block and is full, and continues if a signal interrupts it. If a plain
+/// file has no room left below the process's limit on a file's length, it fails: the system would end the process there.
 #[derive(Drop)]
 pub struct StandardStream<R: rt::Files + Wait, W: Write + Drop> {
     rt: R,
     which: Standard,
     writer: W,
-    // The length of the file where nothing was written to it yet: a write that appends begins there.
+    // The length of the file while nothing was written to it yet: a write that appends begins there.
     length: Option<u64>,
-    // The greatest length of a plain file; none where the stream is no plain file, or there is no limit.
+    // The greatest length of a plain file; none if the stream is no plain file, or there is no limit.
     limit: Option<u64>,
 }
 
@@ -77,7 +77,7 @@ impl<R: rt::Files + Wait, W: Write + Drop> StandardStream<R, W> {
         }
     }
 
-    // How many bytes may be written before the file is as long as it may be. An error where there is a limit, and it is not told where
+    // How many bytes may be written before the file is as long as it may be. An error if there is a limit, and it is not known where
     // the next write begins.
     fn room(&self) -> io::Result<usize> {
         let Some(limit) = self.limit else {
@@ -105,7 +105,7 @@ impl<R: rt::Files + Wait, W: Write + Drop> Write for StandardStream<R, W> {
     }
 }
 
-// One write, tried again where a signal interrupts it, and where the stream is full and does not block, until it has room.
+// One write, retried if a signal interrupts it, and, if the stream is full and does not block, until it has room.
 fn write_waiting<R: Wait, W: Write>(rt: &R, writer: &mut W, buf: &[u8]) -> io::Result<usize>
     ensures bound { WritesAtMost result buf.now }
 {
@@ -123,7 +123,7 @@ fn write_waiting<R: Wait, W: Write>(rt: &R, writer: &mut W, buf: &[u8]) -> io::R
     Err(io::Error::from(ErrorKind::TimedOut))
 }
 
-/// The error if a plain file of so many bytes is longer than a limit.
+/// The error if a plain file of this many bytes is longer than a limit.
 pub(crate) fn check_length(length: usize, limit: Option<u64>) -> io::Result<()> {
     match limit {
         Some(limit) if limit < length as u64 => {
@@ -133,8 +133,8 @@ pub(crate) fn check_length(length: usize, limit: Option<u64>) -> io::Result<()> 
     }
 }
 
-/// Waits until what was written to standard output is on its device, where it is a plain file. What is none, as a pipe or a terminal, is
-/// let be, and so is what can't be told, where it is closed or the system has no `/proc`.
+/// Waits until what was written to standard output is on its device, if it is a plain file. Anything else, such as a pipe or a terminal, is
+/// skipped, and so is a stream of which nothing can be found out, because it is closed or the system has no `/proc`.
 pub(crate) fn flush_output<R: rt::Files>(rt: &R) -> io::Result<()> {
     let name = Standard::Output.file();
     match rt.metadata(name) {
@@ -144,7 +144,7 @@ pub(crate) fn flush_output<R: rt::Files>(rt: &R) -> io::Result<()> {
     }
 }
 
-// Flushes a plain file, whoever wrote it: what any handle of a file flushes are the bytes of the file.
+// Flushes a plain file, whoever wrote it: flushing any handle of a file flushes the bytes of the file.
 fn flush_file<R: rt::Files>(rt: &R, name: &str) -> io::Result<()> {
     let file = open_to_flush(rt, name)?;
     for _ in 0..u64::MAX {
@@ -157,7 +157,7 @@ fn flush_file<R: rt::Files>(rt: &R, name: &str) -> io::Result<()> {
     Err(io::Error::from(ErrorKind::TimedOut))
 }
 
-// Opens a plain file that is there. One that may not be opened for writing, though the process was given it so, may be opened for reading.
+// Opens a plain file that is there: for reading if it may not be opened for writing, though the process was given it open for writing.
 fn open_to_flush<R: rt::Files>(rt: &R, name: &str) -> io::Result<R::File> {
     match fs::OpenOptions::new().write(true).open(rt, name) {
         Err(error) if error.kind() == ErrorKind::PermissionDenied => fs::open(rt, name),
@@ -165,7 +165,7 @@ fn open_to_flush<R: rt::Files>(rt: &R, name: &str) -> io::Result<R::File> {
     }
 }
 
-// Whether a flush failed since there is no device to flush to.
+// Whether a flush failed because there is no device to flush to.
 fn has_no_device(kind: ErrorKind) -> bool {
     match kind {
         ErrorKind::InvalidInput | ErrorKind::ReadOnlyFilesystem => true,

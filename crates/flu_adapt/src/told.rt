@@ -1,12 +1,12 @@
-//! What the system tells of the process, in files under `/proc/self`.
+//! What the system says about the process, in files under `/proc/self`.
 
 use crate::host_files::read_once;
 use std::{fs, io, rt, str};
 
-/// How many bytes of such a file are read. Its first lines are the ones that are asked for.
+/// How many bytes of such a file are read. What is looked for is in its first lines.
 const TOLD_ROOM: usize = 4_096;
 
-/// The greatest length that the process may give a file, in bytes. None where there is no limit, and where none is told.
+/// The greatest length that the process may give a file, in bytes. None if there is no limit, or if none is stated.
 pub(crate) fn length_limit<R: rt::Files>(rt: &R) -> Option<u64> {
     match told_number(rt, "/proc/self/limits", "Max file size") {
         Ok(limit) => limit,
@@ -14,7 +14,7 @@ pub(crate) fn length_limit<R: rt::Files>(rt: &R) -> Option<u64> {
     }
 }
 
-/// Where the next write of an open file begins, in bytes, unless it is appended to; `name` is that of the file that tells it, as
+/// Where the next write of an open file begins, in bytes, unless it is appended to; `name` is the name of the file that says so, such as
 /// `/proc/self/fdinfo/1`.
 pub(crate) fn position<R: rt::Files>(rt: &R, name: &str) -> io::Result<u64> {
     match told_number(rt, name, "pos:")? {
@@ -23,7 +23,7 @@ pub(crate) fn position<R: rt::Files>(rt: &R, name: &str) -> io::Result<u64> {
     }
 }
 
-// The number behind a label. None where the label is not there, or no number is behind it.
+// The number after a label. None if the label is not there, or no number comes after it.
 fn told_number<R: rt::Files>(rt: &R, name: &str, label: &str) -> io::Result<Option<u64>> {
     let mut file = fs::open(rt, name)?;
     let mut bytes = [0u8; TOLD_ROOM];

@@ -37,7 +37,7 @@ pub data MeansDeed (text : List ℕ) (families : List Family) (keyed has_value :
   means_flush : (name s : WrittenSpan) (number : ℕ) (ps : List Piece) → MeansKeyedFamily text families name number
       → MeansTemplate text families keyed has_value true s ps → MeansDeed text families keyed has_value (Flushes name s) (Flushing number ps)
 
--- an action means what it does, and its guard where it has one
+-- an action means what it does, and its guard if it has one
 pub record MeansAction (text : List ℕ) (families : List Family) (keyed has_value : Bool) (written : Action) (action : PlainAction) : Type 0 where
   pub act : MeansDeed text families keyed has_value written.deed action.act
   pub guard : IfWritten (MeansExpression text families keyed has_value) written.guard action.guard

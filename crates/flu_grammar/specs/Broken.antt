@@ -1,4 +1,4 @@
--- Which rule a part of a written job breaks where a fault is told of it: each fault comes by one of these rules, and at that place.
+-- Which rule a part of a written job breaks if a fault is reported for it: each fault comes by one of these rules, and at that place.
 use Rattle.std.specs.Prelude.{◌≡◌, ◌≢◌, ◌<◌, ◌≤◌, ◌||◌, ◌+◌, ℕ, Bool, true, false, List, length, Option, Some, None, slice_get}
 use Rattle.flu_model.specs.declared.limits.What.TheVariants.{Key, Height, Actions}
 use Rattle.flu_model.specs.declared.jobs.Sort.{Sort}
@@ -36,14 +36,14 @@ pub record IsFamily (text : List ℕ) (families : List Family) (written : Writte
 
 -- ---- cells
 
--- whether brackets stand behind a cell's name
+-- whether there are brackets after a cell's name
 abbrev pub has_brackets : WrittenKey → Bool
 has_brackets k.Alone = false
 has_brackets (k.OwnKey place) = true
 has_brackets (k.Fixed n) = true
 
 pub data BreaksKey (kind_keyed : Bool) : WrittenKey → JobFault → Type 0 where
-  -- `key` stands only under a keyed kind
+  -- `key` may only be used under a keyed kind
   key_of_unkeyed : (place : ℕ) → kind_keyed ≡ false → BreaksKey kind_keyed (k.OwnKey place) (j.WrongShape place)
   -- a key is at most 65,535
   key_too_great : (n : WrittenNumber) → key_count ≤ written_value n.value → BreaksKey kind_keyed (k.Fixed n) (j.OverLimit Key (written_value n.value))
@@ -62,7 +62,7 @@ pub data BreaksCell (text : List ℕ) (families : List Family) (kind_keyed : Boo
 -- ---- expressions
 
 pub data BreaksTerm (text : List ℕ) (families : List Family) (keyed has_value : Bool) : Tree → JobFault → Type 0 where
-  -- `value` stands only under an `int` kind, and `key` under a keyed one
+  -- `value` may only be used under an `int` kind, and `key` under a keyed one
   value_of_none : (at : ℕ) → has_value ≡ false → BreaksTerm text families keyed has_value (ValueTree at) (j.WrongShape at)
   key_of_unkeyed_kind : (at : ℕ) → keyed ≡ false → BreaksTerm text families keyed has_value (KeyTree at) (j.WrongShape at)
   in_read : (r : WrittenRef) (fault : JobFault) → BreaksCell text families keyed None r fault
@@ -85,7 +85,7 @@ pub data BreaksExpression (text : List ℕ) (families : List Family) (keyed has_
   -- the height is at most 32
   too_high : 32 < height e → BreaksExpression text families keyed has_value e (j.OverLimit Height 33)
 
--- ---- templates: all faults stand at the text's place
+-- ---- templates: all faults are at the text's place
 
 pub data BreaksPiece (text : List ℕ) (families : List Family) (keyed has_value in_flush : Bool) : WrittenPiece → Type 0 where
   piece_value : has_value ≡ false → BreaksPiece text families keyed has_value in_flush w.Value
@@ -98,7 +98,7 @@ pub data BreaksTemplate (text : List ℕ) (families : List Family) (keyed has_va
   -- a field before the first brace that has no partner names no family
   field_unknown : (i : ℕ) (r : WrittenRef) → slice_get (template_at text in_flush s).pieces i ≡ Some (w.Read r)
       → NoneIsNamed family_name families (name_of text r.family) → BreaksTemplate text families keyed has_value in_flush s (j.UnknownName s.from)
-  -- the template is no row of plain pieces and fields: a brace has no partner, or a field no form
+  -- the template is no sequence of plain pieces and fields: a brace has no partner, or a field no form
   no_pieces : ((parts : List WrittenPiece) → AreCut text in_flush true (s.from + 1) (inside text s) parts → ⊥)
       → BreaksTemplate text families keyed has_value in_flush s (j.WrongShape s.from)
   wrong_piece : (parts : List WrittenPiece) → AreCut text in_flush true (s.from + 1) (inside text s) parts

@@ -54,7 +54,7 @@ listed_itags tags = sum_by (λ (t : WrittenTag). tag_count t.keys) tags
 abbrev pub itags_in : Declarations → ℕ
 itags_in ds = sum_by (λ (s : WrittenSource). listed_itags s.tags) (flat_map sources_in ds)
 
--- an earlier part of the list has a tag of this one
+-- an earlier part of the list has one of the tags of this one
 pub record IsListedTwice (text : List ℕ) (kinds : List DeclaredKind) (earlier : List WrittenTag) (t : WrittenTag) : Type 0 where
   pub place : ℕ
   pub other : WrittenTag
@@ -65,7 +65,7 @@ pub record IsListedTwice (text : List ℕ) (kinds : List DeclaredKind) (earlier 
   pub means : MeansTag text kinds other tag
   pub shared : share_tag (record { kind = kind; keys = written_keys t.keys }) tag ≡ true
 
--- so many itags are listed before the list of tags, and these tags in it before this one
+-- this many itags are listed before the list of tags, and these tags in it before this one
 pub data BreaksTag (text : List ℕ) (kinds : List DeclaredKind) (itags : ℕ) (earlier : List WrittenTag) (t : WrittenTag) : JobFault → Type 0 where
   tag_unknown : NoneIsNamed declared_name kinds (name_of text t.kind) → BreaksTag text kinds itags earlier t (j.UnknownName t.kind.from)
   -- a keyed kind has brackets and another has none
@@ -86,7 +86,7 @@ pub data BreaksDeclaration (text : List ℕ) (all before : Declarations) : Decla
       → BreaksDeclaration text all before (Depends a b relation) (j.UnknownName a.from)
   second_unknown : (a b : WrittenSpan) (relation : WrittenRelation) → NoneIsNamed declared_name (flat_map (kinds_in text) all) (name_of text b)
       → BreaksDeclaration text all before (Depends a b relation) (j.UnknownName b.from)
-  -- `same` stands only between two keyed kinds
+  -- `same` may only be used between two keyed kinds
   same_of_unkeyed : (a b : WrittenSpan) (at i k : ℕ) (x : MeansKind text (flat_map (kinds_in text) all) a i)
       (y : MeansKind text (flat_map (kinds_in text) all) b k)
       → (x.kind.keyed && y.kind.keyed) ≡ false → BreaksDeclaration text all before (Depends a b (r.Same at)) (j.WrongShape at)

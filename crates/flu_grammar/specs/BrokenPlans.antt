@@ -71,7 +71,7 @@ abbrev pub placed_names : List ℕ → List WrittenNode → List (List ℕ)
 placed_names text [] = []
 placed_names text (root ∷ nodes) = name_of text root.name ∷ flat_map (child_names text) (root ∷ nodes)
 
--- the name stands twice there: a child is the root or was a child before
+-- the name occurs twice there: a child is the root or was a child before
 pub record IsChildTwice (text : List ℕ) (nodes : List WrittenNode) (name : List ℕ) : Type 0 where
   pub first : ℕ
   pub second : ℕ
@@ -88,7 +88,7 @@ pub data BreaksPlan (program : Program) (text : List ℕ) (nodes : List WrittenN
   in_node : (i : ℕ) (w : WrittenNode) (fault : PlanFault) → slice_get nodes i ≡ Some w → BreaksNode program text nodes w fault
       → BreaksPlan program text nodes fault
   child_twice : (name : List ℕ) → IsChildTwice text nodes name → BreaksPlan program text nodes (p.NotATree name)
-  -- a node that is not met on the way from the root through children
+  -- a node that is not reached from the root through children
   not_below : (drafts : List DraftNode) (v : ℕ) (w : WrittenNode) → AreDrafts program text nodes drafts → slice_get nodes v ≡ Some w
       → is_met (preorder drafts) v ≡ false → BreaksPlan program text nodes (p.NotATree (name_of text w.name))
   -- at most 127 nodes, 4,096 predicates and depth 6

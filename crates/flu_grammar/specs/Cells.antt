@@ -16,7 +16,7 @@ use Rattle.flu_layout.specs.Spelling.{name_of, written_value}
 abbrev pub IsKey : WrittenNumber → ℕ → Type 0
 IsKey n key = (key ≡ written_value n.value) × (key < key_count)
 
--- A keyed family has brackets and another has none; in them stands a number, or `key`, under a keyed kind alone.
+-- A keyed family has brackets and another has none; in them is a number or, under a keyed kind only, `key`.
 abbrev pub MeansKey : Bool → Bool → WrittenKey → At → Type 0
 MeansKey family_keyed kind_keyed k.Alone at.Alone = family_keyed ≡ false
 MeansKey family_keyed kind_keyed (k.OwnKey place) at.OwnKey = (family_keyed ≡ true) × (kind_keyed ≡ true)

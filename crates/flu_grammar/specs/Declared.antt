@@ -9,7 +9,7 @@ use Rattle.flu_syntax.specs.declared.tree.WrittenRelation.{WrittenRelation}
 use Rattle.flu_syntax.specs.Tree.{Declaration, Cell, Tag, Depends, On, Source, Action}
 use Rattle.flu_layout.specs.Spelling.{name_of}
 
--- the name that a declaration gives: those of cells, tags and sources are one set
+-- the name that a declaration gives: the names of cells, tags and sources are one set
 abbrev pub names_in : List ℕ → Declaration → List (List ℕ)
 names_in text (Cell name keyed sort) = name_of text name ∷ []
 names_in text (Tag name keyed has_value) = name_of text name ∷ []

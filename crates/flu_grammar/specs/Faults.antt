@@ -68,7 +68,7 @@ pub record IsNotContinued (bytes : List ℕ) (at : ℕ) : Type 0 where
 abbrev pub UnexpectedIsNotContinued : Type 0
 UnexpectedIsNotContinued = (bytes : List ℕ) (at : ℕ) → (job_in bytes ≡ Err (j.Unexpected at)) ↔ IsNotContinued bytes at
 
--- a text of tokens, of which one that may follow opens the 65th parenthesis or unary operator
+-- a text of tokens, one of which may follow and opens the 65th parenthesis or unary operator
 pub record OpensTooMany (bytes : List ℕ) : Type 0 where
   pub text : IsShortText bytes
   pub tokens : List Token
@@ -84,7 +84,7 @@ TooManyAreOpen = (bytes : List ℕ) (count : ℕ) → (job_in bytes ≡ Err (j.O
 abbrev pub NoneIsNamed : {X : Type 0} → (X → List ℕ) → List X → List ℕ → Type 0
 NoneIsNamed {X} name_in xs name = (i : ℕ) (x : X) → slice_get xs i ≡ Some x → name_in x ≢ name
 
--- the place is that of the written name, and nothing has it
+-- the place is the place of the written name, and nothing has it
 pub record IsUnknown {X : Type 0} (name_in : X → List ℕ) (xs : List X) (text : List ℕ) (s : WrittenSpan) (at : ℕ) : Type 0 where
   pub here : at ≡ s.from
   pub unknown : NoneIsNamed name_in xs (name_of text s)
@@ -126,7 +126,7 @@ spans_in (Depends a b relation) = []
 spans_in (On kind actions) = []
 spans_in (SourceLine name file rate slack tags) = name ∷ []
 
--- The declaration of this name at this place is the first that gives a name which one before it gives.
+-- The declaration of this name at this place is the first that gives a name which an earlier one gives.
 pub record IsDeclaredTwice (text : List ℕ) (ds : Declarations) (at : ℕ) : Type 0 where
   pub before : Declarations
   pub again : Declaration
@@ -142,7 +142,7 @@ pub record IsDeclaredTwice (text : List ℕ) (ds : Declarations) (at : ℕ) : Ty
 abbrev pub TwiceNamedIsDeclaredTwice : Type 0
 TwiceNamedIsDeclaredTwice = (text : List ℕ) (ds : Declarations) (at : ℕ) → naming_of text ds ≡ Err (j.TwiceNamed at) → IsDeclaredTwice text ds at
 
--- An `on` of this kind at this place, where one of the declarations before it is an `on` of the same kind.
+-- An `on` of this kind at this place, with an `on` of the same kind among the declarations before it.
 pub record IsOnTwice (text : List ℕ) (before : Declarations) (kind : WrittenSpan) (at : ℕ) : Type 0 where
   pub here : at ≡ kind.from
   pub place : ℕ
@@ -153,7 +153,7 @@ TwiceNamedIsOnTwice =
     (text : List ℕ) (ds before : Declarations) (n : Naming) (x : Drafted) (kind : WrittenSpan) (actions : List Action) (at : ℕ) → naming_of text ds ≡ Ok n
     → draft_of text n before ≡ Ok x → with_on text n x kind actions ≡ Err (j.TwiceNamed at) → IsOnTwice text before kind at
 
--- This file text at this place, where a source before it has the same.
+-- This file text at this place, with a source before it that has the same.
 pub record IsFileTwice (text : List ℕ) (before : Declarations) (file : WrittenSpan) (at : ℕ) : Type 0 where
   pub here : at ≡ file.from
   pub place : ℕ
@@ -166,7 +166,7 @@ TwiceNamedIsFileTwice =
     (text : List ℕ) (ds before : Declarations) (n : Naming) (x : Drafted) (file : WrittenSpan) (at : ℕ) → naming_of text ds ≡ Ok n
     → draft_of text n before ≡ Ok x → file_of text x.sources file ≡ Err (j.TwiceNamed at) → IsFileTwice text before file at
 
--- This node is the first that has the name of one before it.
+-- This node is the first that has the name of an earlier one.
 pub record IsNodeTwice (text : List ℕ) (nodes : List WrittenNode) (name : List ℕ) : Type 0 where
   pub before : List WrittenNode
   pub again : WrittenNode

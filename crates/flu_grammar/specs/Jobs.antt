@@ -19,12 +19,12 @@ use Rattle.flu_grammar.specs.Actions.{MeansAction}
 use Rattle.flu_grammar.specs.Declared.{DeclaredKind, names_in, families_in, kinds_in, depends_in, ons_in, actions_in, sources_in}
 use Rattle.flu_grammar.specs.Sources.{MeansDepend, MeansSource}
 
--- version 1 or 2, and 1 where none is written
+-- version 1 or 2, and 1 if none is written
 abbrev pub MeansVersion : Option WrittenNumber → ℕ → Type 0
 MeansVersion None version = version ≡ 1
 MeansVersion (Some n) version = (version ≡ written_value n.value) × IsTrue (is_version version)
 
--- A declared kind is the job's kind of its name, with the actions that stand in its `on`, in their order, where it has one.
+-- A declared kind is the job's kind of its name, with the actions of its `on`, in their order, if it has one.
 pub record MeansDeclaredKind (text : List ℕ) (families : List Family) (declarations : Declarations) (declared : DeclaredKind) (kind : PlainKind) : Type 0 where
   pub name : kind.name ≡ declared.name
   pub keyed : kind.keyed ≡ declared.keyed
@@ -33,7 +33,7 @@ pub record MeansDeclaredKind (text : List ℕ) (families : List Family) (declara
   pub few_actions : length kind.actions ≤ 32
 
 -- The declarations mean these parts of a job, each in the order of the text. All names differ, each `on` is of a declared kind and
--- no two are of one, and no two sources read one file.
+-- no two are of the same one, and no two sources read the same file.
 pub record MeansJob (text : List ℕ) (written : WrittenJob) (job : Job) : Type 0 where
   pub version : MeansVersion written.version job.version
   pub own_names : AllDiffer (flat_map (names_in text) written.declarations)

@@ -18,7 +18,7 @@ use Rattle.flu_plan.specs.Reading.{plan_in}
 use Rattle.flu_grammar.specs.Plans.{IsPlanText}
 use Rattle.flu_grammar.specs.Jobs.{IsJobText}
 
--- the plan that is read of some bytes is the one that they are the text of
+-- the plan that is read from some bytes is the one whose text they are
 abbrev pub PlansAreGrammar : Type 0
 PlansAreGrammar = (p : Program) (bytes : List ℕ) (plan : List Node) → (plan_in p bytes ≡ Ok plan) ↔ IsPlanText p bytes plan
 
@@ -26,7 +26,7 @@ PlansAreGrammar = (p : Program) (bytes : List ℕ) (plan : List Node) → (plan_
 abbrev pub TextsHaveOnePlan : Type 0
 TextsHaveOnePlan = (p : Program) (bytes : List ℕ) (a b : List Node) → IsPlanText p bytes a → IsPlanText p bytes b → a ≡ b
 
--- the job that is read of some bytes is the one that they are the text of
+-- the job that is read from some bytes is the one whose text they are
 abbrev pub JobsAreGrammar : Type 0
 JobsAreGrammar = (bytes : List ℕ) (job : Job) → (job_in bytes ≡ Ok job) ↔ IsJobText bytes job
 
@@ -34,7 +34,7 @@ JobsAreGrammar = (bytes : List ℕ) (job : Job) → (job_in bytes ≡ Ok job) �
 abbrev pub TextsHaveOneJob : Type 0
 TextsHaveOneJob = (bytes : List ℕ) (a b : Job) → IsJobText bytes a → IsJobText bytes b → a ≡ b
 
--- the normal form of a job that keeps the rules is a text of that job, where it is not too long
+-- the normal form of a job that keeps the rules is a text of that job, if it is not too long
 abbrev pub NormalFormIsText : Type 0
 NormalFormIsText =
     (version : ℕ) (families : List Family) (kinds : List Kind) (depends : List Depend) (sources : List Source)
@@ -47,7 +47,7 @@ NormalFormIsText =
 abbrev pub PrintedIsText : Type 0
 PrintedIsText = (p : Program) (plan : List Node) → PlanKeepsRules plan → IsTrue (has_text p plan) → IsPlanText p (printed p plan) plan
 
--- the job of a text keeps the rules of the language, wherever the boxes of its expressions lie
+-- the job of a text keeps the rules of the language, wherever the boxes of its expressions are in memory
 abbrev pub JobTextsKeepRules : Type 0
 JobTextsKeepRules =
     (bytes : List ℕ) (version : ℕ) (families : List Family) (kinds : List Kind) (depends : List Depend) (sources : List Source)

@@ -54,7 +54,7 @@ pub record MeansNode (p : Program) (text : List ℕ) (plan : List Node) (written
   pub preds : Pairs (MeansPred p text) written.preds node.preds
   pub kids : IfWritten (MeansKids text plan) written.kids node.kids
 
--- some element of a list is so
+-- some element of a list satisfies this
 abbrev pub HasSome : {X : Type 0} → List X → (X → Type 0) → Type 0
 HasSome {X} xs P = (i : ℕ) × (x : X) × (slice_get xs i ≡ Some x) × P x
 

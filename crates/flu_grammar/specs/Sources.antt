@@ -26,7 +26,7 @@ pub record MeansKind (text : List ℕ) (kinds : List DeclaredKind) (written : Wr
 
 -- ---- dependencies
 
--- `same` stands between two keyed kinds alone; else the relation is `all`
+-- `same` may only be used between two keyed kinds; else the relation is `all`
 abbrev pub MeansRelation : Bool → Bool → WrittenRelation → Bool → Type 0
 MeansRelation a_keyed b_keyed r.None same = same ≡ false
 MeansRelation a_keyed b_keyed r.All same = same ≡ false
@@ -50,7 +50,7 @@ pub record MeansTag (text : List ℕ) (kinds : List DeclaredKind) (written : Wri
   pub kind : MeansKind text kinds written.kind tag.kind
   pub keys : MeansListedKeys kind.kind.keyed written.keys tag.keys
 
--- a number of at most so many, or what is meant where none is written
+-- a number up to a limit, or what is meant if none is written
 abbrev pub MeansNumber : ℕ → ℕ → Option WrittenNumber → ℕ → Type 0
 MeansNumber default most None n = n ≡ default
 MeansNumber default most (Some w) n = (n ≡ written_value w.value) × (n ≤ most)

@@ -23,9 +23,9 @@ use Rattle.flu_grammar.specs.Cells.{MeansCell}
 abbrev pub no_brace : ℕ → Bool
 no_brace b = not (b == open_brace) && not (b == close_brace)
 
--- What stands between two braces, from one place to before another: `value`, `key` or `time`; in a flush `cell`; in an emit a
--- family's name, alone or with `key` or a number in brackets behind it. `bracket` is how far behind the name's begin the first
--- bracket stands.
+-- What is between two braces, from one place to before another: `value`, `key` or `time`; in a flush `cell`; in an emit a
+-- family's name, alone or with `key` or a number in brackets after it. `bracket` is how far after the name's beginning the first
+-- bracket is.
 pub data IsField (text : List ℕ) (in_flush : Bool) (from to : ℕ) : WrittenPiece → Type 0 where
   field_value : spelled text from to ≡ codes "value" → IsField text in_flush from to w.Value
   field_key : spelled text from to ≡ codes "key" → IsField text in_flush from to w.Key
@@ -45,8 +45,8 @@ pub data IsField (text : List ℕ) (in_flush : Bool) (from to : ℕ) : WrittenPi
         key = k.Fixed (record { value = pos (digits_value 10 (first ∷ more)); at = from + bracket + 1 });
       }))
 
--- From a place on, these bytes are plain bytes and fields in braces, one behind another: template = { plain | "{" field "}" }. No
--- plain piece follows another; none comes first where `plain_first` is false.
+-- From a place on, these bytes are plain bytes and fields in braces, one after another: template = { plain | "{" field "}" }. No
+-- plain piece follows another; none comes first if `plain_first` is false.
 pub data AreCut (text : List ℕ) (in_flush : Bool) : Bool → ℕ → List ℕ → List WrittenPiece → Type 0 where
   cut_none : (plain_first : Bool) (at : ℕ) → AreCut text in_flush plain_first at [] []
   cut_plain : (at b : ℕ) (more rest : List ℕ) (pieces : List WrittenPiece) → IsTrue (list_all no_brace (b ∷ more))
@@ -69,7 +69,7 @@ MeansPiece text families keyed has_value in_flush w.CellValue piece.CellValue = 
 MeansPiece text families keyed has_value in_flush (w.Read r) (piece.Read c) = MeansCell text families keyed None r c
 MeansPiece _ _ _ _ _ _ _ = ⊥
 
--- A template means its pieces, one by one. Its inside begins behind its quote.
+-- A template means its pieces, one by one. Its inside begins after its quote.
 pub record MeansTemplate (text : List ℕ) (families : List Family) (keyed has_value in_flush : Bool) (written : WrittenSpan) (pieces : List Piece) : Type 0 where
   pub parts : List WrittenPiece
   pub cut : AreCut text in_flush true (written.from + 1) (inside text written) parts

@@ -19,11 +19,11 @@ pub data MeansTerm (text : List ℕ) (families : List Family) (keyed has_value :
   means_key : (at : ℕ) → keyed ≡ true → MeansTerm text families keyed has_value (KeyTree at) EventKey
   -- `time` is the event's time
   means_time : (at : ℕ) → MeansTerm text families keyed has_value (TimeTree at) EventTime
-  -- a cell is what it holds, and `has` before it whether it is not neutral
+  -- a cell means what it holds, and `has` before it means whether it is not neutral
   means_read : (r : WrittenRef) (c : CellRef) → MeansCell text families keyed None r c → MeansTerm text families keyed has_value (ReadTree r) (CellRead c)
   means_held : (at : ℕ) (r : WrittenRef) (c : CellRef) → MeansCell text families keyed None r c
       → MeansTerm text families keyed has_value (HasTree at r) (CellHeld c)
-  -- parentheses mean what stands in them
+  -- parentheses mean what is in them
   means_inside : (at : ℕ) (e : Tree) (t : Term) → MeansTerm text families keyed has_value e t → MeansTerm text families keyed has_value (ParenTree at e) t
   -- a unary operator means itself, of what its operand means
   means_negative : (at : ℕ) (e : Tree) (t : Term) → MeansTerm text families keyed has_value e t

@@ -1,4 +1,4 @@
--- What job texts and plan texts have to be before they are looked at as tokens.
+-- What job texts and plan texts have to be before they are read as tokens.
 use Rattle.std.specs.Prelude.{◌≤◌, ℕ, List, length}
 use Rattle.std.specs.Str.{IsUtf8}
 

@@ -14,7 +14,7 @@ use flu_plan::laws::{found_is_plan, plans_keep_rules};
 use flu_syntax::laws::{found_is_job, too_deep_is_the_65th, unexpected_is_first};
 use flu_text::laws::{reading_is_exact, tokens_stand};
 
-/// The job that is read of some bytes is exactly the one that they are the text of, by the grammar and by what each part of it means.
+/// The job that is read from some bytes is exactly the one whose text they are, by the grammar and by what each part of it means.
 pub fn jobs_are_grammar()
     ensures { JobsAreGrammar }
 {
@@ -29,7 +29,7 @@ pub fn texts_have_one_job()
     jobs_are_grammar();
 }
 
-/// The plan that is read of some bytes is exactly the one that they are the text of, by the grammar and by what each part of it means.
+/// The plan that is read from some bytes is exactly the one whose text they are, by the grammar and by what each part of it means.
 pub fn plans_are_grammar()
     ensures { PlansAreGrammar }
 {
@@ -72,8 +72,8 @@ pub fn normal_forms_are_short()
     tokens_stand();
 }
 
-/// The normal form of the job that a text means is UTF-8: names, files and plain pieces of templates stand in the text between two of its characters, and
-/// all else that is printed is ASCII.
+/// The normal form of the job that a text means is UTF-8: names, files and plain pieces of templates are in the text between two of its
+/// characters, and all else that is printed is ASCII.
 pub fn normal_forms_are_utf8()
     ensures { NormalFormIsUtf8 }
 {}
@@ -87,7 +87,7 @@ pub fn refused_texts_are_none()
     plans_are_grammar();
 }
 
-/// What the faults of bytes, tokens and grammar say of the bytes in which they are found: each is found exactly where its rule is broken.
+/// What the faults of bytes, tokens and grammar say of the bytes in which they are found: each is found exactly if its rule is broken.
 pub fn faults_of_texts()
     ensures bytes { BytesAreTooMany }
     ensures utf8 { BytesAreNotUtf8 }
@@ -100,7 +100,7 @@ pub fn faults_of_texts()
     too_deep_is_the_65th();
 }
 
-/// Where a name is told to be unknown, nothing of that name is declared as what is needed there.
+/// If a name is reported to be unknown, nothing of that name is declared as what is needed there.
 pub fn unknown_names_are_not_declared()
     ensures family { FamilyIsUnknown }
     ensures kind { KindIsUnknown }
@@ -109,7 +109,7 @@ pub fn unknown_names_are_not_declared()
     ensures child { ChildIsUnknown }
 {}
 
-/// Where a name is told to be declared twice, an earlier declaration gives it, and no name before is declared twice; so it is with
+/// If a name is reported to be declared twice, an earlier declaration gives it, and no name before is declared twice; the same holds for
 /// the nodes of a plan, with an `on` of a kind, and with the file of a source.
 pub fn twice_named_is_declared_before()
     ensures job { TwiceNamedIsDeclaredTwice }
@@ -118,9 +118,9 @@ pub fn twice_named_is_declared_before()
     ensures plan { NoTreeIsNodeTwice }
 {}
 
-/// Each fault that is found in the bytes of a job, or of a plan, is by a rule that they break, at its place: an unknown name is needed there and declared
-/// nowhere, a wrong shape is one of the listed ones, a limit is passed, and what is named twice was named before. An unexpected token is none
-/// that opens the 65th parenthesis or unary operator, nor the other way round.
+/// Each fault that is found in the bytes of a job, or of a plan, is by a rule that they break, at its place: an unknown name is needed there
+/// and declared nowhere, a wrong shape is one of the listed ones, a limit is exceeded, and what is named twice was named before. An
+/// unexpected token is none that opens the 65th parenthesis or unary operator, nor the other way round.
 pub fn faults_are_by_rule()
     ensures job { FaultsAreByRule }
     ensures plan { PlanFaultsAreByRule }

@@ -5,7 +5,7 @@ use crate::places::push_line;
 use std::alloc::AllocError;
 use std::{rt, str};
 
-/// Where the kinds of the two tags of an answer's line are declared, as `flumina: conflict: ride[1] and day on rides[1]`, and the
+/// Where the kinds of the two tags in an answer's line such as `flumina: conflict: ride[1] and day on rides[1]` are declared, and the
 /// `depends` that makes the two dependent.
 pub fn conflict_hint<R: rt::Files + AllocGlobal>(
     rt: &R,
@@ -33,7 +33,7 @@ pub fn conflict_hint<R: rt::Files + AllocGlobal>(
     Ok(told)
 }
 
-// Puts the lines that declare two kinds behind a text, one line where they are one kind.
+// Appends the lines that declare two kinds to a text, one line if they are one kind.
 fn push_declarations<R: rt::Files + AllocGlobal>(
     rt: &R,
     told: &mut String,
@@ -77,7 +77,7 @@ fn tags_of(line: &str) -> Option<(&str, &str)> {
     Some((a, b))
 }
 
-// A tag's kind, and its key in digits where it has one.
+// A tag's kind, and its key in digits if it has one.
 fn kind_and_key(tag: &str) -> (&str, Option<&str>) {
     match tag.split_once('[') {
         Some((kind, key)) => (kind, Some(key)),

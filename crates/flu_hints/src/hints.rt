@@ -8,7 +8,7 @@ use crate::traces::trace_hint;
 use std::alloc::AllocError;
 use std::{fs, rt};
 
-/// The commands, where the words are none.
+/// The commands, if the words are no command.
 const USAGE: &str = "  flumina fold JOB
   flumina check JOB
   flumina valid JOB PLAN
@@ -23,10 +23,10 @@ const USAGE: &str = "  flumina fold JOB
 /// A file that is longer is not read again for a hint.
 const LONGEST_READ: u64 = 67_108_864;
 
-/// What helps a person who sees the line of an answer with this status; empty where nothing is known.
+/// What helps a person who sees the line of an answer with this status; empty if nothing is known.
 ///
 /// `failure` is what failed at 7, 8 or 12. At 3 to 6 files are read again by their names, so what a hint shows may have changed
-/// since. Only regular files are, and no long ones.
+/// since. Only regular files are read, and no long ones.
 pub fn hint<R: rt::Files + AllocGlobal>(
     rt: &R,
     words: &[String],
@@ -46,7 +46,7 @@ pub fn hint<R: rt::Files + AllocGlobal>(
     }
 }
 
-/// What a regular file holds that is not too long.
+/// The contents of a regular file that is not too long.
 pub fn text_of<R: rt::Files + AllocGlobal>(rt: &R, name: &str) -> Option<Vec<u8>> {
     let Ok(about) = fs::metadata(rt, name) else {
         return None;

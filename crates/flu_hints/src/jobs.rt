@@ -1,4 +1,4 @@
-//! The places at which a job passes the limits that its tree shows.
+//! The places at which a job exceeds the limits that its tree shows.
 
 use flu_syntax::{
     SyntaxFault, WrittenAct, WrittenAction, WrittenDeclaration, WrittenExpr, WrittenJob,
@@ -16,7 +16,7 @@ const MOST_ACTIONS: usize = 32;
 /// The greatest height of an expression.
 const MOST_LEVELS: u32 = 32;
 
-/// More than the halvings of any text's tokens.
+/// More than the number of halvings of any text's tokens.
 const HALVINGS: u32 = 32;
 
 /// The tags of a source with which there are too many itags.
@@ -33,7 +33,7 @@ pub fn itags_place(job: &WrittenJob) -> Option<usize> {
     None
 }
 
-// The first of some tags with which there are too many itags, where those before are counted.
+// The first of some tags with which there are too many itags, with those before counted.
 fn place_in_tags(tags: &[WrittenTag], itags: &mut i64) -> Option<usize> {
     for tag in tags {
         *itags = itags.saturating_add(itag_count(&tag.keys));
@@ -90,7 +90,7 @@ fn is_high(action: &WrittenAction) -> bool {
     !is_acting_low || !is_guard_low
 }
 
-// Whether an expression is at most so many levels high. No more than these are gone down.
+// Whether an expression is at most this many levels high. It goes down no further than these.
 fn is_within(expr: &WrittenExpr, levels: u32) -> bool {
     if levels == 0 {
         return false;
@@ -113,7 +113,7 @@ fn is_within(expr: &WrittenExpr, levels: u32) -> bool {
     }
 }
 
-/// The token that opens one parenthesis or unary operator too many: the first with which tokens are too deep.
+/// The token that opens one parenthesis or unary operator too many: the first with which the tokens are too deep.
 pub fn nesting_place(alloc: Global, found: &[Token], end: usize) -> Option<usize> {
     let mut low = 0usize;
     let mut high = found.len();

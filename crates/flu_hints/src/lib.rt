@@ -1,4 +1,4 @@
-//! What is written behind the line of an answer where a person reads it at a terminal. It claims nothing.
+//! What is written after the line of an answer if a person reads it at a terminal. Nothing is claimed of it.
 #![tactic(auto)]
 
 mod conflicts;

@@ -1,4 +1,4 @@
-//! The place at which a text passes the limit that the line of an answer names.
+//! The place at which a text exceeds the limit that the line of an answer names.
 
 use crate::jobs::{actions_place, height_place, itags_place, nesting_place};
 use crate::plans::{depth_place, predicates_place};
@@ -7,7 +7,7 @@ use flu_text::{Mark, Reserved, Token, Word, tokens};
 use std::alloc::Global;
 use std::str;
 
-/// The place in a text that is one too much for the limit of a line as `flumina: job: over limit families 65`.
+/// The place in a text that is one too much for the limit of a line such as `flumina: job: over limit families 65`.
 pub fn limit_place(alloc: Global, line: &str, bytes: &[u8]) -> Option<usize> {
     let (_, behind) = line.trim_end().split_once(": over limit ")?;
     let (what, count) = behind.split_once(' ')?;
@@ -51,7 +51,7 @@ fn place_in_tokens(text: &str, found: &[Token], what: &str, count: usize) -> Opt
     }
 }
 
-// The place where a reserved word stands for the so-many-th time.
+// The place of the n-th occurrence of a reserved word.
 fn place_of_word(found: &[Token], word: Reserved, count: usize) -> Option<usize> {
     let mut met = 0usize;
     for token in found {
@@ -65,7 +65,7 @@ fn place_of_word(found: &[Token], word: Reserved, count: usize) -> Option<usize>
     None
 }
 
-// The place of a number behind a reserved word.
+// The place of a number after a reserved word.
 fn place_behind(found: &[Token], word: Reserved, number: usize) -> Option<usize> {
     let mut is_behind = false;
     for token in found {
@@ -97,7 +97,7 @@ fn is_number(word: Word, wanted: usize) -> bool {
     }
 }
 
-// Whether a token is a text with a field as `{NAME[key]}`.
+// Whether a token is a text with a field such as `{NAME[key]}`.
 fn has_field(text: &str, token: &Token, key: usize) -> bool {
     if token.word != Word::Text {
         return false;

@@ -8,7 +8,7 @@ use std::{rt, str};
 /// A longer line is not shown.
 const LONGEST_LINE: usize = 200;
 
-/// The line, column and text of the place that the line of an answer names, or at which the limit is passed that it names, in the
+/// The line, column and text of the place that the line of an answer names, or at which the limit that it names is exceeded, in the
 /// file of that name.
 pub fn place_hint<R: rt::Files + AllocGlobal>(
     rt: &R,
@@ -28,7 +28,7 @@ pub fn place_hint<R: rt::Files + AllocGlobal>(
     }
 }
 
-// The place at the end of an answer's line, as `job: unexpected at 17`.
+// The place at the end of an answer's line, such as `job: unexpected at 17`.
 fn place_of(line: &str) -> Option<usize> {
     let (_, digits) = line.trim_end().rsplit_once(" at ")?;
     digits.parse::<usize>().ok()
@@ -69,7 +69,7 @@ fn line_begin(bytes: &[u8], at: usize) -> (u64, usize) {
     (number, begin)
 }
 
-// The line that begins at a place, where it is a short text.
+// The line that begins at a place, if it is a short text.
 fn line_from(bytes: &[u8], begin: usize) -> Option<&str> {
     let rest = bytes.get(begin..)?;
     let mut length = 0usize;
@@ -82,7 +82,7 @@ fn line_from(bytes: &[u8], begin: usize) -> Option<&str> {
     short_text(rest.get(..length)?)
 }
 
-/// Bytes as a text, where they are one and not long.
+/// Bytes as a text, if they are one and not long.
 pub fn short_text(bytes: &[u8]) -> Option<&str> {
     if bytes.len() > LONGEST_LINE {
         return None;
@@ -90,7 +90,7 @@ pub fn short_text(bytes: &[u8]) -> Option<&str> {
     str::from_utf8(bytes).ok()
 }
 
-/// Puts a line behind a text, with `?` for each character that would steer a terminal.
+/// Appends a line to a text, with `?` for each character that would control a terminal.
 pub fn push_line(told: &mut String, line: &str) -> Result<(), AllocError> {
     told.push_str("  ")?;
     for c in line.chars() {
@@ -107,7 +107,7 @@ fn shown_char(c: char) -> char {
     }
 }
 
-// Whether a character is not seen itself, but may turn the direction of others, join them or break their line.
+// Whether a character is not visible itself, but may change the direction of others, join them or break their line.
 fn is_unseen(c: char) -> bool {
     matches!(
         c,

@@ -1,10 +1,10 @@
-//! The places at which a plan passes its limits.
+//! The places at which a plan exceeds its limits.
 
 use crate::limits::spelled;
 use flu_text::{Mark, Reserved, Token, Word};
 use std::alloc::{AllocFailed, Global};
 
-/// The greatest depth of a node, where that of the root is 0.
+/// The greatest depth of a node; the root has depth 0.
 const GREATEST_DEPTH: usize = 6;
 
 /// The most nodes of a plan.
@@ -17,7 +17,7 @@ struct Child<'t> {
     parent: &'t str,
 }
 
-/// The so-many-th predicate.
+/// The n-th predicate.
 pub fn predicates_place(found: &[Token], count: usize) -> Option<usize> {
     let mut met = 0usize;
     let mut may_begin = false;

@@ -13,7 +13,7 @@ pub struct Failure<'t> {
     pub error: io::Error,
 }
 
-/// The name that failed and the reason, where a failure is known.
+/// The name that failed and the reason, if a failure is known.
 pub fn reason_hint(alloc: Global, failure: Option<Failure>) -> Result<String, AllocError> {
     let mut told = String::new(alloc);
     if let Some(Failure { name, error }) = failure {

@@ -27,7 +27,7 @@ pub fn row_hint<R: rt::Files + AllocGlobal>(
     Ok(told)
 }
 
-// The source and the row from 1 of an answer's line, as `flumina: source north row 4: unclosed`.
+// The source and the row from 1 of an answer's line, such as `flumina: source north row 4: unclosed`.
 fn row_of(line: &str) -> Option<(&str, u64)> {
     let behind = line.strip_prefix("flumina: source ")?;
     let (source, behind) = behind.split_once(" row ")?;
@@ -36,7 +36,7 @@ fn row_of(line: &str) -> Option<(&str, u64)> {
     Some((source, row))
 }
 
-// The job in a file, where it can be read again.
+// The job in a file, if it can be read again.
 fn program_of<R: rt::Files + AllocGlobal>(rt: &R, job: &str) -> Option<Program> {
     let bytes = text_of(rt, job)?;
     read_job(rt.alloc(), bytes.as_slice()).ok()
@@ -59,7 +59,7 @@ fn file_of<R: rt::Files + AllocGlobal>(
     Ok(None)
 }
 
-// Puts a row of a file behind a text, with the file's name and its number.
+// Appends a row of a file to a text, with the file's name and its number.
 fn push_row<R: rt::Files + AllocGlobal>(
     rt: &R,
     told: &mut String,

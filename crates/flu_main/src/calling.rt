@@ -14,20 +14,20 @@ use std::sync::Wait;
 use std::thread::Threads;
 use std::{rt, str};
 
-/// The status where a file failed, as the proved call has it.
+/// The status if a file failed, as the proved call has it.
 const READ_FAULT: u8 = 7;
 
-/// The status where a checkpoint was not put, as the proved call has it.
+/// The status if a checkpoint was not put, as the proved call has it.
 const SAVE_FAULT: u8 = 12;
 
-/// The status where the words find no memory.
+/// The status if there is no memory for the words.
 const NO_MEMORY: u8 = 9;
 
-/// More than the longest line of an answer has, and the text of a plan that follows the counts: at most 256 itags of at most 81 bytes, in
-/// at most 15 nodes.
+/// More than the length of the longest line of an answer and the text of a plan that follows the counts: at most 256 itags of at most 81
+/// bytes, in at most 15 nodes.
 const LINE_ROOM: usize = 32_768;
 
-/// Does what the words of the call say over the files of the system, as `flu_top` has it, and answers the status. `out` and `err` are
+/// Does what the words of the call say with the files of the system, as `flu_top` has it, and answers the status. `out` and `err` are
 /// standard output and standard error, and `process` is the number of the process.
 pub fn answer_call<
     R: rt::Files + Env + AllocGlobal + Threads + Wait + Sync,
@@ -49,7 +49,7 @@ pub fn answer_call<
     ExitCode::from(status)
 }
 
-// Answers with a hint behind the line on err. What fails in making or writing the hint changes nothing else.
+// Answers with a hint after the line on err. A failure to make or write the hint changes nothing else.
 fn answer_a_person<R: rt::Files + AllocGlobal + Threads + Wait + Sync, O: Write + Drop, E: Sink>(
     rt: &R,
     words: &[String],
@@ -72,7 +72,7 @@ fn answer_a_person<R: rt::Files + AllocGlobal + Threads + Wait + Sync, O: Write 
     status
 }
 
-// What failed, where the status says that a file or standard output did.
+// What failed, if the status says that a file or standard output did.
 fn last_failure<'t, R: rt::Files + AllocGlobal, O: Write>(
     status: u8,
     files: &'t HostFiles<R>,

@@ -1,8 +1,8 @@
-//! What the program says of itself, outside the proved call.
+//! What the program says about itself, outside the proved call.
 
 use flu_outside::{Failed, Sink, write_all};
 
-/// The status where standard output failed, as the proved call has it.
+/// The status if standard output failed, as the proved call has it.
 pub const WRITE_FAULT: u8 = 8;
 
 /// The answer to `--help`.
@@ -45,7 +45,7 @@ pub const VERSION: &str = "flumina 0.1.0
 rattle-kit-13f logic dac8208d650f15bf
 ";
 
-/// What is to be written where `--help` or `--version` is the only word.
+/// What has to be written if `--help` or `--version` is the only word.
 pub fn told(words: &[String]) -> Option<&'static str> {
     let [word] = words else {
         return None;
@@ -57,7 +57,7 @@ pub fn told(words: &[String]) -> Option<&'static str> {
     }
 }
 
-/// Writes the text to out, and answers the status. Where that fails, the line of a write fault goes to err.
+/// Writes the text to out, and answers the status. If that fails, the line of a write fault goes to err.
 pub fn tell<O: Sink, E: Sink>(text: &str, out: &mut O, err: &mut E) -> u8 {
     match write_all(out, text.as_bytes()) {
         Ok(()) => 0,

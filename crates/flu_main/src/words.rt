@@ -7,11 +7,11 @@ use std::env::{Env, FillError};
 use std::io::ErrorKind;
 use std::{env, str};
 
-/// More bytes than the system lets a word have.
+/// More bytes than the system allows for a word.
 const WORD_ROOM: usize = 131_072;
 
-/// The words of the call, in order, without the program's name; none where there is no memory for them. A word that is no text comes as an
-/// empty one, which stands nowhere in a command (`docs/LANGUAGE.md`, "Words").
+/// The words of the call, in order, without the program's name; none if there is no memory for them. A word that is no text comes as an
+/// empty one, which is part of no command (`docs/LANGUAGE.md`, "Words").
 pub(crate) fn words_of<R: Env + AllocGlobal>(rt: &R) -> Option<Vec<String>> {
     match env::args(rt) {
         Ok(arguments) => arguments.skip(1).collect::<Vec<String>>(rt.alloc()).ok(),
@@ -38,7 +38,7 @@ fn words_and_gaps<R: Env + AllocGlobal>(rt: &R) -> Option<Vec<String>> {
     None
 }
 
-// The word at a place, an empty one where it is no text, and none behind the last.
+// The word at a place, an empty one if it is no text, and none after the last.
 fn word_at<R: Env + AllocGlobal>(
     rt: &R,
     place: usize,
@@ -53,7 +53,7 @@ fn word_at<R: Env + AllocGlobal>(
     Ok(Some(word))
 }
 
-// The text that so many first bytes are, or an empty one.
+// The text that the first bytes are, this many, or an empty one.
 fn text_in(bytes: &[u8], count: usize) -> &str {
     match bytes.get(..count) {
         Some(front) => str::from_utf8(front).unwrap_or(""),
@@ -61,8 +61,8 @@ fn text_in(bytes: &[u8], count: usize) -> &str {
     }
 }
 
-/// What the files of the system are to know of the call: the number of its process, and of a run the name of the checkpoint that it goes on
-/// from and whether it leaves the flushes out. Where there is no memory for the name, it is left out.
+/// What the files of the system have to know about the call: the number of its process, and of a run the name of the checkpoint that it
+/// resumes from and whether it leaves the flushes out. If there is no memory for the name, the name is left out.
 pub(crate) fn call_of(alloc: Global, words: &[String], process: u32) -> ProgramCall {
     let (resume, unflushed) = match read_words(words) {
         Ok(Command::Run { options, .. }) => (options.resume, options.unflushed),

@@ -1,4 +1,4 @@
--- What objects in memory answer, call by call, and the law that these are any answers at all.
+-- What objects in memory answer, call by call, and the law that these can be any answers at all.
 use Rattle.std.specs.Prelude.{◌≡◌, ℕ, ◌+◌, ◌-◌, ◌^◌, ◌<◌, ◌≤◌, min, Bool, true, false, not, ◌&&◌, nat_le, List, [], ◌∷◌, length, take, Option, Some, None}
 use Rattle.std.specs.Prelude.{is_some, unwrap_or, IfSome, Result, Ok, Err, ⊤, bytes_eq, if◌then◌else◌}
 use Rattle.std.specs.List.{flat_map, AllByRecursion}
@@ -8,7 +8,7 @@ use Rattle.flu_outside.specs.Calls.{Calls, next_fails, after_call}
 use Rattle.flu_outside.specs.Outside.{Contents, Takes, SameLeft}
 
 -- ---- calls
--- calls that may be set: none was made, and a call moves one byte or more
+-- calls that can be set: none was made, and a call moves one byte or more
 pub record CanBeSet (calls : Calls) : Type 0 where
   pub made : calls.made ≡ 0
   pub failing : AllByRecursion (λ call. call < 2 ^ 64) calls.failing
@@ -16,13 +16,13 @@ pub record CanBeSet (calls : Calls) : Type 0 where
   pub later : AllByRecursion (λ piece. (0 < piece) × (piece < 2 ^ 64)) calls.later
 
 -- ---- takes
--- a take of a name into room for so many bytes, and its answer: these bytes, none at the end of the name; or it failed
+-- a take of a name into room for this many bytes, and its answer: these bytes, none at the end of the name; or it failed
 pub record Taken : Type 0 where
   pub name : List ℕ
   pub room : ℕ
   pub answer : Option (List ℕ)
 
--- the answer that a result and what stands in the buffer tell
+-- the answer, by a result and by what is in the buffer
 abbrev pub answer_of : {E : Type 0} → Result ℕ E → List ℕ → Option (List ℕ)
 answer_of (Ok n) buffer = Some (take n buffer)
 answer_of (Err e) buffer = None
@@ -38,14 +38,14 @@ IsTaken calls old new name room (Some bytes) =
     (succeeds calls old name ≡ true) × (length bytes ≡ min (min room calls.piece) (length (bytes_left old name)))
     × Takes old new name (length bytes) bytes
 
--- files in memory of which these calls are set, and which have these bytes left, answer just so, take by take
+-- files in memory whose calls are set so, and which have these bytes left, answer just so, take by take
 abbrev pub AnswerTakes : Calls → Contents → List Taken → Type 0
 AnswerTakes calls left [] = ⊤
 AnswerTakes calls left (t ∷ later) =
     (answer : Option (List ℕ)) (new : Contents) → IsTaken calls left new t.name t.room answer
     → (answer ≡ t.answer) × AnswerTakes (after_call calls) new later
 
--- the bytes that were answered of a name
+-- the bytes that were answered for a name
 abbrev pub bytes_of : List ℕ → List Taken → List ℕ
 bytes_of name takes = flat_map (λ t. if bytes_eq t.name name then unwrap_or t.answer [] else []) takes
 
@@ -58,8 +58,8 @@ abbrev pub StayEnded : List Taken → Type 0
 StayEnded [] = ⊤
 StayEnded (t ∷ later) = (t.answer ≡ Some [] → bytes_of t.name later ≡ []) × StayEnded later
 
--- LAW OF TAKES: whatever takes are answered, where a name that ended stays ended, some calls can be set so that files in memory which
--- have of each name the bytes that are answered give just these answers
+-- LAW OF TAKES: whatever takes are answered, if a name that ended stays ended, some calls can be set so that files in memory which
+-- hold for each name the bytes that are answered give just these answers
 abbrev pub LawOfTakes : Type 0
 LawOfTakes =
     (takes : List Taken) → length takes < 2 ^ 64 - 1 → AllByRecursion HasRoom takes → StayEnded takes
@@ -67,23 +67,23 @@ LawOfTakes =
     × ((left : Contents) → AllByRecursion (λ t. left t.name ≡ Some (bytes_of t.name takes)) takes → AnswerTakes calls left takes)
 
 -- ---- writes
--- a write of so many bytes, and its answer: how many were taken; or it failed
+-- a write of this many bytes, and its answer: how many were taken; or it failed
 pub record Written : Type 0 where
   pub offered : ℕ
   pub answer : Option ℕ
 
--- the answer that a result tells
+-- the answer, by a result
 abbrev pub count_of_write : {E : Type 0} → Result ℕ E → Option ℕ
 count_of_write (Ok n) = Some n
 count_of_write (Err e) = None
 
--- A WRITE TO A SINK IN MEMORY, which has this room and has taken so many bytes, takes a whole piece or fails
+-- A WRITE TO A SINK IN MEMORY, which has this room and has taken this many bytes, takes a whole piece or fails
 abbrev pub IsWritten : Calls → ℕ → ℕ → ℕ → Option ℕ → Type 0
 IsWritten calls room held offered None = (not (next_fails calls) && nat_le (held + min offered calls.piece) room) ≡ false
 IsWritten calls room held offered (Some n) =
     ((not (next_fails calls) && nat_le (held + min offered calls.piece) room) ≡ true) × (n ≡ min offered calls.piece)
 
--- a sink in memory of which these calls are set, which has this room and has taken so many bytes, answers just so, write by write
+-- a sink in memory whose calls are set so, which has this room and has taken this many bytes, answers just so, write by write
 abbrev pub AnswerWrites : Calls → ℕ → ℕ → List Written → Type 0
 AnswerWrites calls room held [] = ⊤
 AnswerWrites calls room held (w ∷ later) =

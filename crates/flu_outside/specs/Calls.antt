@@ -2,8 +2,8 @@
 use Rattle.std.specs.Prelude.{ℕ, ◌+◌, ◌-◌, ◌^◌, ◌==◌, min, Bool, List, [], ◌∷◌, ◌++◌, drop, slice_get, unwrap_or}
 use Rattle.std.specs.List.{list_any}
 
--- how many calls were made, which calls fail, counted from 1, and how many bytes a call moves at most: so many the next one, and
--- these the calls behind it, of which the last number holds for all later ones
+-- how many calls were made, which calls fail, counted from 1, and how many bytes a call moves at most: the next call, and then
+-- each call after it, where the last number holds for all later ones
 pub record Calls : Type 0 where
   pub made : ℕ
   pub failing : List ℕ
@@ -18,11 +18,11 @@ as_made = record { made = 0; failing = []; piece = 2 ^ 64 - 1; later = [] }
 abbrev pub with_failing : ℕ → Calls → Calls
 with_failing call calls = record calls { failing = calls.failing ++ call ∷ [] }
 
--- a call moves at most so many bytes
+-- a call moves at most this many bytes
 abbrev pub with_piece : ℕ → Calls → Calls
 with_piece most calls = record calls { piece = most }
 
--- behind the calls that have their number, one more moves at most so many bytes
+-- after the calls that have their number, one more moves at most this many bytes
 abbrev pub with_later : ℕ → Calls → Calls
 with_later most calls = record calls { later = calls.later ++ most ∷ [] }
 

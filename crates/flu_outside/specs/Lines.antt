@@ -4,7 +4,7 @@ use Rattle.flu_lemmas.specs.Lines.{line_len}
 use Rattle.flu_outside.specs.declared.lines.Found.{Found}
 use Rattle.flu_outside.specs.declared.lines.Found.TheVariants.{Line, Last, TooLong, End}
 
--- what was found at the front of these bytes, where a line has at most `longest` bytes
+-- what was found at the front of these bytes, if a line has at most `longest` bytes
 abbrev pub IsFound : ℕ → List ℕ → Found → Type 0
 IsFound longest held (Line len) = (len ≡ line_len held) × (len ≤ longest) × (len < length held)
 IsFound longest held Last = (line_len held ≡ length held) × (0 < length held) × (length held ≤ longest)

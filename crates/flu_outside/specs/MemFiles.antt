@@ -14,7 +14,7 @@ left_of m name = option_map (λ f. f.rest) (get_by_text m.files name)
 abbrev pub counts_of : MemFiles → List ℕ → ℕ
 counts_of m name = option_map_or (λ f. f.faults) (get_by_text m.files name) m.missing
 
--- how often each name failed to be put: those that are not there never did
+-- how often a put of each name failed: those of names that are not there never did
 abbrev pub put_counts_of : MemFiles → List ℕ → ℕ
 put_counts_of m name = option_map_or (λ f. f.put_faults) (get_by_text m.files name) 0
 

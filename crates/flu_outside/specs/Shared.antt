@@ -4,7 +4,7 @@ use Rattle.std.specs.Prelude.{IsSome, option_map}
 use Rattle.std.specs.Option.{option_map_or}
 use Rattle.flu_outside.specs.Outside.{ShareOneCount}
 
--- where nothing is found, the count is the one beside it
+-- if nothing is found, the count is the one for missing names
 absent_count : {X : Type 0} (rest : X → List ℕ) (count : X → ℕ) (missing : ℕ) (found : Option X) → ¬ IsSome (option_map rest found)
     → option_map_or count found missing ≡ missing
 absent_count rest count missing None absent = refl

@@ -3,7 +3,7 @@ use Rattle.std.specs.Prelude.{◌≡◌, ◌≤◌, ℕ, List, [], ◌++◌, len
 pub use Rattle.flu_lemmas.specs.Named.{bytes_left, TakesFrom, TookFronts, KeepsBytes, IsReadOut, CountsOf}
 use Rattle.flu_outside.specs.Outside.{Contents}
 
--- at most so many bytes went from the front of a name
+-- at most this many bytes went from the front of a name
 pub record TookAtMost (name : List ℕ) (most : ℕ) (old now : Contents) : Type 0 where
   pub bytes : List ℕ
   pub front : bytes_left old name ≡ bytes ++ bytes_left now name

@@ -3,16 +3,16 @@ use Rattle.std.specs.Prelude.{◌≡◌, ℕ, ◌<◌, ◌≤◌, List, ◌++◌
 use Rattle.flu_outside.specs.declared.sink.Failed.{Failed}
 use Rattle.flu_outside.specs.Outside.{Appends, Rose, WhereTold}
 
--- all of the bytes stand behind what was there
+-- all of the bytes were appended to what was there
 abbrev pub AppendsAll : List ℕ → List ℕ → List ℕ → Type 0
 AppendsAll bytes old new = new ≡ old ++ bytes
 
--- fewer than all of the bytes, from their front, stand behind what was there
+-- a proper prefix of the bytes was appended to what was there
 abbrev pub AppendsPart : List ℕ → List ℕ → List ℕ → Type 0
 AppendsPart bytes old new = (n : ℕ) × (n < length bytes) × Appends n bytes old new
 
 -- A WRITING CALL wrote all of the bytes and the sink did not fail; or the sink failed, and has taken fewer than all of them.
--- What the sink has taken is `old` before the call and `new` behind it, and its count of faults `before` and `now`.
+-- What the sink has taken is `old` before the call and `new` after it, and its count of faults is `before` and `now`.
 pub record Writes (bytes : List ℕ) (old new : Option (List ℕ)) (before now : ℕ) (result : Result (Unit {0}) Failed) : Type 0 where
   pub all : OnOk result (WhereTold old new (AppendsAll bytes))
   pub quiet : OnOk result (now ≡ before)

@@ -77,7 +77,7 @@ impl Files for HonestFiles {
         ensures holds { OnOk result (Puts name.now bytes.items (left_of self.old) (left_of self.new)) }
         ensures kept { OnErr result (SameLeft (left_of self.old) (left_of self.new)) }
 
-        // Only memory can be wanting.
+        // It fails only if memory runs out.
         ensures fault { IfErr result (λ e. e ≡ PutFault.NoMemory) }
     {
         self.add(name, bytes)?;

@@ -1,6 +1,6 @@
-//! The outside of the program: files, whose bytes are taken from the front or put whole, and a sink, which takes bytes.
+//! The outside of the program: files, whose bytes are taken from the front or replaced as a whole, and a sink, which takes bytes.
 //!
-//! `Files` and `Sink` say what the program may rely on, whatever stands behind them. `MemFiles`,
+//! `Files` and `Sink` say what the program may rely on, whatever implements them. `MemFiles`,
 //! `HonestFiles` and `MemSink` hold their bytes in memory. `read_whole` reads a name to its end, a `LineBuffer` line by line, and
 //! `write_all` writes all of some bytes.
 #![tactic(auto)]

@@ -83,7 +83,7 @@ impl LineBuffer {
         self.at = 0;
     }
 
-    // Takes some bytes of the file, or none where none are left.
+    // Takes some bytes of the file, none if none are left.
     fn take_more<F: Files>(&mut self, file: &str, files: &mut F) -> Result<usize, TakeFault>
         ensures bytes { OnOk result (WhereTold (F.left files.old) (F.left files.new) (KeepsBytes file.now self.old self.new)) }
         ensures behind { IfOk result (λ count. (more : List ℕ) × (length more ≡ count) × (self.new ≡ self.old ++ more)) }
@@ -100,11 +100,11 @@ impl LineBuffer {
         take_behind(files, file, &mut self.bytes)
     }
 
-    /// Takes bytes of the file until a line is in the buffer, or the end of the file, or more than `longest` bytes of one line.
+    /// Takes bytes of the file until the buffer has a line, or the end of the file, or more than `longest` bytes of one line.
     ///
     /// # Errors
     ///
-    /// `Failed` is a failed take: no line was in the buffer before it, and all that was taken still is there. Where there is no memory,
+    /// `Failed` is a failed take: no line was in the buffer before it, and all that was taken is still there. If memory runs out,
     /// bytes that were taken are lost.
     pub fn fill<F: Files>(
         &mut self,
@@ -139,7 +139,7 @@ impl LineBuffer {
         })
     }
 
-    // What is at the front where nothing is left of the file.
+    // What is at the front if nothing is left of the file.
     fn found_at_end(&self, longest: usize) -> Found
         requires one { line_len self.now ≡ length self.now }
         requires short { length self.now ≤ longest }

@@ -1,4 +1,4 @@
-//! Files in memory, whose calls fail where one says.
+//! Files in memory, whose calls fail as they are set to.
 use crate::files::{Files, PutFault, TakeFault};
 use crate::rest::Rest;
 use crate::schedule::Schedule;
@@ -50,7 +50,7 @@ impl MemFiles {
     }
 
     /// Gives a name these bytes, in place of those that it has. The name keeps its counts: a new name
-    /// has the counts that names share which are not there.
+    /// starts with the counts that are shared by names that are not there.
     ///
     /// An error leaves all unchanged.
     pub fn add(&mut self, name: &str, bytes: Vec<u8>) -> Result<(), AllocError>
@@ -78,7 +78,7 @@ impl MemFiles {
         Ok(())
     }
 
-    /// Sees to it that a name is there: a new one is empty.
+    /// Makes sure that a name is there: a new one is empty.
     fn enter(&mut self, name: &str) -> Result<(), AllocError>
         ensures here { OnOk result (left_of self.new name.now ≡ Some (unwrap_or (left_of self.old name.now) [])) }
         ensures others { OnOk result ((n : List ℕ) → n ≢ name.now → left_of self.new n ≡ left_of self.old n) }
@@ -94,7 +94,7 @@ impl MemFiles {
         self.add(name, Vec::new(self.alloc))
     }
 
-    /// Lets a call of `take` fail, counted from 1. An error leaves all unchanged.
+    /// Sets a call of `take` to fail; calls are counted from 1. An error leaves all unchanged.
     pub fn fail_at(&mut self, call: u64) -> Result<(), AllocError>
         ensures set { OnOk result (calls_of self.new ≡ with_failing call (calls_of self.old)) }
         ensures refused { OnErr result (calls_of self.new ≡ calls_of self.old) }
@@ -106,7 +106,7 @@ impl MemFiles {
         self.schedule.fail_at(call)
     }
 
-    /// Lets a call of `put` fail, counted from 1. An error leaves all unchanged.
+    /// Sets a call of `put` to fail; calls are counted from 1. An error leaves all unchanged.
     pub fn fail_put(&mut self, call: u64) -> Result<(), AllocError>
         ensures set { OnOk result (puts_of self.new ≡ with_failing call (puts_of self.old)) }
         ensures refused { OnErr result (puts_of self.new ≡ puts_of self.old) }
@@ -118,7 +118,7 @@ impl MemFiles {
         self.puts.fail_at(call)
     }
 
-    /// Lets a take give at most so many bytes.
+    /// Limits a take to this many bytes.
     pub fn piece(&mut self, most: usize)
         requires { 0 < most }
         ensures set { calls_of self.new ≡ with_piece most (calls_of self.old) }
@@ -130,7 +130,7 @@ impl MemFiles {
         self.schedule.set_piece(most);
     }
 
-    /// Lets one more take, behind those that have a piece, and all later ones give at most so many bytes.
+    /// Limits one more take, after those that have a piece, and all later ones to this many bytes.
     ///
     /// The first take has the piece that `piece` sets. An error leaves all unchanged.
     pub fn add_piece(&mut self, most: usize) -> Result<(), AllocError>
@@ -181,7 +181,7 @@ impl Files for MemFiles {
         ensures others { (n : List ℕ) → CountApart (Some (left_of self.old)) name.now n → counts_of self.new n ≡ counts_of self.old n }
         ensures puts { SameCounts (put_counts_of self.old) (put_counts_of self.new) }
 
-        // It fails exactly where the call is set to fail or the name is not there, never for memory, and
+        // It fails exactly if the call is set to fail or the name is not there, never for lack of memory, and
         // gives as many bytes as it can.
         ensures succeeds { is_ok result ≡ (not (next_fails (calls_of self.old)) && is_some (left_of self.old name.now)) }
         ensures fault { IfErr result (λ e. e ≡ TakeFault.Failed) }
@@ -190,7 +190,7 @@ impl Files for MemFiles {
         ensures calls { calls_of self.new ≡ after_call (calls_of self.old) }
         ensures put_calls { puts_of self.new ≡ puts_of self.old }
 
-        // The same, as one definition: that of `takes_can_be_played`.
+        // The same, as one definition: the one of `takes_can_be_played`.
         ensures answer { IsTaken (calls_of self.old) (left_of self.old) (left_of self.new) name.now (length buf.old) (answer_of result buf.new) }
     {
         let most = self.schedule.piece().min(buf.len());
@@ -219,7 +219,7 @@ impl Files for MemFiles {
         ensures apart { (n : List ℕ) → n ≢ name.now → put_counts_of self.new n ≡ put_counts_of self.old n }
         ensures takes { SameCounts (counts_of self.old) (counts_of self.new) }
 
-        // Where memory is there it fails exactly where the call is set to fail. A new name is there then, and empty.
+        // If memory does not run out, it fails exactly if the call is set to fail. A new name is then there, and empty.
         ensures succeeds { OnOk result (next_fails (puts_of self.old) ≡ false) }
         ensures fails { IsErrOf result PutFault.Failed → next_fails (puts_of self.old) ≡ true }
         ensures stays { IsErrOf result PutFault.Failed → left_of self.new name.now ≡ Some (unwrap_or (left_of self.old name.now) []) }

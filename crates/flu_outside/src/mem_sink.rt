@@ -1,4 +1,4 @@
-//! A sink in memory, whose calls fail where one says.
+//! A sink in memory, whose calls fail as they are set to.
 ghost use Rattle.std.specs.Prelude.{◌≤◌, vec_len};
 ghost use Rattle.std.specs.Vec.{vec_capacity};
 
@@ -6,7 +6,7 @@ use crate::schedule::Schedule;
 use crate::sink::{Failed, Sink};
 use std::alloc::{AllocError, Global};
 
-/// A sink in memory with room for so many bytes. A write past the room fails, and so does each call of
+/// A sink in memory with room for this many bytes. A write past the room fails, and so does each call of
 /// `write` that is set to fail.
 ///
 /// Contracts see what it took (`taken_of`), its room (`room_of`), how often it failed (`count_of`) and
@@ -26,7 +26,7 @@ impl MemSink {
     ghost use Rattle.flu_outside.specs.Calls.{as_made, with_failing, with_piece, with_later};
     ghost use Rattle.flu_outside.specs.MemSink.{taken_of, room_of, count_of, calls_of};
 
-    /// Has taken nothing, no call fails, and a write takes all that it can.
+    /// A sink that has taken nothing; no call fails, and a write takes all that it can.
     pub fn with_room(alloc: Global, room: usize) -> Result<MemSink, AllocError>
         ensures taken { IfOk result (λ s. taken_of s ≡ []) }
         ensures room { IfOk result (λ s. room_of s ≡ room) }
@@ -42,7 +42,7 @@ impl MemSink {
         })
     }
 
-    /// Lets a call of `write` fail, counted from 1. An error leaves all unchanged.
+    /// Sets a call of `write` to fail; calls are counted from 1. An error leaves all unchanged.
     pub fn fail_at(&mut self, call: u64) -> Result<(), AllocError>
         ensures set { OnOk result (calls_of self.new ≡ with_failing call (calls_of self.old)) }
         ensures refused { OnErr result (calls_of self.new ≡ calls_of self.old) }
@@ -53,7 +53,7 @@ impl MemSink {
         self.schedule.fail_at(call)
     }
 
-    /// Lets a write take at most so many bytes.
+    /// Limits a write to this many bytes.
     pub fn piece(&mut self, most: usize)
         requires { 0 < most }
         ensures set { calls_of self.new ≡ with_piece most (calls_of self.old) }
@@ -64,7 +64,7 @@ impl MemSink {
         self.schedule.set_piece(most);
     }
 
-    /// Lets one more write, behind those that have a piece, and all later ones take at most so many bytes.
+    /// Limits one more write, after those that have a piece, and all later ones to this many bytes.
     ///
     /// The first write has the piece that `piece` sets. An error leaves all unchanged.
     pub fn add_piece(&mut self, most: usize) -> Result<(), AllocError>
@@ -109,7 +109,7 @@ impl Sink for MemSink {
         ensures failed { OnErr result (Rose (count_of self.old) (count_of self.new)) }
         ensures counts { count_of self.old ≤ count_of self.new }
 
-        // It fails exactly where the call is set to fail or the piece has no room, and takes a whole piece.
+        // It fails exactly if the call is set to fail or the piece has no room, and takes a whole piece.
         ensures succeeds { is_ok result ≡ (not (next_fails (calls_of self.old))
             && nat_le (length (taken_of self.old) + min (length bytes.now) (calls_of self.old).piece) (room_of self.old)) }
         ensures amount { IfOk result (λ n. n ≡ min (length bytes.now) (calls_of self.old).piece) }
@@ -117,7 +117,7 @@ impl Sink for MemSink {
         ensures room { room_of self.new ≡ room_of self.old }
         ensures calls { calls_of self.new ≡ after_call (calls_of self.old) }
 
-        // The same, as one definition: that of `writes_can_be_played`.
+        // The same, as one definition: the one of `writes_can_be_played`.
         ensures answer { IsWritten (calls_of self.old) (room_of self.old) (length (taken_of self.old)) (length bytes.now) (count_of_write result) }
     {
         let n = self.schedule.piece().min(bytes.len());

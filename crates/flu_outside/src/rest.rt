@@ -3,7 +3,7 @@ ghost use Rattle.std.specs.Prelude.{◌≡◌, ◌≤◌, length, take, drop, mi
 
 use std::marker::Model;
 
-/// The bytes of a file that are not taken yet, seen as their list.
+/// The bytes of a file that were not taken yet, seen as their list.
 #[derive(Drop)]
 pub(crate) struct Rest {
     bytes: Vec<u8>,
@@ -27,7 +27,7 @@ impl Rest {
         Rest { bytes, at: 0 }
     }
 
-    /// Takes bytes from the front into `buf`, at most so many, and says how many.
+    /// Takes bytes from the front into `buf`, at most this many, and says how many.
     pub(crate) fn take_into(&mut self, most: usize, buf: &mut [u8]) -> usize
         requires { most ≤ length buf.old }
         ensures amount { result ≡ min most (length self.old) }

@@ -28,7 +28,7 @@ impl Model for Schedule {
 }
 
 impl Schedule {
-    /// No call was made, none fails, and no piece is too long.
+    /// No call was made, none fails, and the size of a piece is not limited.
     pub(crate) fn new(alloc: Global) -> Schedule
         ensures { result ≡ as_made }
     {
@@ -40,7 +40,7 @@ impl Schedule {
         }
     }
 
-    /// Lets a call fail, counted from 1.
+    /// Sets a call to fail, counted from 1.
     pub(crate) fn fail_at(&mut self, call: u64) -> Result<(), AllocError>
         ensures ok { OnOk result (self.new ≡ with_failing call self.old) }
         ensures err { OnErr result (self.new ≡ self.old) }
@@ -49,7 +49,7 @@ impl Schedule {
         Ok(())
     }
 
-    /// Lets a call move at most so many bytes.
+    /// Limits a call to this many bytes.
     pub(crate) fn set_piece(&mut self, most: usize)
         requires { 0 < most }
         ensures { self.new ≡ with_piece most self.old }
@@ -57,7 +57,7 @@ impl Schedule {
         self.piece = most;
     }
 
-    /// Lets one more call, behind those that have a piece, and all later ones move at most so many bytes.
+    /// Limits one more call, after those that have a piece, and all later ones to this many bytes.
     pub(crate) fn add_piece(&mut self, most: usize) -> Result<(), AllocError>
         requires { 0 < most }
         ensures ok { OnOk result (self.new ≡ with_later most self.old) }
@@ -67,7 +67,7 @@ impl Schedule {
         Ok(())
     }
 
-    /// At most so many bytes are moved by the next call.
+    /// The next call moves at most this many bytes.
     pub(crate) fn piece(&self) -> usize
         ensures piece { result ≡ self.now.piece }
         ensures some { 0 < result }
@@ -75,7 +75,7 @@ impl Schedule {
         self.piece
     }
 
-    /// Counts a call, and says whether it fails. The next piece is that of the call behind it.
+    /// Counts a call, and says whether it fails. The next piece is then the piece of the call after it.
     pub(crate) fn count(&mut self) -> bool
         ensures fails { result ≡ next_fails self.old }
         ensures counted { self.new ≡ after_call self.old }

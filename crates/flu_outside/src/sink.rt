@@ -1,4 +1,4 @@
-//! Where bytes go.
+//! Where bytes are written to.
 ghost use Rattle.std.specs.Prelude.{◌≡◌, ◌<◌, ◌≤◌, List, ℕ, length, Option, IfOk, OnOk, OnErr};
 ghost use Rattle.flu_outside.specs.Outside.{Rose, WhereTold, Appends};
 
@@ -8,7 +8,7 @@ pub struct Failed;
 
 /// Something that takes bytes, one after another.
 pub trait Sink {
-    /// The bytes that it has taken, where they are told: a real one tells nothing.
+    /// The bytes that it has taken, if they are known: nothing is known of a real one.
     ghost taken: { Self → Option (List ℕ) };
 
     /// How often it has failed, up to 2^64 - 1.

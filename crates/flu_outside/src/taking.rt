@@ -1,4 +1,4 @@
-//! The taking of more bytes than one call gives.
+//! Taking more bytes than one call gives.
 
 ghost use Rattle.std.specs.Prelude.{◌≡◌, ◌≢◌, ◌<◌, ◌^◌, ◌++◌, List, ℕ, length, IfOk, OnOk, OnErr, IsErrOf, Err};
 ghost use Rattle.flu_outside.specs.Outside.{WhereTold, Rose, SameLeft, SameCounts};
@@ -7,12 +7,12 @@ ghost use Rattle.flu_outside.specs.Taking.{TakesFrom, KeepsBytes, IsReadOut, Cou
 use crate::files::{Files, TakeFault};
 use std::alloc::Global;
 
-/// How many bytes are asked for at once.
+/// How many bytes are requested at once.
 const CHUNK: usize = 16_384;
 
-/// Takes some bytes of a name, puts them behind `bytes` and says how many: none where the name has none left.
+/// Takes some bytes of a name, appends them to `bytes` and says how many: none if the name has none left.
 ///
-/// `Failed` is a failed take. Where there is no memory, bytes that were taken are lost.
+/// `Failed` is a failed take. If memory runs out, bytes that were taken are lost.
 #[inline(never)]
 pub fn take_behind<F: Files>(
     files: &mut F,
@@ -38,7 +38,7 @@ pub fn take_behind<F: Files>(
     Ok(count)
 }
 
-/// All bytes that a name has left, or where these are more than `most`, more than `most` bytes from their front.
+/// All bytes that a name has left; or, if these are more than `most`, a prefix of them with more than `most` bytes.
 pub fn read_whole<F: Files>(
     alloc: Global,
     files: &mut F,
@@ -52,7 +52,7 @@ pub fn read_whole<F: Files>(
     ensures quiet { result ≢ Err TakeFault.Failed → SameCounts (F.faults files.old) (F.faults files.new) }
     ensures puts { SameCounts (F.put_faults files.old) (F.put_faults files.new) }
 
-    // A failed take is told only where it was needed: no more than `most` bytes came before it.
+    // A failed take is reported only if it was needed: no more than `most` bytes came before it.
     ensures failed { IsErrOf result TakeFault.Failed → Rose (F.faults files.old name.now) (F.faults files.new name.now) }
     ensures needed { IsErrOf result TakeFault.Failed → WhereTold (F.left files.old) (F.left files.new) (TookAtMost name.now most) }
 {

@@ -57,7 +57,7 @@ module _ (text : List ℕ) (n : Naming) (under : KindHead) where
     guard ← guard_of a.guard
     Ok (record { act = act; guard = guard })
 
-  -- one action more, of at most 32
+  -- one more action, of at most 32
   unfoldable pub with_action : List PlainAction → WrittenDo → Found (List PlainAction)
   with_action done a = do
     room Actions 32 (length done)

@@ -24,7 +24,7 @@ resolved_key k = do
   unless (nat_lt (written_value k.value) key_count) (f.OverLimit Key (written_value k.value))
   Ok (written_value k.value)
 
--- brackets stand where the family is keyed
+-- brackets are there exactly if the family is keyed
 abbrev pub brackets_fit : Bool → WrittenKey → Bool
 brackets_fit keyed k.Alone = not keyed
 brackets_fit keyed (k.OwnKey at) = keyed
@@ -35,7 +35,7 @@ abbrev pub is_wanted : Option Sort → Sort → Bool
 is_wanted None sort = true
 is_wanted (Some wanted) sort = is_sort wanted sort
 
--- the family that is named: of the wanted sort, with brackets where it is keyed
+-- the family that is named: of the wanted sort, with brackets if it is keyed
 abbrev pub family_for : List ℕ → Naming → Option Sort → WrittenRef → Found FamilyHead
 family_for text n wanted r = do
   family ← family_of text n r.family

@@ -1,4 +1,4 @@
--- Looks that may find a fault: the first one found is the answer. Want of memory alone is free.
+-- Checks that may find a fault: the first one found is the answer. Only running out of memory is not constrained.
 use Rattle.std.specs.Prelude.{◌≡◌, ℕ, ◌+◌, Bool, nat_lt, if◌then◌else◌, Result, Ok, Err}
 pub use Rattle.flu_lemmas.specs.Loops.{◌>>=◌, ◌>>◌, found_of_each}
 unfoldable pub use Rattle.flu_lemmas.specs.Loops.{each}
@@ -14,11 +14,11 @@ Found A = Result A JobFault
 abbrev pub unless : Bool → JobFault → Found (Unit {0})
 unless passes fault = if passes then Ok tt else Err fault
 
--- there is room for one more where so many of at most `limit` are there
+-- there is room for one more if this many of at most `limit` are there
 abbrev pub room : What → ℕ → ℕ → Found (Unit {0})
 room what limit count = unless (nat_lt count limit) (f.OverLimit what (limit + 1))
 
--- the fault is the one that was found, or want of memory
+-- the fault is the one that was found, or out of memory
 abbrev pub Fails : {Y : Type 0} → JobFault → Found Y → Type 0
 Fails f.NoMemory found = Unit {0}
 Fails (f.BadUtf8 at) found = found ≡ Err (f.BadUtf8 at)

@@ -10,7 +10,7 @@ use Rattle.flu_rules.specs.Kept.{KeepsRules}
 use Rattle.flu_parse.specs.Reading.{job_in}
 use Rattle.flu_parse.specs.Printing.{normal_form}
 
--- the job of a text keeps the rules of the language, wherever the boxes of its expressions lie
+-- the job of a text keeps the rules of the language, wherever the boxes of its expressions are in memory
 abbrev pub JobsKeepRules : Type 0
 JobsKeepRules =
     (bytes : List ℕ) (job : Job) → job_in bytes ≡ Ok job
@@ -27,7 +27,7 @@ job_with version families kinds depends sources = record {
   sources = sources;
 }
 
--- the normal form of a job that keeps the rules is read as that job, where it is not too long to be read
+-- the normal form of a job that keeps the rules is read as that job, if it is not too long to be read
 abbrev pub PrintedIsRead : Type 0
 PrintedIsRead =
     (version : ℕ) (families : List Family) (kinds : List Kind) (depends : List Depend) (sources : List Source)

@@ -20,7 +20,7 @@ use Rattle.flu_parse.specs.Faults.{Found, ◌>>=◌, ◌>>◌, unless, each}
 use Rattle.flu_parse.specs.Naming.{Naming, kind_of}
 use Rattle.flu_parse.specs.Cells.{resolved_key}
 
--- brackets stand where the kind is keyed
+-- brackets are there exactly if the kind is keyed
 abbrev pub are_bracketed : Bool → WrittenKeys → Bool
 are_bracketed keyed w.Alone = not keyed
 are_bracketed keyed (w.One k) = keyed
@@ -32,7 +32,7 @@ written_keys w.Alone = keys.Alone
 written_keys (w.One k) = keys.One (written_value k.value)
 written_keys (w.Range lo hi) = keys.Range (written_value lo.value) (written_value hi.value)
 
--- the same where they are keys: a wrong range, then each number
+-- the same if the numbers can be keys: a wrong range, then each number
 abbrev pub keys_of : WrittenKeys → Found Keys
 keys_of w.Alone = Ok keys.Alone
 keys_of (w.One k) = do
@@ -48,12 +48,12 @@ keys_of (w.Range lo hi) = do
 abbrev pub tag_count : WrittenKeys → ℕ
 tag_count ks = length (listed_keys (written_keys ks))
 
--- the tags that a source lists so far, and how many itags the sources have so far
+-- the tags that a source has listed so far, and how many itags the sources have so far
 pub record Listed : Type 0 where
   pub tags : List TagRef
   pub itags : ℕ
 
--- one tag reference more
+-- one more tag reference
 unfoldable pub with_tag : List ℕ → Naming → Listed → WrittenTag → Found Listed
 with_tag text n listed t = do
   kind ← kind_of text n t.kind
@@ -66,21 +66,21 @@ with_tag text n listed t = do
 abbrev pub tags_of : List ℕ → Naming → ℕ → List WrittenTag → Found Listed
 tags_of text n itags ts = each (with_tag text n) (record { tags = []; itags = itags }) ts
 
--- the rate is 1 where none is written
+-- the rate is 1 if none is written
 abbrev pub rate_of : Option WrittenNumber → Found ℕ
 rate_of None = Ok 1
 rate_of (Some r) = do
   unless (nat_le (written_value r.value) 1000000000) (f.OverLimit Rate (written_value r.value))
   Ok (written_value r.value)
 
--- the slack is 0 where none is written
+-- the slack is 0 if none is written
 abbrev pub slack_of : Option WrittenNumber → Found ℕ
 slack_of None = Ok 0
 slack_of (Some s) = do
   unless (nat_le (written_value s.value) 60000) (f.OverLimit Slack (written_value s.value))
   Ok (written_value s.value)
 
--- a file that no source before reads
+-- a file that no earlier source reads
 abbrev pub file_of : List ℕ → List Source → WrittenSpan → Found (List ℕ)
 file_of text sources file = do
   unless (nat_lt 0 (length (inside text file))) (f.WrongShape file.from)

@@ -38,13 +38,13 @@ look_up name (h ∷ hs) = if bytes_eq name h.0 then Some h.1 else look_up name h
 abbrev pub is_declared : Naming → List ℕ → Bool
 is_declared n name = is_some (look_up name n.families) || is_some (look_up name n.kinds) || list_any (bytes_eq name) n.sources
 
--- a name that no declaration before has
+-- a name that no earlier declaration has
 abbrev pub fresh_name : List ℕ → Naming → WrittenSpan → Found (List ℕ)
 fresh_name text n s = do
   unless (not (is_declared n (name_of text s))) (f.TwiceNamed s.from)
   Ok (name_of text s)
 
--- one family, kind or source more: that its name is taken comes before a limit
+-- one more family, kind or source: that its name is taken comes before a limit
 unfoldable pub with_family : List ℕ → Naming → WrittenSpan → Bool → Sort → Found Naming
 with_family text n s keyed sort = do
   name ← fresh_name text n s
@@ -63,7 +63,7 @@ with_source text n s = do
   room Sources 64 (length n.sources)
   Ok (record n { sources = n.sources ++ name ∷ [] })
 
--- the names with one declaration more
+-- the names with one more declaration
 unfoldable pub declare : List ℕ → Naming → Declaration → Found Naming
 declare text n (w.Cell s keyed sort) = with_family text n s keyed sort
 declare text n (w.Tag s keyed has_value) = with_kind text n s keyed has_value
@@ -80,7 +80,7 @@ no_names = record { families = []; kinds = []; sources = []; depends = 0 }
 abbrev pub naming_of : List ℕ → List Declaration → Found Naming
 naming_of text ds = each (declare text) no_names ds
 
--- the head that a name needs to have
+-- the head that a name must have
 abbrev pub known : {X : Type 0} → ℕ → Option X → Found X
 known at None = Err (f.UnknownName at)
 known at (Some x) = Ok x

@@ -1,4 +1,4 @@
--- The normal form of a job text: the version where it is 2, cells, tags, `depends`, the actions of the kinds that have some, and sources,
+-- The normal form of a job text: the version if it is 2, cells, tags, `depends`, the actions of the kinds that have some, and sources,
 -- each on a line of its own.
 use Rattle.std.specs.Prelude.{ℕ, nat_lt, ◌==◌, if◌then◌else◌, Bool, true, false, Option, Some, None, List, [], ◌∷◌, ◌++◌, slice_get, codes}
 use Rattle.std.specs.Fmt.{decimal, signed_decimal}
@@ -63,7 +63,7 @@ action_text families a = act_text families a.act ++ guard_text families a.guard
 
 -- ---- declarations
 
--- the version of the language, which is 1 where no line says another
+-- the version of the language, which is 1 if no line says otherwise
 abbrev pub version_line : ℕ → List ℕ
 version_line version = if version == 2 then codes "version 2" ++ line_end else []
 
@@ -109,11 +109,11 @@ on_line families k = actions_line families k.name k.actions
 abbrev pub tag_text : List PlainKind → TagRef → List ℕ
 tag_text kinds t = kind_name (slice_get kinds t.kind) ++ keys_text t.keys
 
--- how late events of a source may come, where they may
+-- how late events of a source may come, if they may
 abbrev pub slack_text : ℕ → List ℕ
 slack_text slack = if nat_lt 0 slack then codes " slack " ++ decimal slack else []
 
--- the rate always stands there
+-- the rate is always there
 abbrev pub source_head : Source → List ℕ
 source_head s = codes "source " ++ s.name ++ codes " " ++ quoted s.file ++ codes " rate " ++ decimal s.rate ++ slack_text s.slack ++ codes ": "
 

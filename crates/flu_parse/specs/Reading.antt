@@ -1,4 +1,4 @@
--- A job text: the looks at it, in their order.
+-- A job text: the checks of it, in their order.
 use Rattle.std.specs.Prelude.{ℕ, nat_le, List, length, Ok, Err}
 use Rattle.std.specs.Str.{is_utf8}
 use Rattle.std.specs.Str.Lossy.{utf8_valid_len}
@@ -13,7 +13,7 @@ use Rattle.flu_parse.specs.declared.faults.JobFault.TheVariants as f
 use Rattle.flu_parse.specs.Faults.{Found, ◌>>=◌, ◌>>◌, unless}
 use Rattle.flu_parse.specs.Resolving.{resolved}
 
--- the bytes where they are UTF-8
+-- the bytes if they are UTF-8
 abbrev pub text_in : List ℕ → Found (List ℕ)
 text_in bytes = do
   unless (is_utf8 bytes) (f.BadUtf8 (utf8_valid_len bytes))

@@ -25,7 +25,7 @@ use Rattle.flu_parse.specs.Naming.{Naming, naming_of, kind_of}
 use Rattle.flu_parse.specs.Actions.{resolved_actions}
 use Rattle.flu_parse.specs.Listings.{Listed, tags_of, rate_of, slack_of, file_of}
 
--- the job as far as its declarations are looked at, with the numbers of the kinds whose `on` was met
+-- the job as far as its declarations were processed, with the numbers of the kinds whose `on` was met
 pub record Drafted : Type 0 where
   pub kinds : List PlainKind
   pub given : List ℕ
@@ -39,7 +39,7 @@ drafted d = record { kinds = map plain_kind d.kinds.items; given = d.given.items
 abbrev pub tags_listed : TagList → Listed
 tags_listed l = record { tags = l.tags.items; itags = l.itags }
 
--- `same` stands only between two keyed kinds
+-- `same` may only be used between two keyed kinds
 abbrev pub same_of : WrittenRelation → KindHead → KindHead → Found Bool
 same_of r.None a b = Ok false
 same_of r.All a b = Ok false
@@ -80,7 +80,7 @@ with_source text n d name file written_rate written_slack tags = do
     itags = listed.itags;
   })
 
--- one declaration more
+-- one more declaration
 unfoldable pub with_declaration : List ℕ → Naming → Drafted → Declaration → Found Drafted
 with_declaration text n d (w.Cell name keyed sort) = Ok d
 with_declaration text n d (w.Tag name keyed has_value) = Ok d
@@ -101,7 +101,7 @@ first_draft n = record { kinds = map idle_kind n.kinds; given = []; depends = []
 abbrev pub draft_of : List ℕ → Naming → List Declaration → Found Drafted
 draft_of text n ds = each (with_declaration text n) (first_draft n) ds
 
--- the version of the language is 1 where none is written
+-- the version of the language is 1 if none is written
 abbrev pub version_of : Option WrittenNumber → Found ℕ
 version_of None = Ok 1
 version_of (Some v) = do

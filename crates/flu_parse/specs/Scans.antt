@@ -10,7 +10,7 @@ scan_of s = record { pieces = s.pieces.items; start = s.start; in_field = s.in_f
 abbrev pub template_of_scan : ScannedTemplate → Template
 template_of_scan t = record { pieces = t.pieces.items; whole = t.whole }
 
--- the scan goes on, or stops before a faulty brace
+-- the scan continues, or stops before a faulty brace
 abbrev pub Steps : Bool → Scan → Scan → Option Scan → Type 0
 Steps true old new found = found ≡ Some new
 Steps false old new found = (found ≡ None) × (new.pieces ≡ old.pieces)

@@ -34,7 +34,7 @@ is_open_bracket b = b == 91
 abbrev pub span : ℕ → ℕ → WrittenSpan
 span from to = record { from = from; to = to }
 
--- ---- the form of a field, by the places of what stands between its braces
+-- ---- the form of a field, by the places of what is between its braces
 
 -- a number by the rule of tokens
 unfoldable pub digits_at : List ℕ → ℕ → Option WrittenKey
@@ -45,7 +45,7 @@ digits_at (b ∷ bs) at = if list_all is_ascii_digit (b ∷ bs) then option_map 
 unfoldable pub key_at : List ℕ → ℕ → Option WrittenKey
 key_at word at = if bytes_eq word (codes "key") then Some (k.OwnKey at) else digits_at word at
 
--- a family's name, with perhaps a key in brackets, where the first bracket stands at this place of the word
+-- a family's name, with an optional key in brackets, with the first bracket at this place of the word, if there is one
 unfoldable pub ref_with : List ℕ → ℕ → ℕ → Option ℕ → Option WrittenPiece
 ref_with text from to None = if is_name (spelled text from to) then Some (p.Read (record { family = span from to; key = k.Alone })) else None
 ref_with text from to (Some i) =
@@ -66,15 +66,15 @@ field_at text in_flush from to =
     else if in_flush then (if bytes_eq word (codes "cell") then Some p.CellValue else None)
     else ref_at text from to
 
--- what stands between two braces: a field, or what has the form of none
+-- what is between two braces: a field, or something that has the form of none
 abbrev pub braced : Option WrittenPiece → WrittenPiece
 braced None = p.Formless
 braced (Some field) = field
 
 -- ---- the pieces of a template, byte by byte
 
--- A brace is faulty where it has no partner: a `{` without a `}` behind it before the next brace, or a `}` without a `{` before it.
--- What stands between two braces that match is a piece, even where it has the form of no field.
+-- A brace is faulty if it has no partner: a `{` without a `}` after it before the next brace, or a `}` without a `{` before it.
+-- What is between two braces that match is a piece, even if it has the form of no field.
 
 -- the pieces so far, where the next one begins, and whether it is a field
 pub record Scan : Type 0 where
@@ -94,7 +94,7 @@ with_plain s place = if nat_lt s.start place then s.pieces ++ p.Plain (span s.st
 abbrev pub with_piece : Scan → ℕ → WrittenPiece → Scan
 with_piece s place piece = record { pieces = s.pieces ++ piece ∷ []; start = place + 1; in_field = false }
 
--- one byte more, at a place; none where it is a faulty brace, or shows that the `{` before it is one
+-- one more byte, at a place; none if it is a faulty brace, or shows that the `{` before it is one
 unfoldable pub scan_byte : (ℕ → ℕ → Option WrittenPiece) → Scan → ℕ → ℕ → Option Scan
 scan_byte field s place b =
     if s.in_field then (if b == close_brace then Some (with_piece s place (braced (field s.start place))) else if b == open_brace then None else Some s)
@@ -117,11 +117,11 @@ scan field s place (b ∷ bs) = continued s (scan_byte field s place b) (λ next
 abbrev pub scan_start : ℕ → Scan
 scan_start place = record { pieces = []; start = place; in_field = false }
 
--- the template of a written text, whose inside begins behind its quote
+-- the template of a written text, whose inside begins after its quote
 unfoldable pub template_at : List ℕ → Bool → WrittenSpan → Template
 template_at text in_flush s = scan (field_at text in_flush) (scan_start (s.from + 1)) (s.from + 1) (inside text s)
 
--- ---- what a template means; all its faults stand at the text's place
+-- ---- what a template means; all its faults are at the text's place
 
 -- a family of each name, in the order of the fields
 unfoldable pub known_name : List ℕ → Naming → ℕ → WrittenPiece → Found (Unit {0})

@@ -66,7 +66,7 @@ module _ (text : List ℕ) (n : Naming) (under : KindHead) where
   term_of (NotTree at e) = term_of e >>= λ t. Ok (Negation t)
   term_of (TwoTree op a b) = term_of a >>= λ s. term_of b >>= λ t. Ok (Operation op s t)
 
-  -- The height is looked at when the first token is found to be right.
+  -- The height is checked when the first token is found to be right.
   unfoldable pub expression_of : Tree → Found Term
   expression_of e = do
     first_token (first_part e)

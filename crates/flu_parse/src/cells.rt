@@ -28,7 +28,7 @@ pub fn resolved_key(number: WrittenNumber) -> Result<u32, JobFault>
     }
 }
 
-/// Whether brackets stand where they are to.
+/// Whether brackets are there exactly if they have to be.
 pub fn brackets_fit(keyed: bool, key: &WrittenKey) -> bool
     ensures { result ≡ brackets_fit keyed key.now }
 {
@@ -47,7 +47,7 @@ fn is_wanted(wanted: Option<Sort>, sort: Sort) -> bool
     }
 }
 
-/// The family that is named, of the wanted sort and with brackets where it is keyed.
+/// The family that is named, of the wanted sort and with brackets if it is keyed.
 pub fn family_for(
     text: &str,
     names: &Names,

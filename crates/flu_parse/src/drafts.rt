@@ -2,7 +2,7 @@
 
 use flu_model::{Depend, Family, Kind, List, Source, TagRef};
 
-/// The job as far as its declarations are looked at, with the numbers of the kinds whose `on` was met, and how many itags
+/// The job as far as its declarations were processed, with the numbers of the kinds whose `on` was met, and how many itags
 /// its sources have.
 #[derive(Drop)]
 pub struct Draft {
@@ -13,7 +13,7 @@ pub struct Draft {
     pub itags: u64,
 }
 
-/// The tags that a source lists so far, and how many itags the sources have so far.
+/// The tags that a source has listed so far, and how many itags the sources have so far.
 #[derive(Drop)]
 pub struct TagList {
     pub tags: Vec<TagRef>,

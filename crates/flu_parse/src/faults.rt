@@ -31,7 +31,7 @@ pub enum JobFault {
     /// There is more of this than the language allows: one more, or the key, the rate or the slack itself.
     #[error("over a limit")]
     OverLimit { what: What, count: u64 },
-    /// Memory is wanting.
+    /// Out of memory.
     #[error("out of memory")]
     NoMemory,
 }

@@ -125,7 +125,7 @@ fn field_at(text: &str, in_flush: bool, from: usize, to: usize) -> Option<Writte
     }
 }
 
-/// What stands between two braces, in an emit or in a flush: a field, or what has the form of none.
+/// What is between two braces, in an emit or in a flush: a field, or something that has the form of none.
 pub fn piece_between(text: &str, in_flush: bool, from: usize, to: usize) -> WrittenPiece
     ensures { result ≡ braced (field_at text.now in_flush from to) }
 {

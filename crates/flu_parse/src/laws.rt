@@ -6,7 +6,7 @@ use flu_layout::laws::{keys_are_laid, laid_is_read, read_may_be_printed};
 use flu_rules::tags_meet_by_their_ends;
 use flu_syntax::laws::{found_is_job, words_stand};
 
-/// The job that a text is keeps the rules of the language.
+/// The job of a text keeps the rules of the language.
 pub fn jobs_keep_rules()
     ensures { JobsKeepRules }
 {
@@ -16,7 +16,7 @@ pub fn jobs_keep_rules()
     tags_meet_by_their_ends();
 }
 
-/// The normal form of a job is read as that job, where it has at most 1,048,576 bytes.
+/// The normal form of a job is read as that job, if it has at most 1,048,576 bytes.
 pub fn printed_is_read()
     ensures { PrintedIsRead }
 {

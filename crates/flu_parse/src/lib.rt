@@ -1,4 +1,4 @@
-//! The readings of a job text (`docs/LANGUAGE.md`): from what is written to a job, or to the first fault with its place.
+//! Reading a job text (`docs/LANGUAGE.md`): from what is written to a job, or to the first fault with its place.
 #![tactic(auto)]
 
 mod actions;

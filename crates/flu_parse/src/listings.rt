@@ -59,7 +59,7 @@ fn keys_of(keys: &WrittenKeys) -> Result<Keys, JobFault>
     }
 }
 
-// The first key as it is written, 0 where there is none.
+// The first key as it is written, 0 if there is none.
 fn written_first(keys: &WrittenKeys) -> u64
     ensures { result ≡ first_key (written_keys keys.now) }
 {
@@ -70,7 +70,7 @@ fn written_first(keys: &WrittenKeys) -> u64
     }
 }
 
-// The last key as it is written, 0 where there is none.
+// The last key as it is written, 0 if there is none.
 fn written_last(keys: &WrittenKeys) -> u64
     ensures { result ≡ last_key (written_keys keys.now) }
 {
@@ -242,7 +242,7 @@ fn is_read(sources: &[Source], file: &str) -> bool
     sources.iter().any(|source| file == source.file.as_str())
 }
 
-/// The file that is written, which no source before reads.
+/// The file that is written, which no earlier source reads.
 pub fn file_of<'t>(
     text: &'t str,
     sources: &[Source],

@@ -3,7 +3,7 @@
 use flu_model::Sort;
 use indexmap::{IndexMap, IndexSet};
 
-/// What a family's declaration says beside its name, and its number, from 0 in the order of declarations.
+/// What a family's declaration says besides its name, and its number, from 0 in the order of declarations.
 #[derive(Clone, Copy)]
 pub struct FamilyHead {
     pub number: u32,
@@ -11,7 +11,7 @@ pub struct FamilyHead {
     pub sort: Sort,
 }
 
-/// What a kind's declaration says beside its name, and its number, from 0 in the order of declarations.
+/// What a kind's declaration says besides its name, and its number, from 0 in the order of declarations.
 #[derive(Clone, Copy)]
 pub struct KindHead {
     pub number: u32,

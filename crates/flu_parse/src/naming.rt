@@ -59,7 +59,7 @@ fn is_declared(names: &Names, name: &str) -> bool
     find_family(names, name).is_some() || find_kind(names, name).is_some() || is_source(names, name)
 }
 
-// The name, which no declaration before has.
+// The name, which no earlier declaration has.
 fn fresh_name<'t>(names: &Names, text: &'t str, span: WrittenSpan) -> Result<&'t str, JobFault>
     ensures found { Gives (λ name. name.now) result (fresh_name text.now (naming names.now) span) }
     ensures free { IfOk result (λ name. is_declared (naming names.now) name.now ≡ false) }
@@ -105,7 +105,7 @@ fn add_source<'t>(names: &mut Names<'t>, name: &'t str) -> Result<(), JobFault>
     }
 }
 
-// The names with one declaration more.
+// The names with one more declaration.
 #[tactic(auto, unfolding(crate::specs::Naming::declare))]
 fn declare<'t>(
     names: &mut Names<'t>,
@@ -234,14 +234,14 @@ pub fn naming_of<'t>(
     Ok(names)
 }
 
-/// The family that is named, of which there is one.
+/// The family that is named, which has to be declared.
 pub fn family_of(names: &Names, text: &str, span: WrittenSpan) -> Result<FamilyHead, JobFault>
     ensures { Gives (λ head. head) result (family_of text.now (naming names.now) span) }
 {
     find_family(names, name_of(text, span)).ok_or(JobFault::UnknownName { at: span.from })
 }
 
-/// The kind that is named, of which there is one.
+/// The kind that is named, which has to be declared.
 pub fn kind_of(names: &Names, text: &str, span: WrittenSpan) -> Result<KindHead, JobFault>
     ensures { Gives (λ head. head) result (kind_of text.now (naming names.now) span) }
 {

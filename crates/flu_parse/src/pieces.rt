@@ -2,7 +2,7 @@
 
 use flu_syntax::{WrittenRef, WrittenSpan};
 
-/// A piece: plain bytes by their places, or a field. The value of a flushed cell is written `{cell}`; what stands between two
+/// A piece: plain bytes by their places, or a field. The value of a flushed cell is written `{cell}`; what is between two
 /// braces may also have the form of no field.
 #[derive(Clone, Copy)]
 pub enum WrittenPiece {

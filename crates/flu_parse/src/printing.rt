@@ -192,15 +192,15 @@ fn printed(alloc: Global, p: &Program) -> Result<String, AllocError>
     Ok(text)
 }
 
-/// A job as a text, in normal form (`docs/LANGUAGE.md`): the version where it is 2, cells, tags, `depends`, the actions of the
-/// kinds that have some, and sources, each on a line of its own with one blank between words. Each operator stands in parentheses
-/// of its own, numbers have no needless zeros, the rate always stands there, and the slack where it is not 0.
+/// A job as a text, in normal form (`docs/LANGUAGE.md`): the version if it is 2, cells, tags, `depends`, the actions of the
+/// kinds that have some, and sources, each on a line of its own with one blank between words. Each operator is in parentheses
+/// of its own, numbers have no needless zeros, the rate is always there, and the slack if it is not 0.
 ///
-/// The text is read as this job again, where it has at most 1,048,576 bytes.
+/// The text is read as this job again, if it has at most 1,048,576 bytes.
 ///
 /// # Errors
 ///
-/// Only where memory is wanting.
+/// Only if memory runs out.
 pub fn print_job(alloc: Global, p: &Program) -> Result<Text, AllocError>
     ensures text { IfOk result (λ text. text ≡ normal_form (job_of p.now)) }
     ensures read_again { IfOk result (λ text. length text ≤ 1048576 → job_in text ≡ Ok (job_of p.now)) }

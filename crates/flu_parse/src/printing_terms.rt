@@ -9,7 +9,7 @@ ghost use Rattle.flu_parse.specs.Printing.{op_text, term_text};
 use flu_model::{At, CellRef, Expr, Family, Op};
 use std::alloc::AllocError;
 
-/// The name of a family, or nothing where there is no such family.
+/// The name of a family, or nothing if there is no such family.
 pub fn family_name(families: &[Family], family: u32) -> &str
     ensures { result.now ≡ family_name (slice_get families.now family) }
 {

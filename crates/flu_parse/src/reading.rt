@@ -76,16 +76,16 @@ fn read_parts(alloc: Global, bytes: &[u8]) -> Result<JobParts, JobFault>
 ///
 /// # Errors
 ///
-/// The looks come in this order, and the first fault found is the answer. [`JobFault::OverLimit`] for more than 1,048,576 bytes;
+/// The checks come in this order, and the first fault found is the answer. [`JobFault::OverLimit`] for more than 1,048,576 bytes;
 /// [`JobFault::BadUtf8`] at the first byte of the first sequence that is not UTF-8; [`JobFault::BadToken`] at the first place
 /// where no token begins; [`JobFault::Unexpected`] at the first token that cannot follow, or at the text's length, and
 /// [`JobFault::OverLimit`] at the 65th parenthesis or unary operator that is open at once.
 ///
-/// Then names are looked at, in the order of the declarations: [`JobFault::TwiceNamed`] at the second declaration of a name,
+/// Then names are checked, in the order of the declarations: [`JobFault::TwiceNamed`] at the second declaration of a name,
 /// [`JobFault::OverLimit`] for a family, kind, source or `depends` that is one too many. Then [`JobFault::WrongShape`] at a version
-/// other than 1 and 2. At last the declarations are looked at again, token by token, where [`JobFault::UnknownName`] comes before
+/// other than 1 and 2. At last the declarations are checked again, token by token, where [`JobFault::UnknownName`] comes before
 /// [`JobFault::WrongShape`], that before [`JobFault::OverLimit`], and that before [`JobFault::TwiceNamed`]. [`JobFault::NoMemory`]
-/// where memory is wanting.
+/// if memory runs out.
 pub fn read_job(alloc: Global, bytes: &[u8]) -> Result<Program, JobFault>
     ensures { Gives job_of result (job_in bytes.now) }
 {

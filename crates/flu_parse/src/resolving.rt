@@ -247,10 +247,10 @@ fn version_of(written: &Option<WrittenNumber>) -> Result<u32, JobFault>
 ///
 /// # Errors
 ///
-/// Names are looked at first, in the order of the declarations: [`JobFault::TwiceNamed`] at the second declaration of a name,
+/// Names are checked first, in the order of the declarations: [`JobFault::TwiceNamed`] at the second declaration of a name,
 /// [`JobFault::OverLimit`] for a family, kind, source or `depends` that is one too many. Then [`JobFault::WrongShape`] at a
-/// version other than 1 and 2. Then the declarations are looked at again, token by token, where an unknown name comes before a
-/// wrong shape, that before a limit, and that before what is named twice. [`JobFault::NoMemory`] where memory is wanting.
+/// version other than 1 and 2. Then the declarations are checked again, token by token, where an unknown name comes before a
+/// wrong shape, that before a limit, and that before what is named twice. [`JobFault::NoMemory`] if memory runs out.
 #[tactic(auto, unfolding(crate::specs::Resolving::resolved))]
 pub fn resolve(alloc: Global, text: &str, job: &WrittenJob) -> Result<JobParts, JobFault>
     ensures { Gives job_of_parts result (resolved text.now (job_of job.now)) }

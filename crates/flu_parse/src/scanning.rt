@@ -25,7 +25,7 @@ fn end_plain(scanner: &mut Scanner, place: usize) -> Result<(), AllocError>
     Ok(())
 }
 
-// One byte more, at a place: false where a brace has no partner, this one or the one that opened the field.
+// One more byte, at a place: false if a brace has no partner, this one or the one that opened the field.
 #[tactic(auto, unfolding(crate::specs::Templates::scan_byte))]
 fn scan_byte(
     scanner: &mut Scanner,

@@ -17,7 +17,7 @@ use std::alloc::Global;
 /// The greatest height of an expression.
 const MOST_LEVELS: u32 = 32;
 
-// Whether an expression is at most so many levels high. No more than these are gone down.
+// Whether an expression is at most this many levels high. It goes down no further than these.
 fn is_within(written: &WrittenExpr, levels: u32) -> bool
     ensures { result ≡ nat_le (height (view written.now)) levels }
 {

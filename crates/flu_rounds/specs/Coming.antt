@@ -21,7 +21,7 @@ pub use Rattle.flu_rounds.specs.Written.{text_up_to}
 use Rattle.flu_rounds.specs.Standing.{Standing, Runs, IsRoundOf, IsSourceFault, StandsBehind, IsFirstFrom, round_report}
 
 -- ---- a run over files
--- A RUN HAS COME TO A STANDING, above a border, where there is one, and from a state: what is held and the state are those behind the
+-- A RUN HAS COME TO A STANDING, above a border, if there is one, and from a state: what is held and the state are those after the
 -- rounds since its start, each of which was a round of the lines that the files had then; and this was written
 pub record CameFrom (p : Program) (rows : ℕ) (border : Option ℕ) (opening : Contents) (start left : Option Files) (now : Standing)
     (written : List ℕ) : Type 0 where
@@ -50,13 +50,13 @@ abbrev pub HasRun : Program → Files → Standing → List ℕ → Type 0
 HasRun p was now written = HasRunFrom p None nothing_held was now written
 
 -- ---- laws
--- LAW OF THE BEGINNING: before the first round nothing is run, and nothing is written
+-- LAW OF THE BEGINNING: before the first round nothing has been run, and nothing is written
 abbrev pub LawOfBeginningFrom : Option ℕ → Contents → Type 0
 LawOfBeginningFrom border opening =
     (p : Program) (rows : ℕ) (left : Option Files) (now : Standing)
     → IsFirstFrom p rows border opening now → (came : CameFrom p rows border opening left left now []) × (came.done ≡ [])
 
--- LAW OF GOING ON: a round with a border comes to the next standing, and is run behind those before it
+-- LAW OF GOING ON: a round with a border comes to the next standing, and is run after those before it
 abbrev pub LawOfGoingOnFrom : Option ℕ → Contents → Type 0
 LawOfGoingOnFrom border opening =
     (p : Program) (rows : ℕ) (start left left' : Option Files) (old new : Standing) (written : List ℕ) (t : ℕ)
@@ -74,7 +74,7 @@ LawOfTextFrom border opening =
     → CameFrom p rows border opening start left now written
     → WhereTold start left (λ was is. RanFrom p rows border opening (lines_in p was) now.held.border written)
 
--- LAW OF THE NEXT TEXT: with the report of a round more, it is that of all rows up to the round's end
+-- LAW OF THE NEXT TEXT: with the report of one more round, it is the report of all rows up to the round's end
 abbrev pub LawOfNextTextFrom : Option ℕ → Contents → Type 0
 LawOfNextTextFrom border opening =
     (p : Program) (rows : ℕ) (start left left' : Option Files) (old : Standing) (written : List ℕ) (end : Border) (now : ℕ → List Next)
@@ -83,11 +83,11 @@ LawOfNextTextFrom border opening =
     → WhereTold start left' (λ was is. (ran : RanFrom p rows border opening (lines_in p was) old.held.border written)
     × WouldWriteFrom p rows border opening (lines_in p was) old.held.border ran.before now end (written ++ round_report old end now))
 
--- A state is that of the fold from this one up to this border, where there is one, of the rows above the run's start
+-- a state is the state of the fold from this one up to this border, if there is one, of the rows above the run's start
 abbrev pub IsStateUpTo : Program → Option ℕ → Contents → Option ℕ → (ℕ → List Next) → Contents → Type 0
 IsStateUpTo p border opening above before s = (t : ℕ) → above ≡ Some t → s ≡ final_state p opening (lists_between p border (At t) before)
 
--- LAW OF THE TEXT AND THE STATE: by the rounds that were run the text is as in the law of the text, and the state is that of the same fold
+-- LAW OF THE TEXT AND THE STATE: by the rounds that were run the text is as in the law of the text, and the state is the state of the same fold
 abbrev pub LawOfTextAndState : Option ℕ → Contents → Type 0
 LawOfTextAndState border opening =
     (p : Program) (rows : ℕ) (start left : Option Files) (now : Standing) (written : List ℕ) → 1 ≤ rows
@@ -95,7 +95,7 @@ LawOfTextAndState border opening =
     → WhereTold start left (λ was is. (ran : RanFrom p rows border opening (lines_in p was) now.held.border written) × (ran.done ≡ came.done)
     × IsStateUpTo p border opening now.held.border ran.before (held now.state))
 
--- LAW OF THE NEXT TEXT AND STATE: the same before a round more, and the text with its report
+-- LAW OF THE NEXT TEXT AND STATE: the same before one more round, and the text with its report
 abbrev pub LawOfNextTextAndState : Option ℕ → Contents → Type 0
 LawOfNextTextAndState border opening =
     (p : Program) (rows : ℕ) (start left left' : Option Files) (old : Standing) (written : List ℕ) (end : Border) (now : ℕ → List Next)
@@ -105,7 +105,7 @@ LawOfNextTextAndState border opening =
     × IsStateUpTo p border opening old.held.border ran.before (held old.state)
     × WouldWriteFrom p rows border opening (lines_in p was) old.held.border ran.before now end (written ++ round_report old end now))
 
--- LAW OF THE NEXT STATE: behind a round with a border the state is that of the fold up to it
+-- LAW OF THE NEXT STATE: after a round with a border the state is the state of the fold up to it
 abbrev pub LawOfNextState : Option ℕ → Contents → Type 0
 LawOfNextState border opening =
     (p : Program) (rows : ℕ) (start left left' : Option Files) (old new : Standing) (written : List ℕ) (t : ℕ) → 1 ≤ rows
@@ -113,7 +113,7 @@ LawOfNextState border opening =
     → (runs : Runs old new left left' (At t) came.before)
     → WhereTold start left' (λ was is. held new.state ≡ final_state p opening (lists_between p border (At t) runs.fills.now))
 
--- LAW OF THE LAST ROUND: behind it all rows were run, and all files were read to their ends
+-- LAW OF THE LAST ROUND: after it all rows were run, and all files were read to their ends
 abbrev pub LawOfLastFrom : Option ℕ → Contents → Type 0
 LawOfLastFrom border opening =
     (p : Program) (rows : ℕ) (start left left' : Option Files) (old new : Standing) (written : List ℕ) → 1 ≤ rows
@@ -123,7 +123,7 @@ LawOfLastFrom border opening =
     → AreReadOut (files_of p.sources) left' × WhereTold start left'
     (λ was is. HasRunFrom p border opening was new (written ++ round_report old Closed runs.fills.now))
 
--- LAW OF A DEFECT: it is met by the run of the lines, behind the rounds so far
+-- LAW OF A DEFECT: it is met by the run of the lines, after the rounds so far
 abbrev pub LawOfDefectFrom : Option ℕ → Contents → Type 0
 LawOfDefectFrom border opening =
     (p : Program) (rows : ℕ) (start left left' : Option Files) (old : Standing) (written : List ℕ) (f : SourceFault) → 1 ≤ rows
@@ -132,7 +132,7 @@ LawOfDefectFrom border opening =
     → (f.source < length p.sources) × WhereTold start left' (λ was is. (ran : RanFrom p rows border opening (lines_in p was) old.held.border written)
     × IsRoundFault p rows old.held.border (lines_in p was) ran.before f)
 
--- LAW OF A DEFECT AND THE STATE: by the rounds that were run, and with the state behind them
+-- LAW OF A DEFECT AND THE STATE: by the rounds that were run, and with the state after them
 abbrev pub LawOfDefectAndState : Option ℕ → Contents → Type 0
 LawOfDefectAndState border opening =
     (p : Program) (rows : ℕ) (start left left' : Option Files) (old : Standing) (written : List ℕ) (f : SourceFault) → 1 ≤ rows
@@ -143,8 +143,8 @@ LawOfDefectAndState border opening =
     × IsRoundFault p rows old.held.border (lines_in p was) ran.before f)
 
 -- ---- names that no source has
--- LAW OF OTHER NAMES: a run stays where it has come to, by the same rounds, while names change between two rounds that are no source's
--- file
+-- LAW OF OTHER NAMES: a run is still where it has come to, by the same rounds, if names that are no source's file change between two
+-- rounds
 abbrev pub LawOfOtherNames : Option ℕ → Contents → Type 0
 LawOfOtherNames border opening =
     (p : Program) (rows : ℕ) (start left left' : Option Files) (now : Standing) (written : List ℕ)
@@ -152,18 +152,18 @@ LawOfOtherNames border opening =
     → WhereTold left left' (λ was is. (name : List ℕ) → Contains (files_of p.sources) name → is name ≡ was name)
     → (same : CameFrom p rows border opening start left' now written) × (same.done ≡ came.done)
 
--- ---- fronts of the report
--- this is a front of the report of the fold of all rows above a border, where there is one, and from a state
+-- ---- prefixes of the report
+-- this is a prefix of the report of the fold of all rows above a border, if there is one, and from a state
 abbrev pub IsFrontOfReport : Program → Option ℕ → Contents → Files → List ℕ → Type 0
 IsFrontOfReport p border opening left text = (rest : List ℕ) × (report p (final_outputs p opening (lists_above border (lists_of p left))) ≡ text ++ rest)
 
--- LAW OF FRONTS: where no source has a defect, what a run has written behind a border is a front of its report
+-- LAW OF FRONTS: if no source has a defect, what a run has written after a border is a prefix of its report
 abbrev pub LawOfReportFronts : Option ℕ → Contents → Type 0
 LawOfReportFronts border opening =
     (p : Program) (rows : ℕ) (left : Files) (above : Option ℕ) (text : List ℕ) → 1 ≤ rows → AreSound p (lines_in p left)
     → RanFrom p rows border opening (lines_in p left) above text → IsFrontOfReport p border opening left text
 
--- LAW OF NEXT FRONTS: and so it is with the report of a round more
+-- LAW OF NEXT FRONTS: the same with the report of one more round
 abbrev pub LawOfNextReportFronts : Option ℕ → Contents → Type 0
 LawOfNextReportFronts border opening =
     (p : Program) (rows : ℕ) (left : Files) (above : Option ℕ) (text more : List ℕ) (now : ℕ → List Next) (end : Border) → 1 ≤ rows

@@ -10,20 +10,20 @@ use Rattle.flu_streams.specs.Holding.{ClosedAreReadOut}
 use Rattle.flu_rounds.specs.Coming.{CameFrom, lists_above}
 use Rattle.flu_rounds.specs.Standing.{Standing, Runs, StandsBehind, IsFirstFrom, round_lists, round_report}
 
--- A RUN HAS COUNTED ITS EVENTS: it has come to a standing, and the counts are those of its start, grown by the lists of its rounds in
+-- A RUN HAS COUNTED ITS EVENTS: it has come to a standing, and the counts are those of its start, increased by the lists of its rounds in
 -- turn
 pub record CountedFrom (p : Program) (rows : ℕ) (border : Option ℕ) (opening : Contents) (start left : Option Files) (now : Standing) (written : List ℕ)
     (first counts : List ℕ) : Type 0 where
   pub came : CameFrom p rows border opening start left now written
   pub counts' : counts ≡ grown_in_turn first came.done
 
--- before the first round nothing is counted
+-- before the first round nothing has been counted
 abbrev pub LawOfFirstCounts : Type 0
 LawOfFirstCounts =
     (p : Program) (rows : ℕ) (border : Option ℕ) (opening : Contents) (left : Option Files) (now : Standing) (first : List ℕ)
     → IsFirstFrom p rows border opening now → CountedFrom p rows border opening left left now [] first first
 
--- a round with a border grows the counts by its lists
+-- a round with a border increases the counts by its lists
 abbrev pub LawOfNextCounts : Type 0
 LawOfNextCounts =
     (p : Program) (rows : ℕ) (border : Option ℕ) (opening : Contents) (start left left' : Option Files) (old new : Standing) (written first counts : List ℕ)
@@ -35,7 +35,7 @@ LawOfNextCounts =
     → CountedFrom p rows border opening start left' new (written ++ round_report old (At t) runs.fills.now) first
     (grown counts (round_lists old (At t) runs.fills.now))
 
--- behind the last round the events of all rows above the run's start were counted
+-- after the last round the events of all rows above the run's start were counted
 abbrev pub LawOfLastCounts : Type 0
 LawOfLastCounts =
     (p : Program) (rows : ℕ) (border : Option ℕ) (opening : Contents) (start left left' : Option Files) (old new : Standing) (written first counts : List ℕ)

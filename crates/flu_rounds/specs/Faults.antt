@@ -4,7 +4,7 @@ use Rattle.flu_streams.specs.declared.faults.GatherFault.TheVariants.{Source as 
 use Rattle.flu_rounds.specs.declared.faults.RoundsFault.{RoundsFault}
 use Rattle.flu_rounds.specs.declared.faults.RoundsFault.TheVariants.{Source, ReadFault, NoMemory}
 
--- each is told as what it is
+-- each is reported as what it is
 abbrev pub fault_of_refill : GatherFault → RoundsFault
 fault_of_refill (SourceFaulty f) = Source f
 fault_of_refill ReadFaulty = ReadFault

@@ -26,7 +26,7 @@ pub record AreRun (p : Program) (opening : State) (rows : List (List Item)) (sta
   pub state' : held state ≡ final_state p (held opening) rows
   pub outs' : IsPermutation (final_outputs p (held opening) rows) outs
 
--- THE SECOND HALF: the report of the outputs, in whatever order they are, stands behind what was there; or a front of it
+-- THE SECOND HALF: the report of the outputs, in whatever order they are, was appended to what was there; or a prefix of it
 abbrev pub AppendsReport : Program → List Out → Option (List ℕ) → Option (List ℕ) → Type 0
 AppendsReport p outs had has = (others : List Out) → IsPermutation outs others → WhereTold had has (AppendsAll (report p others))
 
@@ -43,7 +43,7 @@ LawOfHalves =
     → (before : ℕ → List Next) → AreHeldBehind old.held before
     → (runs : Runs old new left left' end before) × WhereTold had has (AppendsAll (round_report old end runs.fills.now))
 
--- LAW OF A HALF: where the second one fails, a front of the round's report was written
+-- LAW OF A HALF: if the second one fails, a prefix of the round's report was written
 abbrev pub LawOfHalf : Type 0
 LawOfHalf =
     (p : Program) (old : Standing) (new : Holding) (left left' : Option Files) (end : Border) (opening state : State) (rows : List (List Item))

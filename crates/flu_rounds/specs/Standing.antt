@@ -1,4 +1,4 @@
--- Where a run in rounds stands, and what a round does (`docs/MODEL.md`, "Rounds").
+-- How far a run in rounds has come, and what a round does (`docs/MODEL.md`, "Rounds").
 use Rattle.std.specs.Prelude.{◌≡◌, ℕ, List, Option, None, ⊤}
 use Rattle.flu_model.specs.declared.events.Item.{Item}
 use Rattle.flu_model.specs.declared.jobs.Program.{Program}
@@ -16,12 +16,12 @@ use Rattle.flu_streams.specs.Rounds.{IsRound, lists_between}
 use Rattle.flu_rounds.specs.declared.faults.RoundsFault.{RoundsFault}
 use Rattle.flu_rounds.specs.declared.faults.RoundsFault.TheVariants.{Source, ReadFault, WriteFault, NoMemory}
 
--- what is held of the sources, and the state behind the rounds so far
+-- what is held of the sources, and the state after the rounds so far
 pub record Standing : Type 0 where
   pub held : Holding
   pub state : State
 
--- before the first round of a run that starts above a border, where there is one, nothing is held of the sources, and the state is
+-- before the first round of a run that starts above a border, if there is one, nothing is held of the sources, and the state is
 -- the one that it starts from
 pub record IsFirstFrom (p : Program) (rows : ℕ) (border : Option ℕ) (opening : Contents) (s : Standing) : Type 0 where
   pub held' : s.held ≡ unread p rows border
@@ -31,7 +31,7 @@ pub record IsFirstFrom (p : Program) (rows : ℕ) (border : Option ℕ) (opening
 abbrev pub IsFirst : Program → ℕ → Standing → Type 0
 IsFirst p rows s = IsFirstFrom p rows None nothing_held s
 
--- the lists of the rows that a round takes, where these lines were read of each source
+-- the lists of the rows that a round takes, if these lines were read of each source
 abbrev pub round_lists : Standing → Border → (ℕ → List Next) → List (List Item)
 round_lists old end now = lists_between old.held.program old.held.border end now
 
@@ -39,17 +39,17 @@ round_lists old end now = lists_between old.held.program old.held.border end now
 abbrev pub round_report : Standing → Border → (ℕ → List Next) → List ℕ
 round_report old end now = report old.held.program (final_outputs old.held.program (held old.state) (round_lists old end now))
 
--- A ROUND: the sources were filled for it, and the state is that of the fold of its rows
+-- A ROUND: the sources were filled for it, and the state is the state of the fold of its rows
 pub record Runs (old new : Standing) (left left' : Option Files) (end : Border) (before : ℕ → List Next) : Type 0 where
   pub fills : Fills old.held new.held left left' end before
   pub state : held new.state ≡ final_state old.held.program (held old.state) (round_lists old end fills.now)
 
--- a round that these lines were read for, some before it
+-- a round for which these lines were read, some of them before it
 pub record IsRoundOf (old : Standing) (left left' : Option Files) (end : Border) (before now : ℕ → List Next) : Type 0 where
   pub round : WhereTold left left' (λ was is. (whole : ℕ → List Next) → AreInAll old.held before was whole
       → IsRound old.held.program old.held.rows old.held.border whole before now end)
 
--- what is held is that of the same job behind this round
+-- what is held is of the same job, after this round
 pub record StandsBehind (old new : Holding) (end : Border) : Type 0 where
   pub program : new.program ≡ old.program
   pub rows : new.rows ≡ old.rows

@@ -18,7 +18,7 @@ use Rattle.flu_streams.specs.Borders.{beyond}
 use Rattle.flu_streams.specs.Rounds.{ComesFrom, IsRound, defect_in, lists_between}
 
 -- ---- lines and texts
--- the items above a border, where there is one
+-- the items above a border, if there is one
 abbrev pub lists_above : Option ℕ → List (List Item) → List (List Item)
 lists_above None lists = lists
 lists_above (Some t) lists = beyond t lists
@@ -27,11 +27,11 @@ lists_above (Some t) lists = beyond t lists
 abbrev pub lines_in : Program → Files → ℕ → List Next
 lines_in p left i = option_map_or (λ (s : Source). read_file (bytes_left left s.file)) (slice_get p.sources i) []
 
--- the report of the fold, from a state, of the rows above a border, where there is one, and up to an end among these lines
+-- the report of the fold, from a state, of the rows above a border, if there is one, and up to an end among these lines
 abbrev pub text_from : Program → Option ℕ → Contents → Border → (ℕ → List Next) → List ℕ
 text_from p border opening end lines = report p (final_outputs p opening (lists_between p border end lines))
 
--- the same up to another border, where there is one
+-- the same up to another border, if there is one
 abbrev pub text_up_from : Program → Option ℕ → Contents → Option ℕ → (ℕ → List Next) → List ℕ
 text_up_from p border opening None lines = []
 text_up_from p border opening (Some t) lines = text_from p border opening (At t) lines
@@ -43,8 +43,8 @@ text_until p end lines = text_from p None nothing_held end lines
 abbrev pub text_up_to : Program → Option ℕ → (ℕ → List Next) → List ℕ
 text_up_to p above lines = text_up_from p None nothing_held above lines
 
--- THE RUN OF THESE LINES above a border and from a state COMES TO ANOTHER BORDER, by rounds one after another, and this is written by
--- then
+-- THE RUN OF THESE LINES above a border and from a state COMES TO ANOTHER BORDER, by rounds one after another, and this has been written
+-- by then
 pub record RanFrom (p : Program) (rows : ℕ) (border : Option ℕ) (opening : Contents) (whole : ℕ → List Next) (above : Option ℕ)
     (written : List ℕ) : Type 0 where
   pub done : List (List (List Item))
@@ -55,7 +55,7 @@ pub record RanFrom (p : Program) (rows : ℕ) (border : Option ℕ) (opening : C
 abbrev pub RanTo : Program → ℕ → (ℕ → List Next) → Option ℕ → List ℕ → Type 0
 RanTo p rows whole above written = RanFrom p rows None nothing_held whole above written
 
--- A ROUND MORE of the lines, behind which this is written
+-- ONE MORE ROUND of the lines, after which this is written
 pub record WouldWriteFrom (p : Program) (rows : ℕ) (border : Option ℕ) (opening : Contents) (whole : ℕ → List Next) (above : Option ℕ)
     (before now : ℕ → List Next) (end : Border) (written : List ℕ) : Type 0 where
   pub round : IsRound p rows above whole before now end

@@ -8,13 +8,13 @@ use thiserror::Error;
 /// Why a round was not run, or not all of its report was written.
 #[derive(Clone, Copy, Debug, PartialEq, Eq, Error)]
 pub enum RoundsFault {
-    /// The round meets a defect: that of the first source, as declared, that has one. Nothing was written.
+    /// The round meets a defect: the defect of the first source, as declared, that has one. Nothing was written.
     #[error("a source has a defect")]
     Source(SourceFault),
     /// Bytes of a source's file could not be taken. Nothing was written.
     #[error("a read failed")]
     ReadFault,
-    /// The sink failed: it has fewer than all bytes of the round's report.
+    /// The sink failed: it has taken fewer than all bytes of the round's report.
     #[error("a write failed")]
     WriteFault,
     /// There was no memory. Nothing was written.

@@ -22,9 +22,9 @@ pub fn runs_go_on()
     rounds_begin_and_end();
 }
 
-/// What a run in rounds has written: behind each border it is the report of the fold of all rows up to it, and with the report of
-/// one round more that of all rows up to that round's end. The last round gives the report and the state of the fold of all rows.
-/// Where a round meets a defect, it is that of the run of the whole lines.
+/// What a run in rounds has written: after each border it is the report of the fold of all rows up to it, and with the report of
+/// one more round the report of all rows up to that round's end. The last round gives the report and the state of the fold of all rows.
+/// If a round meets a defect, it is the one that the run of all the lines meets.
 pub fn runs_write_the_fold()
     ensures text { LawOfText }
     ensures next { LawOfNextText }
@@ -46,7 +46,7 @@ pub fn resumed_runs_go_on()
 }
 
 /// What a run has written that is resumed above a border, from a state: as in `runs_write_the_fold`, with the fold from that state, of
-/// the rows above that border. And the state behind the rounds that were run is that of the same fold.
+/// the rows above that border. And the state after the rounds that were run is the state of the same fold.
 pub fn resumed_runs_write_the_fold()
     ensures text { (border : Option ℕ) (opening : Contents) → LawOfTextFrom border opening }
     ensures next { (border : Option ℕ) (opening : Contents) → LawOfNextTextFrom border opening }
@@ -63,8 +63,8 @@ pub fn resumed_runs_write_the_fold()
     rounds_begin_and_end();
 }
 
-/// What a run in rounds has counted (`CountedFrom`), whether it is resumed or not: before its first round nothing, each round with a
-/// border grows the counts by its events, and behind the last one those of all rows above the run's start were counted.
+/// What a run in rounds has counted (`CountedFrom`), whether it is resumed or not: before its first round nothing; each round with a
+/// border increases the counts by its events, and after the last one the events of all rows above the run's start were counted.
 pub fn runs_count_their_events()
     ensures first { LawOfFirstCounts }
     ensures next { LawOfNextCounts }
@@ -76,20 +76,20 @@ pub fn runs_count_their_events()
     rounds_begin_and_end();
 }
 
-/// Both halves of a round, with the fold of its rows between them, make a round; and where the second one fails, a front of the
+/// Both halves of a round, with the fold of its rows between them, make a round; and if the second one fails, a prefix of the
 /// round's report was written.
 pub fn halves_make_a_round()
     ensures round { LawOfHalves }
     ensures part { LawOfHalf }
 {}
 
-/// A run stays where it has come to while names change between two rounds that are no source's file.
+/// How far a run has come is not affected if, between two rounds, names change that are no source's file.
 pub fn other_names_leave_runs_alone()
     ensures { (border : Option ℕ) (opening : Contents) → LawOfOtherNames border opening }
 {}
 
-/// Where no source has a defect, what a run has written behind a border, and with the report of a round more, is a front of the report
-/// of the fold of all rows; of a run that is resumed, of those above its border, from its state.
+/// If no source has a defect, what a run has written after a border, with or without the report of one more round, is a prefix of the
+/// report of the fold of all rows; for a run that is resumed, of those above its border, from its state.
 pub fn fronts_of_reports()
     ensures fronts { (border : Option ℕ) (opening : Contents) → LawOfReportFronts border opening }
     ensures next { (border : Option ℕ) (opening : Contents) → LawOfNextReportFronts border opening }

@@ -1,4 +1,4 @@
-//! A run in rounds: each reads of every source what it needs, folds its rows from the state behind the round before it, and
+//! A run in rounds: each round reads of every source what it needs, folds its rows from the state after the round before it, and
 //! writes their report (`docs/MODEL.md`, "Rounds").
 #![tactic(auto)]
 

@@ -27,7 +27,7 @@ use std::alloc::{AllocError, Global};
 use std::marker::Model;
 use std::mem;
 
-/// Where a run in rounds stands: what is held of its sources, and the state behind the rounds so far, which is the empty one
+/// How far a run in rounds has come: what is held of its sources, and the state after the rounds so far, which is the empty one
 /// before the first.
 ///
 /// Contracts see both (`Standing` of `specs/Standing.antt`). One fact always holds of it: the state has values of the job's sorts.
@@ -37,12 +37,12 @@ pub struct Rounds {
     state: State,
 }
 
-/// What a round is to run.
+/// What a round has to run.
 #[derive(Drop)]
 pub struct Begun {
-    /// Up to which time it takes rows.
+    /// The time up to which it takes rows.
     pub border: Border,
-    /// The state behind the rounds before it.
+    /// The state after the rounds before it.
     pub opening: State,
     /// Its rows.
     pub rows: Streams,
@@ -67,11 +67,11 @@ impl Model for Rounds {
 }
 
 impl Rounds {
-    /// The run of a job before its first round. A round is to be had as soon as each source has so many rows that are settled.
+    /// The run of a job before its first round. A round is possible as soon as each source has this many rows that are settled.
     ///
     /// # Errors
     ///
-    /// Only where memory is wanting.
+    /// Only if memory runs out.
     pub fn new(alloc: Global, p: &Program, rows: u32) -> Result<Rounds, AllocError>
         requires some { 1 ≤ rows }
         requires few { rows ≤ 4096 }
@@ -88,7 +88,7 @@ impl Rounds {
     ///
     /// # Errors
     ///
-    /// Only where memory is wanting.
+    /// Only if memory runs out.
     pub fn resume(
         alloc: Global,
         p: &Program,
@@ -109,11 +109,11 @@ impl Rounds {
     }
 
     /// Runs one round: reads the sources until each holds what the round needs of it, runs its rows on the engine from the state
-    /// behind the rounds before it, and writes their report to `out`. It answers the round's border, and `Closed` for the last one.
+    /// after the rounds before it, and writes their report to `out`. It answers the round's border, and `Closed` for the last one.
     ///
     /// # Errors
     ///
-    /// See [`RoundsFault`]. Behind an error no further round may be run.
+    /// See [`RoundsFault`]. After an error no further round may be run.
     pub fn round<F: Files, K: Sink, R, N: Engine<R>>(
         &mut self,
         rt: &R,
@@ -138,11 +138,11 @@ impl Rounds {
         ensures few { OnOk result (HoldsFew self.new.held) }
         ensures most { HoldsAtMost 64096 self.new.held }
 
-        // A source fault is the defect that the round meets; out got nothing.
+        // A source fault is the defect that the round meets; nothing was written to out.
         ensures fault { IfErr result (λ f. IsSourceFault self.old.held (F.left files.old) (F.left files.new) f) }
         ensures nothing { IfErr result (λ f. f ≢ RoundsFault.WriteFault → K.taken out.new ≡ K.taken out.old) }
 
-        // Where out failed it has a front of the round's report.
+        // If out failed it has taken a prefix of the round's report.
         ensures part { IsErrOf result RoundsFault.WriteFault → (before : ℕ → List Next) → AreHeldBehind self.old.held before
             → (end : Border) × (now : ℕ → List Next) × IsRoundOf self.old (F.left files.old) (F.left files.new) end before now
             × WhereTold (K.taken out.old) (K.taken out.new) (AppendsPart (round_report self.old end now)) }
@@ -150,8 +150,8 @@ impl Rounds {
         ensures written_quiet { result ≢ Err RoundsFault.WriteFault → K.faults out.new ≡ K.faults out.old }
         ensures written_counts { K.faults out.old ≤ K.faults out.new }
 
-        // Bytes are taken from the front of the sources' files alone, and a read fault has its cause there: no other answer comes
-        // behind a take that failed.
+        // Only bytes from the front of the sources' files are taken, and a read fault has its cause there: no other answer comes
+        // after a take that failed.
         ensures fronts { WhereTold (F.left files.old) (F.left files.new) TookFronts }
         ensures others { WhereTold (F.left files.old) (F.left files.new) (LeavesOthers (files_of self.old.held.program.sources)) }
         ensures counts { CountsOfNames (F.left files.old) (files_of self.old.held.program.sources) (F.faults files.old) (F.faults files.new) }
@@ -171,12 +171,12 @@ impl Rounds {
         Ok(border)
     }
 
-    /// The first half of a round: reads the sources until each holds what the round needs of it, and hands out what is to be run.
-    /// Whoever runs the rows from the opening state hands what they give to [`Rounds::finish`].
+    /// The first half of a round: reads the sources until each holds what the round needs of it, and hands out what has to be run.
+    /// Whoever runs the rows from the opening state passes the results to [`Rounds::finish`].
     ///
     /// # Errors
     ///
-    /// See [`RoundsFault`], but a write fault. Behind an error no further round may be run.
+    /// See [`RoundsFault`]; a write fault is not possible. After an error no further round may be run.
     pub fn begin<F: Files>(
         &mut self,
         alloc: Global,
@@ -203,8 +203,8 @@ impl Rounds {
         ensures fault { IfErr result (λ f. IsSourceFault self.old.held (F.left files.old) (F.left files.new) f) }
         ensures unwritten { result ≢ Err RoundsFault.WriteFault }
 
-        // Bytes are taken from the front of the sources' files alone, and a read fault has its cause there: no other answer comes
-        // behind a take that failed.
+        // Only bytes from the front of the sources' files are taken, and a read fault has its cause there: no other answer comes
+        // after a take that failed.
         ensures fronts { WhereTold (F.left files.old) (F.left files.new) TookFronts }
         ensures others { WhereTold (F.left files.old) (F.left files.new) (LeavesOthers (files_of p.now.sources)) }
         ensures counts { CountsOfNames (F.left files.old) (files_of p.now.sources) (F.faults files.old) (F.faults files.new) }
@@ -230,7 +230,7 @@ impl Rounds {
     ///
     /// # Errors
     ///
-    /// Only a write fault, behind which `out` has a front of the report, and want of memory, where it got nothing. Behind an error
+    /// Only a write fault, after which `out` has a prefix of the report, and lack of memory, after which it got nothing. After an error
     /// no further round may be run.
     pub fn finish<K: Sink>(
         &mut self,
@@ -258,7 +258,7 @@ impl Rounds {
         Ok(())
     }
 
-    /// The state behind the rounds so far. It takes no memory.
+    /// The state after the rounds so far. It takes no memory.
     pub fn state(&self) -> &State
         ensures value { result.now ≡ self.now.state }
         ensures sorts { IsStateOf self.now.held.program.families (held result.now) }
@@ -266,7 +266,7 @@ impl Rounds {
         &self.state
     }
 
-    /// The border of the last round that had one. Before it none, or that of a run that is resumed.
+    /// The border of the last round that had one. Before it none, or the border of a run that is resumed.
     pub fn border(&self) -> Option<u64>
         ensures { result ≡ self.now.held.border }
     {

@@ -44,7 +44,7 @@ enum Step {
 
 /// The rows of a file, read from its front, a line at a time.
 ///
-/// Contracts see where it stands (`Place` of `specs/Reading.antt`).
+/// Contracts see its position (`Place` of `specs/Reading.antt`).
 #[derive(Drop)]
 pub struct Rows {
     file: Text,
@@ -61,7 +61,7 @@ impl Model for Rows {
 }
 
 impl Rows {
-    /// The rows of a file of which nothing is read yet.
+    /// The rows of a file of which nothing was read yet.
     pub fn new(alloc: Global, file: &Text) -> Result<Rows, AllocError>
         ensures { IfOk result (λ rows. rows ≡ front_of file.now) }
     {
@@ -78,12 +78,12 @@ impl Rows {
         })
     }
 
-    /// Reads the next line that is not blank. A byte order mark may stand at the front of the first line; a later line that
+    /// Reads the next line that is not blank. A byte order mark may be at the front of the first line; a later line that
     /// begins with one is bad.
     ///
-    /// What a call gives after one that answered anything but a row is not promised to be of use.
+    /// Nothing useful is promised of a call after one that answered anything but a row.
     pub fn next_row<F: Files>(&mut self, files: &mut F) -> Result<Next, TakeFault>
-        // What was still to be read is what comes next, and behind it what is still to be read now.
+        // What was still to be read is what comes next, and after it what is still to be read now.
         ensures told { IfOk result (λ next. WhereTold (F.left files.old) (F.left files.new)
             (λ old new. ahead self.old old ≡ then_behind next (ahead self.new new))) }
         ensures end { IfOk result (λ next. OnDone next (IsReadOut self.old.file (F.left files.new))) }
@@ -91,7 +91,7 @@ impl Rows {
         ensures lines { IfOk result (CountsLines self.old.lines self.new.lines) }
         ensures same { self.new.file ≡ self.old.file }
 
-        // It takes bytes from the front of its file alone, and a read fault has its cause there: no other answer comes behind
+        // It only takes bytes from the front of its file, and a read fault has its cause there: no other answer comes after
         // a take that failed.
         ensures taken { WhereTold (F.left files.old) (F.left files.new) (TakesFrom self.old.file) }
         ensures counts { CountsOf (F.left files.old) self.old.file (F.faults files.old) (F.faults files.new) }
@@ -99,7 +99,7 @@ impl Rows {
         ensures puts { SameCounts (F.put_faults files.old) (F.put_faults files.new) }
         ensures cause { IsErrOf result TakeFault.Failed → Rose (F.faults files.old self.old.file) (F.faults files.new self.old.file) }
 
-        // A read fault is told only where it hides nothing that was taken: all that was still to be read still is, and what was
+        // A read fault is only reported if it hides nothing that was taken: all that was still to be read still is, and what was
         // taken and not read has no line feed, and no more bytes than a line may have.
         ensures kept { IsErrOf result TakeFault.Failed → WhereTold (F.left files.old) (F.left files.new)
             (λ old new. ahead self.old old ≡ ahead self.new new) }
@@ -114,7 +114,7 @@ impl Rows {
     }
 }
 
-/// What is held of a file: a run of lines, the bytes behind it, how many lines were read, and a record to read into.
+/// What is held of a file: a run of lines, the bytes after it, how many lines were read, and a record to read into.
 #[derive(Drop)]
 struct Hold {
     alloc: Global,
@@ -157,7 +157,7 @@ impl Hold {
         self.read_held(found)
     }
 
-    // Takes the row that was found at the front of the bytes that are held, and so many bytes with it.
+    // Takes the row that was found at the front of the bytes that are held, and this many bytes with it.
     fn take_row(&mut self, row: Row, size: usize) -> Step
         requires found { StartsWithRow self.old.held row size }
         requires range { IsInRange row }
@@ -215,7 +215,7 @@ impl Hold {
     }
 }
 
-// Takes the line that was found off the front.
+// Removes the line that was found from the front.
 fn take_line(
     alloc: Global,
     number: u32,

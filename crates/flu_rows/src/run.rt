@@ -11,7 +11,7 @@ use std::alloc::{AllocError, Global};
 use std::io::Cursor;
 use std::marker::Model;
 
-/// A line that is blank, as an empty one is, and of which csv gives a record.
+/// A blank line, as an empty one is, for which csv gives a record.
 const BLANK_LINE: [u8; 2] = [b',', b'\n'];
 
 /// The end of a line whose quotes are open.
@@ -19,7 +19,7 @@ const QUOTED_END: [u8; 2] = [b'"', b'\n'];
 
 /// Whole lines that are still to be read, which contracts see as their bytes.
 ///
-/// The reader stands in a box, so that a run is small to move.
+/// The reader is in a box, so that a run is small to move.
 #[derive(Drop)]
 pub(crate) struct Run {
     reader: Option<Box<Reader<Cursor<Vec<u8>>>>>,
@@ -73,7 +73,7 @@ impl Run {
         Run::of(alloc, lines)
     }
 
-    /// Reads the next line's record, where there is one more line.
+    /// Reads the next line's record, if there is one more line.
     pub(crate) fn next(&mut self, row: &mut ByteRecord) -> Result<bool, AllocError>
         ensures { IfOk result (λ found. GivesNext found self.old self.new (fields_of row.new)) }
     {
@@ -94,7 +94,7 @@ impl Run {
     }
 }
 
-// Copies the lines at the front that one reader may read, with a blank line of which csv gives a record for each that is
+// Copies the lines at the front that one reader may read, with a blank line for which csv gives a record in place of each that is
 // empty and with a quote that closes what is open, and says how many bytes they are.
 fn copy_lines(bytes: &[u8], lines: &mut Vec<u8>) -> Result<usize, AllocError>
     requires { lines.old.items ≡ [] }
@@ -124,7 +124,7 @@ fn copy_lines(bytes: &[u8], lines: &mut Vec<u8>) -> Result<usize, AllocError>
     Ok(end)
 }
 
-// Reads the record of the line that the reader stands at, where there is one.
+// Reads the record of the line that the reader is at, if there is one.
 fn read_record(
     reader: &mut Reader<Cursor<Vec<u8>>>,
     row: &mut ByteRecord,
@@ -138,7 +138,7 @@ fn read_record(
     Ok(found)
 }
 
-// Lets a reader go.
+// Drops a reader.
 fn close(reader: &mut Option<Box<Reader<Cursor<Vec<u8>>>>>)
     ensures { reader.new ≡ None }
 {

@@ -22,14 +22,14 @@ pub record AreCutAt (t : ℕ) (whole first second : List (List Item)) : Type 0 w
   pub early : all_events first ≡ filter (λ x. nat_le x.time t) (all_events whole)
   pub late : all_events second ≡ filter (λ x. nat_lt t x.time) (all_events whole)
 
--- what the fold gives is what the fold of the first lists gives, and then, from its state, that of the second ones
+-- what the fold gives is what the fold of the first lists gives, and then, from its state, the fold of the second ones
 pub record FoldsInTurn (p : Program) (opening : Contents) (whole first second : List (List Item)) : Type 0 where
   pub state : final_state p opening whole ≡ final_state p (final_state p opening first) second
   pub outputs : final_outputs p opening whole ≡ final_outputs p opening first ++ final_outputs p (final_state p opening first) second
   pub lines : report p (final_outputs p opening whole) ≡ report p (final_outputs p opening first)
       ++ report p (final_outputs p (final_state p opening first) second)
 
--- LAW OF BORDERS: what is cut at a time is folded in turn
+-- LAW OF BORDERS: what is cut at a time can be folded in turn
 abbrev pub LawOfBorders : Type 0
 LawOfBorders =
     (p : Program) (opening : Contents) (t : ℕ) (whole first second : List (List Item))

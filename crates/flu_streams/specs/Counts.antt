@@ -13,11 +13,11 @@ use Rattle.flu_streams.specs.Rounds.{ComesFrom, IsRound, lists_between}
 abbrev pub count_of_itag : List Event → ℕ → ℕ
 count_of_itag events itag = count_by (λ x. x.itag.0 == itag) events
 
--- a count with some events more; it stays at the greatest one that there is
+-- a count with some more events; it stays at the greatest one that there is
 abbrev pub counted_on : ℕ → ℕ → ℕ
 counted_on count more = min (count + more) (2 ^ 64 - 1)
 
--- the counts of the itags from this number on, each with the events of its itag more
+-- the counts of the itags from this number on, each increased by the events of its itag
 abbrev pub grown_by : ℕ → List ℕ → List Event → List ℕ
 grown_by itag [] events = []
 grown_by itag (count ∷ counts) events = counted_on count (count_of_itag events itag) ∷ grown_by (suc itag) counts events
@@ -35,7 +35,7 @@ grown_in_turn counts (lists ∷ rest) = grown_in_turn (grown counts lists) rest
 abbrev pub no_counts : Program → List ℕ
 no_counts p = replicate (count_of_itags p) 0
 
--- behind the events of other lists those of some lists more
+-- after the events of other lists, the events of some more lists
 abbrev pub OneMoreInTurn : Type 0
 OneMoreInTurn = (counts : List ℕ) (done : List (List (List Item))) (lists : List (List Item))
     → grown_in_turn counts (done ++ lists ∷ []) ≡ grown (grown_in_turn counts done) lists

@@ -1,4 +1,4 @@
--- What a fault of the sources tells: the first defect of all, and that a read fault hides none.
+-- What a fault of the sources says: the first defect of all, and that a read fault hides none.
 use Rattle.std.specs.Prelude.{◌≡◌, ◌<◌, ℕ, Option, Some, None, List, ◌∷◌, ◌++◌, length, ⊤}
 use Rattle.flu_model.specs.declared.jobs.Kind.{Kind}
 use Rattle.flu_model.specs.declared.jobs.Source.{Source}
@@ -18,14 +18,14 @@ use Rattle.flu_streams.specs.Good.{items_held, fault_of_source, first_fault}
 abbrev pub WasRead : Source → List Next → List Next → Contents → Type 0
 WasRead s read behind old = read_file (bytes_left old s.file) ≡ read ++ behind
 
--- some sources have no defect, and nor have the rows that were read of the next one, before what is still to be read
+-- some sources have no defect, nor do the rows that were read of the next one, before what is still to be read
 pub record StopsWithout (kinds : List Kind) (earlier : List Source) (s : Source) (read behind : List Next) (left : Contents) : Type 0 where
   pub good : first_some (λ e. fault_of_source kinds left e.0 e.1) (each_with_before earlier) ≡ None
   pub passes : first_of kinds s (items_held left earlier) read ≡ None
   pub was : WasRead s read behind left
 
 -- A read fault hides nothing that was taken: the sources before the one whose file failed are good, and the reading of that one
--- stops after rows without a defect; what was taken of it besides decides nothing.
+-- stops after rows without a defect; whatever else was taken of it decides nothing.
 pub record HidesNothing (p : Program) (old new : Option Contents) (before now : List ℕ → ℕ) : Type 0 where
   pub earlier : List Source
   pub source : Source

@@ -7,11 +7,11 @@ use Rattle.flu_outside.specs.Taking.{IsReadOut}
 abbrev pub files_of : List Source → List (List ℕ)
 files_of sources = map (λ (s : Source). s.file) sources
 
--- names but these have what they had
+-- names other than these have what they had
 abbrev pub LeavesOthers : List (List ℕ) → Contents → Contents → Type 0
 LeavesOthers names old new = (other : List ℕ) → (Contains names other → ⊥) → new other ≡ old other
 
--- no count falls, and none changes that is apart from the counts of these names
+-- no count falls, and no count changes that is apart from the counts of these names
 pub record CountsOfNames (left : Option Contents) (names : List (List ℕ)) (old new : List ℕ → ℕ) : Type 0 where
   pub rise : (n : List ℕ) → old n ≤ new n
   pub apart : (n : List ℕ) → ((name : List ℕ) → Contains names name → CountApart left name n) → new n ≡ old n

@@ -1,4 +1,4 @@
--- What defects are to rounds: where no source has one, the rounds up to any border give the front of what the whole gives; and one that
+-- What defects mean for rounds: if no source has one, the rounds up to any border give a prefix of what the whole gives; and one that
 -- is met is the first of its source.
 use Rattle.std.specs.Prelude.{◌≡◌, ℕ, ◌≤◌, List, Option, Some, None}
 use Rattle.flu_lemmas.specs.Elements.{AtEach}
@@ -15,7 +15,7 @@ use Rattle.flu_streams.specs.Borders.{FoldsInTurn, beyond}
 use Rattle.flu_streams.specs.Good.{lists_of}
 use Rattle.flu_streams.specs.Rounds.{Meets, Reads, ComesFrom, ComesTo, LinesIn, defect_in, lists_between}
 
--- LAW OF FRONTS: the fold of all rows is that of the rows of the rounds up to a border, and then that of the later ones
+-- LAW OF FRONTS: the fold of all rows is the fold of the rows of the rounds up to a border, and then the fold of the later ones
 abbrev pub LawOfFronts : Type 0
 LawOfFronts =
     (p : Program) (opening : Contents) (rows : ℕ) (whole : ℕ → List Next) (done : List (List (List Item))) (t : ℕ) (before : ℕ → List Next) (left : Files)
@@ -23,7 +23,7 @@ LawOfFronts =
     → ComesTo p rows whole done (Some t) before
     → FoldsInTurn p opening (lists_of p left) (lists_between p None (At t) before) (lists_between p (Some t) Closed whole)
 
--- of a run that starts above a border it is so with the later events
+-- for a run that starts above a border the same holds with the later events
 abbrev pub LawOfFrontsAbove : Type 0
 LawOfFrontsAbove =
     (p : Program) (opening : Contents) (rows : ℕ) (whole : ℕ → List Next) (start : ℕ) (done : List (List (List Item))) (t : ℕ) (before : ℕ → List Next)

@@ -26,12 +26,12 @@ rows_in left s = rows_of (read_file (bytes_left left s.file))
 abbrev pub items_held : Contents → List Source → ℕ
 items_held left sources = sum_by (λ (s : Source). items_of (width s) (rows_in left s)) sources
 
--- the fault of a source behind others: its first defect, where the items of those are held
+-- the fault of a source that comes after others: its first defect, given that the items of those are held
 abbrev pub fault_of_source : List Kind → Contents → List Source → Source → Option SourceFault
 fault_of_source kinds left earlier s =
     option_map (λ d. record { source = length earlier; row = d.0; why = d.1 }) (first_defect kinds s (items_held left earlier) (bytes_left left s.file))
 
--- THE FIRST FAULT: that of the first source, as declared, that has a defect
+-- THE FIRST FAULT: the fault of the first source, as declared, that has a defect
 abbrev pub first_fault : Program → Contents → Option SourceFault
 first_fault p left = first_some (λ e. fault_of_source p.kinds left e.0 e.1) (each_with_before p.sources)
 

@@ -1,4 +1,4 @@
--- What is held of the sources between rounds, and behind which lines that is so (`docs/MODEL.md`, "Rounds").
+-- What is held of the sources between rounds, and after which lines it is held (`docs/MODEL.md`, "Rounds").
 use Rattle.std.specs.Prelude.{◌≡◌, ℕ, ◌+◌, ◌<◌, ◌≤◌, ◌^◌, Bool, true, false, Result, Ok, Option, Some, None, List, [], ◌++◌, length, map, take, slice_get, sum_by}
 use Rattle.std.specs.Prelude.{if◌then◌else◌, ⊤}
 use Rattle.std.specs.List.{All}
@@ -28,7 +28,7 @@ use Rattle.flu_streams.specs.Tests.{rows_of, times_of, greatest, has_ended}
 
 -- ---- what is held
 -- of a source: the items with a time above the last border, in order of time; where its rows are read; the greatest time that was
--- read; whether `end` was; whether all of its file was; and in a resumed run, the border that the reading is still to come to
+-- read; whether `end` was; whether all of its file was; and in a resumed run, the border that the reading has yet to reach
 pub record HeldSource : Type 0 where
   pub items : List Item
   pub place : Place
@@ -37,7 +37,7 @@ pub record HeldSource : Type 0 where
   pub closed : Bool
   pub goal : Option ℕ
 
--- of all sources of a job: with how many rows a round is to be had, the border of the last cut, and what may be called next
+-- of all sources of a job: how many rows a round needs, the border of the last cut, and what may be called next
 pub record Holding : Type 0 where
   pub program : Program
   pub rows : ℕ
@@ -45,7 +45,7 @@ pub record Holding : Type 0 where
   pub stage : Stage
   pub sources : List HeldSource
 
--- nothing was read of a source, whose rows are run from this border on, where there is one
+-- nothing was read of a source, whose rows are run from this border on, if there is one
 abbrev pub unread_source : Option ℕ → Source → HeldSource
 unread_source border s = record { items = []; place = front_of s.file; last = None; ended = false; closed = false; goal = border }
 
@@ -57,7 +57,7 @@ unread p rows border = record { program = p; rows = rows; border = border; stage
 abbrev pub fresh : Program → ℕ → Holding
 fresh p rows = unread p rows None
 
--- ---- behind which lines
+-- ---- after which lines
 -- the number of the first itag of the source with a number
 abbrev pub first_itag : Program → ℕ → ℕ
 first_itag p number = sum_by width (take number p.sources)
@@ -66,8 +66,8 @@ first_itag p number = sum_by width (take number p.sources)
 abbrev pub IsUpTo : Option ℕ → Option ℕ → Type 0
 IsUpTo low border = (l : ℕ) → low ≡ Some l → (b : ℕ) × (border ≡ Some b) × (l ≤ b)
 
--- this is held of a source, whose first itag has this number, behind these lines and with this border: the items above a lower one,
--- which is the border itself but in a resumed run that has not come to it. The lower one is settled where more is to be read: so what
+-- this is held of a source, whose first itag has this number, after these lines and with this border: the items above a lower one,
+-- which is the border itself except in a resumed run that has not reached it. The lower one is settled if more is to be read: so what
 -- is still to come is above it.
 pub record IsHeldBehind (kinds : List Kind) (first : ℕ) (s : Source) (border : Option ℕ) (lines : List Next) (h : HeldSource) : Type 0 where
   pub file : h.place.file ≡ s.file
@@ -81,7 +81,7 @@ pub record IsHeldBehind (kinds : List Kind) (first : ℕ) (s : Source) (border :
   pub caught : h.goal ≡ None → low ≡ border
   pub goal : (t : ℕ) → h.goal ≡ Some t → border ≡ Some t
 
--- this is held of all sources behind these lines of each
+-- this is held of all sources after these lines of each
 pub record AreHeldBehind (h : Holding) (lines : ℕ → List Next) : Type 0 where
   pub count : length h.sources ≡ length h.program.sources
   pub each : (i : ℕ) (s : Source) (source : HeldSource) → slice_get h.program.sources i ≡ Some s → slice_get h.sources i ≡ Some source
@@ -91,11 +91,11 @@ pub record AreHeldBehind (h : Holding) (lines : ℕ → List Next) : Type 0 wher
 abbrev pub still : HeldSource → Contents → List Next
 still source left = if source.closed then [] else ahead source.place left
 
--- there are these lines in all: those that were read, and those that are still to be read
+-- these are all the lines: those that were read, and those that are still to be read
 abbrev pub AreInAll : Holding → (ℕ → List Next) → Contents → (ℕ → List Next) → Type 0
 AreInAll h lines left whole = AtEach (λ i source. whole i ≡ lines i ++ still source left) h.sources
 
--- nothing is left of a file that was read to its end, where that is told
+-- nothing is left of a file that was read to its end, if what is left is known
 abbrev pub ClosedAreReadOut : Holding → Option Contents → Type 0
 ClosedAreReadOut h left = AtEach (λ i source. source.closed ≡ true → IsReadOut source.place.file left) h.sources
 
@@ -104,19 +104,19 @@ abbrev pub AreClosed : Holding → Type 0
 AreClosed h = AtEach (λ i source. source.closed ≡ true) h.sources
 
 -- ---- how much is held
--- of each source at most as many rows are held as a round is to have of it, and one for each time within its slack
+-- of each source at most as many rows are held as a round needs of it, and one for each time within its slack
 abbrev pub HoldsFew : Holding → Type 0
 HoldsFew h = AtEach (λ i s. (source : HeldSource) → slice_get h.sources i ≡ Some source → length source.items ≤ h.rows + s.slack) h.program.sources
 
--- of each source at most so many
+-- of each source at most this many
 abbrev pub HoldsAtMost : ℕ → Holding → Type 0
 HoldsAtMost most h = AtEach (λ i source. length source.items ≤ most) h.sources
 
--- the lists of a round have at most so many events and heartbeats each, and the end
+-- the lists of a round have at most this many events and heartbeats each, and the end
 abbrev pub HaveAtMost : ℕ → List (List Item) → Type 0
 HaveAtMost most lists = All (λ items. length items ≤ most + 1) lists
 
--- LAW OF WHAT IS HELD: rounds of at most 4,096 rows hold at most 64,096 rows of a source, and the lists of one have at most 16,408,576
+-- LAW OF WHAT IS HELD: rounds of at most 4,096 rows hold at most 64,096 rows of a source, and the lists of a round have at most 16,408,576
 -- events and heartbeats, and the ends of 256 lists
 pub record LawOfBounds : Type 0 where
   pub rows : (h : Holding) → h.rows ≤ 4096 → length h.sources ≡ length h.program.sources → HoldsFew h → HoldsAtMost 64096 h
@@ -124,7 +124,7 @@ pub record LawOfBounds : Type 0 where
       → sum_by (λ (items : List Item). length items) lists ≤ 16408576 + 256
 
 -- ---- a refill
--- behind a refill a cut at its answer may be called
+-- after a refill a cut at its answer may be called
 abbrev pub IsFilled : Result Border GatherFault → Stage → Type 0
 IsFilled result stage = (b : Border) → result ≡ Ok b → stage ≡ Filled b
 
@@ -134,14 +134,14 @@ pub record KeepsJob (old new : Holding) : Type 0 where
   pub rows : new.rows ≡ old.rows
   pub border : new.border ≡ old.border
 
--- A REFILL reads what the round reads of each source, behind the lines that were read before it, and no others
+-- A REFILL reads what the round reads of each source, after the lines that were read before it, and no others
 pub record Fills (old new : Holding) (left left' : Option Contents) (end : Border) (before : ℕ → List Next) : Type 0 where
   pub now : ℕ → List Next
   pub behind : AreHeldBehind new now
   pub round : WhereTold left left' (λ was is. (whole : ℕ → List Next) → AreInAll old before was whole
       → IsRound old.program old.rows old.border whole before now end × AreInAll new now is whole)
 
--- a new border is above the one before it, and a time of a row
+-- a new border is above the one before it, and is a time that a row can have
 abbrev pub IsNewBorder : Option ℕ → Border → Type 0
 IsNewBorder above (At t) = (is_above above t ≡ true) × (t < 2 ^ 63)
 IsNewBorder above Closed = ⊤
@@ -155,7 +155,7 @@ IsRefillFault old left left' ReadFault = ⊤
 IsRefillFault old left left' NoMemory = ⊤
 
 -- A READ FAULT HIDES NO DEFECT: the sources before the one whose file failed have what the round reads of them, and no defect of theirs
--- is met; the reading of that one stops after rows without a defect, which are not enough, and what was taken of it besides decides nothing
+-- is met; the reading of that one stops after rows without a defect, which are not enough, and whatever else was taken of it decides nothing
 pub record HidesNoRoundFault (old : Holding) (left left' : Option Contents) (faults faults' : List ℕ → ℕ) (before : ℕ → List Next) : Type 0 where
   pub at : ℕ
   pub source : Source
@@ -175,17 +175,17 @@ pub record HidesNoRoundFault (old : Holding) (left left' : Option Contents) (fau
       × (whole at ≡ now at ++ ahead place is))
 
 -- ---- a cut
--- the border behind a cut at a border: the last round sets none
+-- the border after a cut at a border: the last round sets none
 abbrev pub border_after : Border → Option ℕ → Option ℕ
 border_after (At t) border = Some t
 border_after Closed border = border
 
--- behind the last round nothing may be called
+-- after the last round nothing may be called
 abbrev pub stage_after : Border → Stage
 stage_after (At t) = Filling
 stage_after Closed = Over
 
--- A CUT takes the rows of the round out, and leaves the others where they are; nothing is read
+-- A CUT takes out the rows of the round, and leaves the others where they are; nothing is read
 pub record Cuts (old new : Holding) (b : Border) : Type 0 where
   pub program : new.program ≡ old.program
   pub rows : new.rows ≡ old.rows
@@ -197,7 +197,7 @@ pub record Cuts (old new : Holding) (b : Border) : Type 0 where
   pub closed : AreClosed old → AreClosed new
 
 -- ---- the start
--- LAW OF THE START: before the first round nothing is read, so all lines are still to be read, and no file was read to its end
+-- LAW OF THE START: before the first round nothing has been read, so all lines are still to be read, and no file was read to its end
 pub record IsStart (p : Program) (rows : ℕ) (border : Option ℕ) : Type 0 where
   pub behind : AreHeldBehind (unread p rows border) (λ i. [])
   pub all : (left : Contents) (whole : ℕ → List Next) → LinesIn p left whole → AreInAll (unread p rows border) (λ i. []) left whole
@@ -206,7 +206,7 @@ pub record IsStart (p : Program) (rows : ℕ) (border : Option ℕ) : Type 0 whe
 abbrev pub LawOfStart : Type 0
 LawOfStart = (p : Program) (rows : ℕ) (border : Option ℕ) → IsStart p rows border
 
--- behind the last round all files were read out
+-- after the last round all files were read to their ends
 abbrev pub LawOfEnds : Type 0
 LawOfEnds = (h : Holding) (lines : ℕ → List Next) (left : Option Contents)
     → AreHeldBehind h lines → AreClosed h → ClosedAreReadOut h left → AreReadOut (files_of h.program.sources) left

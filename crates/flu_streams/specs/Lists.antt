@@ -20,7 +20,7 @@ item_time EndItem = 0
 abbrev pub times_in : List Item → List ℕ
 times_in items = map item_time items
 
--- the item that an event or a heartbeat is of the itag with this number
+-- the item that an event or a heartbeat is for the itag with this number
 abbrev pub item_for : ℕ → Item → Option Item
 item_for itag (EventItem x) = if x.itag.0 == itag then Some (EventItem x) else None
 item_for itag (BeatItem t) = Some (BeatItem t)

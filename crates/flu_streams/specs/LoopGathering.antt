@@ -21,7 +21,7 @@ use Rattle.flu_streams.specs.Lists.{lists_in}
 use Rattle.flu_streams.specs.Faults.{WasRead}
 use Rattle.flu_streams.specs.Files.{files_of, LeavesOthers}
 
--- one source more was read to its end, and has no defect
+-- one more source was read to its end, and has no defect
 pub record AddsSource (kinds : List Kind) (s : Source) (left left' : Option Contents) (old new : Gathered) : Type 0 where
   pub read : List Next
   pub passes : first_of kinds s old.held read ≡ None
@@ -38,14 +38,14 @@ fault_of_stop number (Defect row why) = SourceFaulty (record { source = number; 
 fault_of_stop number ReadStop = ReadFault
 fault_of_stop number NoMemoryStop = NoMemory
 
--- a fault of a source is that of this one, by its first defect
+-- a fault of a source is this one's, by its first defect
 abbrev pub IsFaultOf : List Kind → Source → ℕ → ℕ → Option Contents → Option Contents → GatherFault → Type 0
 IsFaultOf kinds s number held left left' (SourceFaulty f) =
     (f.source ≡ number) × WhereTold left left' (λ was now. first_defect kinds s held (bytes_left was s.file) ≡ Some (f.row, f.why))
 IsFaultOf kinds s number held left left' ReadFault = ⊤
 IsFaultOf kinds s number held left left' NoMemory = ⊤
 
--- the lists of some sources that stand first
+-- the lists of some sources that come first
 abbrev pub lists_of_sources : List Kind → Contents → List Source → List (List Item)
 lists_of_sources kinds left sources =
     flat_map (λ e. lists_of_rows kinds e.1 (sum_by width e.0) (rows_in left e.1)) (each_with_before sources)

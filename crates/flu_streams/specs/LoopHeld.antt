@@ -41,11 +41,11 @@ source_of h = record { items = h.items; place = h.rows; last = h.last; ended = h
 abbrev pub count_to : ℕ → List Item → ℕ
 count_to u items = length (filter (λ item. nat_le (item_time item) u) items)
 
--- the settled time, where so many of the items come no later
+-- the settled time, if this many of the items come no later
 abbrev pub enough_of : ℕ → ℕ → Option ℕ → List Item → Option ℕ
 enough_of rows slack last items = option_and_then (λ u. if nat_le rows (count_to u items) then Some u else None) (settled slack last)
 
--- the same, where the reading has come to the border of the run
+-- the same, if the reading has reached the border of the run
 abbrev pub without : Option ℕ → Option ℕ → Option ℕ
 without None found = found
 without (Some goal) found = None
@@ -53,7 +53,7 @@ without (Some goal) found = None
 abbrev pub enough_in : ℕ → ℕ → HeldSource → Option ℕ
 enough_in rows slack h = without h.goal (enough_of rows slack h.last h.items)
 
--- a border that is still to be come to is not settled
+-- a border that is still to be reached is not settled
 abbrev pub IsBefore : ℕ → HeldSource → Type 0
 IsBefore slack h = (t u : ℕ) → h.goal ≡ Some t → settled slack h.last ≡ Some u → u < t
 
@@ -62,25 +62,25 @@ abbrev pub IsShort : ℕ → Source → HeldSource → Type 0
 IsShort rows s h = (enough_in rows s.slack h ≡ None) × IsBefore s.slack h
 
 -- ---- how many items are held
--- how many are of the run: those above the border that is still to be come to, and all where there is none
+-- how many are of the run: those above the border that is still to be reached, and all if there is none
 abbrev pub count_above : Option ℕ → List Item → ℕ
 count_above goal items = length (filter (λ item. is_above goal (item_time item)) items)
 
--- as many as a round is to have, and one for each time within the slack
+-- as many as a round needs, and one for each time within the slack
 abbrev pub IsFew : ℕ → Source → Inlet → Type 0
 IsFew rows s h = count_above h.goal h.items ≤ rows + s.slack
 
--- of a source whose border is still to be come to, one item more may be held
+-- of a source whose border is still to be reached, one more item may be held
 abbrev pub HasRoom : Inlet → Type 0
 HasRoom h = (t : ℕ) → h.goal ≡ Some t → length h.items < 64096
 
 -- ---- a row
--- the test of a time behind these items, where this is the greatest time that was read
+-- the test of a time after these items, with this as the greatest time that was read
 abbrev pub test_late : ℕ → List ℕ → Option ℕ → Option ℕ → Option Why
 test_late slack times last None = None
 test_late slack times last (Some time) = test_behind slack times last time
 
--- what a row breaks behind these items
+-- which rule a row breaks after these items
 abbrev pub fault_behind : List Kind → Source → Inlet → Row → Option Why
 fault_behind kinds s h row =
     first_some (λ test. test) (where_true h.ended AfterEnd ∷ test_tag kinds s row ∷ test_value kinds row ∷ test_late s.slack (times_in h.items) h.last
@@ -114,12 +114,12 @@ pub record PutsItem (item : Item) (old new : Inlet) : Type 0 where
   pub closed : new.closed ≡ old.closed
   pub goal : new.goal ≡ old.goal
 
--- ---- what is so between rounds
--- where more is to be read, a border is settled
+-- ---- what holds between rounds
+-- if more is to be read, a border is settled
 abbrev pub IsSettledAt : Source → Option ℕ → Inlet → Type 0
 IsSettledAt s border h = h.closed ≡ false → (t : ℕ) → border ≡ Some t → (u : ℕ) × (settled s.slack h.last ≡ Some u) × (t ≤ u)
 
--- of a source the items above the last border are held, or the reading is still to come to it
+-- of a source the items above the last border are held, or the reading has yet to reach it
 pub record IsWellAt (s : Source) (border : Option ℕ) (h : Inlet) : Type 0 where
   pub file : h.rows.file ≡ s.file
   pub goal : (t : ℕ) → h.goal ≡ Some t → border ≡ Some t
@@ -138,11 +138,11 @@ abbrev pub IsSettledBy : Program → Option ℕ → Border → List Inlet → Ty
 IsSettledBy p border (At t) inlets = (is_above border t ≡ true) × AtEach (λ i s. (h : Inlet) → slice_get inlets i ≡ Some h → IsSettledAt s (Some t) h) p.sources
 IsSettledBy p border Closed inlets = ⊤
 
--- of no source the reading is still to come to a border
+-- the reading of no source has yet to reach a border
 abbrev pub AreCaughtUp : List Inlet → Type 0
 AreCaughtUp inlets = (i : ℕ) (h : Inlet) → slice_get inlets i ≡ Some h → h.goal ≡ None
 
--- nothing more is asked of what refused a call
+-- nothing more is required after a call that failed
 abbrev pub IsWell : Program → ℕ → Option ℕ → Stage → List Inlet → Type 0
 IsWell p rows border Filling inlets = AreWell p rows border inlets
 IsWell p rows border (Filled b) inlets = AreWell p rows border inlets × IsSettledBy p border b inlets × AreCaughtUp inlets
@@ -159,7 +159,7 @@ earliest [] = Closed
 earliest (b ∷ bs) = earlier_of b (earliest bs)
 
 -- ---- a resumed run
--- the items up to a border go once it is settled, or nothing more is to be read; before that some that are settled may go
+-- the items up to a border are dropped once it is settled, or nothing more is to be read; before that some that are settled may be dropped
 pub data IsCaughtUp (slack : ℕ) (old new : Inlet) : Type 0 where
   Stays : new.items ≡ old.items → new.goal ≡ old.goal → IsCaughtUp slack old new
   Drops : (t goal : ℕ) → old.closed ≡ false → settled slack old.last ≡ Some t → t < goal → old.goal ≡ Some goal → new.goal ≡ Some goal
@@ -178,7 +178,7 @@ pub record CatchesUp (slack : ℕ) (old new : Inlet) : Type 0 where
   pub room : HasRoom new
 
 -- ---- one source in a refill
--- what was read more of a source, behind these lines: before its last line they were not enough
+-- what more was read of a source, after these lines: before its last line they were not enough
 pub record IsRefilling (kinds : List Kind) (s : Source) (first rows : ℕ) (above : Option ℕ) (before : List Next) (old new : HeldSource)
     (left left' : Option Contents) : Type 0 where
   pub more : List Next
@@ -196,7 +196,7 @@ pub record Refills (kinds : List Kind) (s : Source) (first rows : ℕ) (above : 
   pub so_far : IsRefilling kinds s first rows above before old new left left'
   pub ends : EndsAt s rows above (before ++ so_far.more) new end
 
--- the same, by what is held alone
+-- the same, by only what is held
 abbrev pub IsTurnOf : Source → Inlet → Border → Type 0
 IsTurnOf s h (At u) = settled s.slack h.last ≡ Some u
 IsTurnOf s h Closed = h.closed ≡ true
@@ -211,7 +211,7 @@ pub record IsRefilled (kinds : List Kind) (s : Source) (first rows : ℕ) (old n
   pub reads : (above : Option ℕ) (before : List Next) → IsHeldBehind kinds first s above before (source_of old)
       → Refills kinds s first rows above before (source_of old) (source_of new) left left' end
 
--- a defect is met behind lines that are not enough
+-- a defect is met after lines that are not enough
 pub record MeetsDefect (kinds : List Kind) (s : Source) (rows : ℕ) (above : Option ℕ) (before : List Next) (old : HeldSource) (left left' : Option Contents)
     (row : ℕ) (why : Why) : Type 0 where
   pub more : List Next
@@ -221,7 +221,7 @@ pub record MeetsDefect (kinds : List Kind) (s : Source) (rows : ℕ) (above : Op
   pub defect : line_defect kinds s (before ++ more) next ≡ Some (row, why)
   pub told : WhereTold left left' (λ was is. (rest : List Next) × (still old was ≡ more ++ next ∷ rest))
 
--- a read fails behind lines that are not enough
+-- a read fails after lines that are not enough
 pub record StopsBehind (kinds : List Kind) (s : Source) (rows : ℕ) (above : Option ℕ) (before : List Next) (old : HeldSource)
     (left left' : Option Contents) : Type 0 where
   pub more : List Next
@@ -240,7 +240,7 @@ IsStopOf kinds s first rows old left left' ReadFault = (above : Option ℕ) (bef
 IsStopOf kinds s first rows old left left' NoMemory = ⊤
 
 -- ---- all sources in a refill
--- the first sources, of as many as there are ends, were read
+-- the first sources, as many as there are ends, were read
 pub record AreRefilled (p : Program) (rows : ℕ) (olds news : List Inlet) (left left' : Option Contents) (ends : List Border) : Type 0 where
   pub size : length news ≡ length olds
   pub each : AtEach (λ i s. (end : Border) (old new : Inlet) → slice_get ends i ≡ Some end → slice_get olds i ≡ Some old → slice_get news i ≡ Some new
@@ -284,7 +284,7 @@ pub record AreDropped (time : ℕ) (olds news : List Inlet) : Type 0 where
   pub size : length news ≡ length olds
   pub each : (i : ℕ) (old new : Inlet) → slice_get olds i ≡ Some old → slice_get news i ≡ Some new → DropsTo time old new
 
--- this is held of all sources behind these lines of each
+-- this is held of all sources after these lines of each
 abbrev pub AreBehind : Program → Option ℕ → (ℕ → List Next) → List Inlet → Type 0
 AreBehind p border lines inlets =
     AtEach (λ i s. (h : Inlet) → slice_get inlets i ≡ Some h → IsHeldBehind p.kinds (first_itag p i) s border (lines i) (source_of h)) p.sources

@@ -29,12 +29,12 @@ pub record IsEmpty (number itags before : ℕ) (intake : Intake) : Type 0 where
   pub len : vec_len intake.lists ≡ itags
   pub lists : (i : ℕ) → items_of_list intake.lists i ≡ []
 
--- the fault of so many items at a time, behind these times
+-- the fault of this many items at a time, after these times
 abbrev pub fault_at : ℕ → List ℕ → ℕ → ℕ → ℕ → Option Why
 fault_at slack earlier held time count =
     first_some (λ test. test) (test_times slack earlier (Some time) ∷ where_true (nat_lt 16777216 (held + count)) (TooMany 16777217) ∷ [])
 
--- an item, which is one of so many, is put where its time belongs
+-- an item, which counts as this many, is put where its time belongs
 pub record Inserts (item : Item) (count : ℕ) (old new : Intake) : Type 0 where
   pub first : new.first ≡ old.first
   pub ended : new.ended ≡ old.ended
@@ -52,7 +52,7 @@ pub record TakesEnd (old new : Intake) : Type 0 where
   pub lists : (i : ℕ) → i < vec_len old.lists
       → items_of_list new.lists i ≡ (items_of_list old.lists i ++ filter_map (item_for (old.first + i)) old.items) ++ EndItem ∷ []
 
--- the item that a row is; the itag of an event that the source does not list is none of the source's
+-- the item that a row is; for an event of a tag that the source does not list, its itag is none of the source's
 abbrev pub item_of : List Kind → Source → ℕ → Row → Item
 item_of kinds s first (Event time name key value) =
     EventItem (record { time = time; itag = record { 0 = first + unwrap_or (place_named kinds s name key) (width s) }; value = unwrap_or value (pos 0) })
@@ -69,22 +69,22 @@ pub record TakesIn (kinds : List Kind) (s : Source) (row : Row) (old new : Intak
   pub passes : fault_of kinds s old.ended (times_in old.items) old.held row ≡ None
   pub takes : Takes kinds s row old new
 
--- a refusal for want of memory, or for this fault
+-- a refusal because memory ran out, or for this fault
 abbrev pub IsRefusal : Option Why → RowRefusal → Type 0
 IsRefusal fault (Fault why) = fault ≡ Some why
 IsRefusal fault NoMemory = ⊤
 
--- the same times stand in two lists
+-- two lists have the same times
 pub record SameTimes (these those : List ℕ) : Type 0 where
   pub any : (time : ℕ) → list_any (λ t. t == time) these ≡ list_any (λ t. t == time) those
   pub top : greatest these ≡ greatest those
 
--- what was read of a source so far are these rows: until it ends, its events and heartbeats stand in order of time
+-- what was read of a source so far are these rows: until it ends, its events and heartbeats are in order of time
 pub record IsOpen (kinds : List Kind) (s : Source) (number : ℕ) (rows : List Row) (intake : Intake) : Type 0 where
   pub items : intake.items ≡ map (item_of kinds s number) (in_time_order rows)
   pub lists : (i : ℕ) → items_of_list intake.lists i ≡ []
 
--- behind its end, each itag has its list
+-- after its end, each itag has its list
 pub record IsClosed (kinds : List Kind) (s : Source) (number : ℕ) (rows : List Row) (intake : Intake) : Type 0 where
   pub lists : (i : ℕ) → i < width s → items_of_list intake.lists i ≡ items_at kinds s number rows i
   pub streams : (i : ℕ) → i < width s → is_stream_from (number + i) 0 (items_of_list intake.lists i) ≡ true

@@ -31,7 +31,7 @@ abbrev pub stop_at : ℕ → RowRefusal → Stop
 stop_at line (Fault why) = Defect line why
 stop_at line NoMemory = NoMemoryStop
 
--- the defect of what is no row, where the source has ended or not
+-- the defect of what is no row, by whether the source has ended
 abbrev pub defect_behind : Bool → Next → Option (ℕ × Why)
 defect_behind ended (RowNext line row) = None
 defect_behind ended (Bad line) = Some (line, (if ended then AfterEnd else BadRow))
@@ -63,7 +63,7 @@ pub record IsGoodSource (kinds : List Kind) (s : Source) (number before : ℕ) (
   pub ended : intake.ended ≡ true
   pub told : WhereTold old new (λ was now. WasRead s read [] was)
 
--- the reading of a source stops behind rows without a defect, and what was taken of it besides decides nothing
+-- the reading of a source stops after rows without a defect, and whatever else was taken of it decides nothing
 pub record HidesNoDefect (kinds : List Kind) (s : Source) (before : ℕ) (old new : Option Contents) : Type 0 where
   pub read : List Next
   pub place : Place

@@ -1,4 +1,4 @@
--- Rounds: what is read of each source before some of its rows are run, and up to which time these are (`docs/MODEL.md`).
+-- Rounds: what is read of each source before some of its rows are run, and the time up to which rows are run (`docs/MODEL.md`).
 use Rattle.std.specs.Prelude.{◌≡◌, ℕ, ◌-◌, ◌<◌, ◌≤◌, Bool, true, false, ◌&&◌, nat_lt, nat_le, Option, Some, None, option_map, unwrap_or, List, [], ◌∷◌, ◌++◌}
 use Rattle.std.specs.Prelude.{length, take, slice_get, sum_by, if◌then◌else◌, ⊤}
 use Rattle.std.specs.List.{filter, flat_map}
@@ -31,15 +31,15 @@ use Rattle.flu_streams.specs.Tags.{width}
 use Rattle.flu_streams.specs.Tests.{rows_of, time_in, times_of, greatest, has_ended, where_true, test_tag, test_value, test_time, defect_of}
 
 -- ---- defects
--- the tests of a row but the one on how many items are held: a round holds few
+-- the tests of a row except the one on how many items are held: a round holds few
 abbrev pub row_tests : List Kind → Source → Bool → List ℕ → Row → List (Option Why)
 row_tests kinds s ended earlier row = where_true ended AfterEnd ∷ test_tag kinds s row ∷ test_value kinds row ∷ test_time s.slack earlier row ∷ []
 
--- what a row breaks, where the source has ended or not and had these times
+-- which rule a row breaks, by whether the source has ended and by its times so far
 abbrev pub row_fault : List Kind → Source → Bool → List ℕ → Row → Option Why
 row_fault kinds s ended earlier row = first_some (λ test. test) (row_tests kinds s ended earlier row)
 
--- the defect of a line, or of the file's end, behind these lines
+-- the defect of a line, or of the file's end, after these lines
 abbrev pub line_defect : List Kind → Source → List Next → Next → Option (ℕ × Why)
 line_defect kinds s read (RowNext line row) = option_map (λ why. (line, why)) (row_fault kinds s (has_ended (rows_of read)) (times_of (rows_of read)) row)
 line_defect kinds s read (Bad line) = defect_of kinds s 0 read (Bad line)
@@ -51,7 +51,7 @@ abbrev pub defect_in : List Kind → Source → List Next → Option (ℕ × Why
 defect_in kinds s lines = first_some (λ e. line_defect kinds s e.0 e.1) (each_with_before lines)
 
 -- ---- times
--- THE SETTLED TIME: the greatest time less the slack; none where that is below 0 or there is no time
+-- THE SETTLED TIME: the greatest time less the slack; none if that is below 0 or there is no time
 abbrev pub settled : ℕ → Option ℕ → Option ℕ
 settled slack None = None
 settled slack (Some last) = if nat_le slack last then Some (last - slack) else None
@@ -80,18 +80,18 @@ rows_between above end rows = filter (is_between above end) rows
 abbrev pub count_settled : Option ℕ → Source → List Next → ℕ
 count_settled above s lines = option_map_or (λ u. length (rows_between above (At u) (rows_of lines))) (settled_time s lines) 0
 
--- at least so many have
+-- at least this many have
 abbrev pub is_enough : ℕ → Option ℕ → Source → List Next → Bool
 is_enough rows above s lines = nat_le rows (count_settled above s lines)
 
 -- ---- one source in a round
--- what comes of a source in a round: it is open and settled up to this time; or closed; or its defect is met
+-- what a source comes to in a round: it is open and settled up to this time; or closed; or its defect is met
 pub data Turn : Type 0 where
   Open : (u : ℕ) → Turn
   Shut : Turn
   Meets : (row : ℕ) (why : Why) → Turn
 
--- where the reading stops: behind enough rows; or behind all lines, or before a line with a defect, where they are not enough
+-- where the reading stops: after enough rows; or, if they are not enough, after all lines or before a line with a defect
 abbrev pub StopsAt : List Kind → Source → ℕ → Option ℕ → List Next → List Next → Turn → Type 0
 StopsAt kinds s rows above whole now (Open u) =
     ((rest : List Next) × (whole ≡ now ++ rest)) × (is_enough rows above s now ≡ true) × (settled_time s now ≡ Some u)
@@ -100,8 +100,8 @@ StopsAt kinds s rows above whole now (Meets row why) =
     ((next : Next) × (rest : List Next) × (whole ≡ now ++ next ∷ rest) × (line_defect kinds s now next ≡ Some (row, why)))
     × (is_enough rows above s now ≡ false)
 
--- WHAT A ROUND READS of a source, of which there are these lines in all and were read before: the shortest list of its first
--- lines before any defect, not shorter than before, that is enough; and where there is none, all of them
+-- WHAT A ROUND READS of a source, of which these are all the lines and these were read before: the shortest list of its first
+-- lines before any defect, not shorter than before, that is enough; and if there is none, all of them
 pub record Reads (kinds : List Kind) (s : Source) (rows : ℕ) (above : Option ℕ) (whole before now : List Next) (turn : Turn) : Type 0 where
   pub more : List Next
   pub further : now ≡ before ++ more
@@ -110,19 +110,19 @@ pub record Reads (kinds : List Kind) (s : Source) (rows : ℕ) (above : Option �
   pub stops : StopsAt kinds s rows above whole now turn
 
 -- ---- a round
--- a border is not above what is settled of an open source, and no defect is met
+-- a border is not above the settled time of an open source, and no defect is met
 abbrev pub IsWithin : ℕ → Turn → Type 0
 IsWithin t (Open u) = t ≤ u
 IsWithin t Shut = ⊤
 IsWithin t (Meets row why) = ⊥
 
--- a round with a new border: no defect is met, and the border is the least of what is settled of the open sources
+-- a round with a new border: no defect is met, and the border is the least of the settled times of the open sources
 pub record IsRoundAt (p : Program) (rows : ℕ) (above : Option ℕ) (whole before now : ℕ → List Next) (t : ℕ) : Type 0 where
   pub each : AtEach (λ i s. (turn : Turn) × Reads p.kinds s rows above (whole i) (before i) (now i) turn × IsWithin t turn) p.sources
   pub least : (i : ℕ) × (s : Source) × (slice_get p.sources i ≡ Some s)
       × Reads p.kinds s rows above (whole i) (before i) (now i) (Open t)
 
--- A ROUND above a border, of sources of which there are these lines in all, by the source's number; these were read before it,
+-- A ROUND above a border, where these are all the lines of the sources, by the source's number; these were read before it,
 -- and these are in it. The last round is the one in which all sources are closed.
 abbrev pub IsRound : Program → ℕ → Option ℕ → (ℕ → List Next) → (ℕ → List Next) → (ℕ → List Next) → Border → Type 0
 IsRound p rows above whole before now (At t) = IsRoundAt p rows above whole before now t
@@ -134,7 +134,7 @@ IsPassed (Open u) = ⊤
 IsPassed Shut = ⊤
 IsPassed (Meets row why) = ⊥
 
--- THE DEFECT OF A ROUND: that of the first source, as declared, whose defect is met
+-- THE DEFECT OF A ROUND: the defect of the first source, as declared, whose defect is met
 pub record IsRoundFault (p : Program) (rows : ℕ) (above : Option ℕ) (whole before : ℕ → List Next) (f : SourceFault) : Type 0 where
   pub now : ℕ → List Next
   pub earlier : AtEach (λ i s. i < f.source
@@ -149,20 +149,20 @@ abbrev pub lists_between : Program → Option ℕ → Border → (ℕ → List N
 lists_between p above end reads =
     flat_map (λ e. lists_of_rows p.kinds e.1 (sum_by width e.0) (rows_between above end (rows_of (reads (length e.0))))) (each_with_before p.sources)
 
--- ROUNDS ONE AFTER ANOTHER, from the first on, each with a new border, of a run that starts above a border, where there is one: the
--- lists of each, the border that they come to, and what is read by then
+-- ROUNDS ONE AFTER ANOTHER, from the first on, each with a new border, of a run that starts above a border, if there is one: the
+-- lists of each, the border that they come to, and what has been read by then
 pub data ComesFrom (p : Program) (rows : ℕ) (whole : ℕ → List Next) (start : Option ℕ) : List (List (List Item)) → Option ℕ → (ℕ → List Next) → Type 0 where
   Starts : (reads : ℕ → List Next) → ((i : ℕ) → reads i ≡ []) → ComesFrom p rows whole start [] start reads
   GoesOn : (done : List (List (List Item))) (above : Option ℕ) (before now : ℕ → List Next) (t : ℕ)
       → ComesFrom p rows whole start done above before
       → IsRoundAt p rows above whole before now t → ComesFrom p rows whole start (done ++ lists_between p above (At t) now ∷ []) (Some t) now
 
--- the same of a run from the first row on
+-- the same for a run from the first row on
 abbrev pub ComesTo : Program → ℕ → (ℕ → List Next) → List (List (List Item)) → Option ℕ → (ℕ → List Next) → Type 0
 ComesTo p rows whole done above before = ComesFrom p rows whole None done above before
 
 -- ---- the fold of rounds
--- the state behind the folds of some lists, each from the state behind the one before it
+-- the state after the folds of some lists, each from the state after the one before it
 abbrev pub state_in_turn : Program → Contents → List (List (List Item)) → Contents
 state_in_turn p s [] = s
 state_in_turn p s (lists ∷ rest) = state_in_turn p (final_state p s lists) rest
@@ -184,7 +184,7 @@ pub record GiveTheFold (p : Program) (opening : Contents) (done : List (List (Li
   pub reports : reports_in_turn p opening done ≡ report p (final_outputs p opening lists)
 
 -- LAW OF ROUNDS: the rounds up to any one, folded in turn, give the fold of all rows that were read above the run's start, up to the
--- new border; behind the last round these are all rows above it
+-- new border; after the last round these are all rows above it
 abbrev pub LawOfRounds : Type 0
 LawOfRounds =
     (p : Program) (opening : Contents) (rows : ℕ) (whole : ℕ
@@ -192,7 +192,7 @@ LawOfRounds =
     → 1 ≤ rows → ComesFrom p rows whole start done above before → IsRound p rows above whole before now end
     → GiveTheFold p opening (done ++ lists_between p above end now ∷ []) (lists_between p start end now)
 
--- LAW OF NO ROWS: between a border and itself there is nothing to be folded
+-- LAW OF NO ROWS: between a border and itself there is nothing to fold
 abbrev pub LawOfNoRows : Type 0
 LawOfNoRows = (p : Program) (opening : Contents) (t : ℕ) (reads : ℕ → List Next) → GiveTheFold p opening [] (lists_between p (Some t) (At t) reads)
 
@@ -200,14 +200,14 @@ LawOfNoRows = (p : Program) (opening : Contents) (t : ℕ) (reads : ℕ → List
 abbrev pub LinesIn : Program → Files → (ℕ → List Next) → Type 0
 LinesIn p left whole = AtEach (λ i s. whole i ≡ read_file (bytes_left left s.file)) p.sources
 
--- THE LAST ROUND: behind it the rows that were read are all rows of the sources' files, and their lists are those of a whole reading
+-- THE LAST ROUND: after it the rows that were read are all rows of the sources' files, and their lists are those of a whole reading
 abbrev pub LawOfLastRound : Type 0
 LawOfLastRound =
     (p : Program) (rows : ℕ) (above : Option ℕ) (whole before now : ℕ → List Next) (left : Files) → LinesIn p left whole
     → IsRound p rows above whole before now Closed
     → lists_between p None Closed now ≡ lists_of p left
 
--- of a run that starts above a border, they have the later events of a whole reading
+-- for a run that starts above a border, they have the later events of a whole reading
 abbrev pub LawOfLastAbove : Type 0
 LawOfLastAbove =
     (p : Program) (rows : ℕ) (above : Option ℕ) (whole before now : ℕ → List Next) (left : Files) (t : ℕ) → LinesIn p left whole

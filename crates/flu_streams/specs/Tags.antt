@@ -15,14 +15,14 @@ o >>= f = option_and_then f o
 abbrev pub kind_named : List Kind → List ℕ → Option ℕ
 kind_named kinds name = position (λ (k : Kind). is_same_text k.name name) kinds
 
--- the key of a tag: the one in brackets where the kind is keyed; a kind without keys has no brackets, and the key 0
+-- the key of a tag: the one in brackets if the kind is keyed; a kind without keys has no brackets, and the key 0
 abbrev pub key_named : Bool → Option ℕ → Option ℕ
 key_named true (Some key) = Some key
 key_named true None = None
 key_named false (Some key) = None
 key_named false None = Some 0
 
--- the tag that a name and perhaps a key in brackets name
+-- the tag of a name and an optional key in brackets
 abbrev pub tag_named : List Kind → List ℕ → Option ℕ → Option Tag
 tag_named kinds name key = do
   number ← kind_named kinds name
@@ -36,7 +36,7 @@ place_named kinds s name key = do
   t ← tag_named kinds name key
   position (is_same_tag t) (tags_of_source s)
 
--- a value is there exactly where the kind has one
+-- a value is there exactly if the kind has one
 abbrev pub has_its_value : Option Kind → Option ℤ → Bool
 has_its_value None value = false
 has_its_value (Some kind) value = if kind.has_value then is_some value else is_none value

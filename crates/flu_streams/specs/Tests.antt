@@ -1,4 +1,4 @@
--- The tests that the lines of a source are to pass, and its first defect (`docs/LANGUAGE.md`, "Rows").
+-- The tests that the lines of a source have to pass, and its first defect (`docs/LANGUAGE.md`, "Rows").
 use Rattle.std.specs.Prelude.{ℕ, ℤ, ◌+◌, ◌^◌, max, Bool, true, false, not, ◌||◌, ◌==◌, nat_lt, nat_le, Option, Some, None, is_none, option_map, unwrap_or, List}
 use Rattle.std.specs.Prelude.{[], ◌∷◌, if◌then◌else◌, sum_by}
 use Rattle.std.specs.List.{list_any, filter_map}
@@ -14,7 +14,7 @@ use Rattle.flu_streams.specs.declared.faults.Why.TheVariants.{BadRow, UnknownTag
 use Rattle.flu_streams.specs.Before.{each_with_before, first_some}
 use Rattle.flu_streams.specs.Tags.{place_named, value_fits, width}
 
--- ---- what stands in some rows
+-- ---- what some rows have
 abbrev pub row_in : Next → Option Row
 row_in (RowNext line row) = Some row
 row_in (Bad line) = None
@@ -47,7 +47,7 @@ abbrev pub greatest : List ℕ → Option ℕ
 greatest [] = None
 greatest (t ∷ ts) = Some (max t (unwrap_or (greatest ts) 0))
 
--- how many items a row has in a source of so many itags: an event is one, and a heartbeat is one for each itag
+-- how many items a row has in a source of this many itags: an event is one, and a heartbeat is one for each itag
 abbrev pub items_in : ℕ → Row → ℕ
 items_in itags (Event time name key value) = 1
 items_in itags (Beat time) = itags
@@ -61,7 +61,7 @@ abbrev pub where_true : Bool → Why → Option Why
 where_true true why = Some why
 where_true false why = None
 
--- what an event breaks by its tag and its value alone
+-- which rule an event breaks by its tag and its value alone
 abbrev pub faults_of_event : List Kind → Source → List ℕ → Option ℕ → Option ℤ → Option Why
 faults_of_event kinds s name key value =
     first_some (λ test. test) (where_true (is_none (place_named kinds s name key)) UnknownTag ∷ where_true (not (value_fits kinds name value)) BadRow ∷ [])
@@ -72,7 +72,7 @@ test_tag kinds s (Event time name key value) = where_true (is_none (place_named 
 test_tag kinds s (Beat time) = None
 test_tag kinds s End = None
 
--- a value is there exactly where the kind has one
+-- a value is there exactly if the kind has one
 abbrev pub test_value : List Kind → Row → Option Why
 test_value kinds (Event time name key value) = where_true (not (value_fits kinds name value)) BadRow
 test_value kinds (Beat time) = None
@@ -94,7 +94,7 @@ test_time slack earlier row = test_times slack earlier (time_in row)
 abbrev pub test_items : ℕ → ℕ → Row → Option Why
 test_items itags held row = where_true (nat_lt 16777216 (held + items_in itags row)) (TooMany 16777217)
 
--- the tests of a row in their order, where the source has ended or not, had these times, and so many items are held
+-- the tests of a row in their order, by whether the source has ended, by its times so far, and by how many items are held
 abbrev pub tests : List Kind → Source → Bool → List ℕ → ℕ → Row → List (Option Why)
 tests kinds s ended earlier held row =
     where_true ended AfterEnd ∷ test_tag kinds s row ∷ test_value kinds row ∷ test_time s.slack earlier row ∷ test_items (width s) held row ∷ []
@@ -104,7 +104,7 @@ abbrev pub fault_of : List Kind → Source → Bool → List ℕ → ℕ → Row
 fault_of kinds s ended earlier held row = first_some (λ test. test) (tests kinds s ended earlier held row)
 
 -- ---- the first defect
--- the defect of a line or of the file's end behind these lines, where so many items are held of other sources
+-- the defect of a line or of the file's end after these lines, while this many items are held of other sources
 abbrev pub defect_of : List Kind → Source → ℕ → List Next → Next → Option (ℕ × Why)
 defect_of kinds s held read (RowNext line row) =
     option_map (λ why. (line, why)) (fault_of kinds s (has_ended (rows_of read)) (times_of (rows_of read)) (held + items_of (width s) (rows_of read)) row)

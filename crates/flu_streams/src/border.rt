@@ -1,4 +1,4 @@
-//! Up to which time a round takes rows.
+//! The time up to which a round takes rows.
 
 /// How far a round of a run reaches (`docs/MODEL.md`, "Rounds").
 #[derive(Clone, Copy, Debug, PartialEq, Eq)]

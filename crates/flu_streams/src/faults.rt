@@ -2,20 +2,20 @@
 
 use thiserror::Error;
 
-/// What a row of a source breaks.
+/// Which rule a row of a source breaks.
 #[derive(Clone, Copy, Debug, PartialEq, Eq)]
 pub enum Why {
     /// The line is no row, or it has a value and its kind has none, or none and its kind has one.
     BadRow,
     /// The source does not list the tag.
     UnknownTag,
-    /// An earlier row has the time, or the time is not above the greatest one so far, `last`, less the source's slack.
+    /// An earlier row has the same time, or the time is not above the greatest one so far, `last`, less the source's slack.
     Disordered { last: u64, got: u64 },
-    /// The file stops without `end`: the row is the one behind its last line.
+    /// The file stops without `end`: the row is the one after its last line.
     Unclosed,
-    /// A row stands behind `end`.
+    /// There is a row after `end`.
     AfterEnd,
-    /// There are more items of all sources than may be held, or more lines than a file may have: the first count past the limit.
+    /// The sources have more items than may be held, or a file has more lines than it may have: the first count past the limit.
     TooMany { count: u64 },
 }
 

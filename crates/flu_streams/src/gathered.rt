@@ -4,7 +4,7 @@ ghost use Rattle.std.specs.Prelude.{◌≡◌, ◌≤◌};
 
 use flu_model::Item;
 
-/// What was read of some sources: the items of each itag, how many items these are, and how many sources.
+/// What was read of some sources: the items of each itag, how many items there are, and how many sources.
 #[derive(Drop)]
 pub(crate) struct Gathered {
     pub(crate) lists: Vec<Vec<Item>>,

@@ -35,13 +35,13 @@ pub enum Stage {
     Filling,
     /// A cut at the border that the last refill answered.
     Filled(Border),
-    /// Nothing: the last round was cut, or a call refused.
+    /// Nothing: the last round was cut, or a call failed.
     Over,
 }
 
 /// What is held of the sources of a job between rounds (`docs/MODEL.md`, "Rounds").
 ///
-/// Contracts see its job, with how many rows a round is to be had, the border of the last cut, which call may come next, and of
+/// Contracts see its job, how many rows a round needs, the border of the last cut, which call may come next, and for
 /// each source what is held, where its rows are read, the greatest time read, and whether `end` and the file's end were read
 /// (`Holding` of `specs/Holding.antt`).
 #[derive(Drop)]
@@ -70,11 +70,11 @@ impl Model for Held {
 }
 
 impl Held {
-    /// Nothing of the sources of a job, of which a round is to be had as soon as each has so many rows that are settled.
+    /// Nothing of the sources of a job, for which a round is possible as soon as each has this many rows that are settled.
     ///
     /// # Errors
     ///
-    /// Only where memory is wanting.
+    /// Only if memory runs out.
     pub fn new(alloc: Global, p: &Program, rows: u32) -> Result<Held, AllocError>
         requires some { 1 ≤ rows }
         requires few { rows ≤ 4096 }
@@ -83,11 +83,11 @@ impl Held {
         Held::from_border(alloc, p, rows, None)
     }
 
-    /// The same of a run that is resumed: its rows are those above a border. Rows up to it are read and tested, and not kept.
+    /// The same for a run that is resumed: its rows are those above a border. Rows up to it are read and tested, and not kept.
     ///
     /// # Errors
     ///
-    /// Only where memory is wanting.
+    /// Only if memory runs out.
     pub fn resume(alloc: Global, p: &Program, rows: u32, border: u64) -> Result<Held, AllocError>
         requires some { 1 ≤ rows }
         requires few { rows ≤ 4096 }
@@ -97,7 +97,7 @@ impl Held {
         Held::from_border(alloc, p, rows, Some(border))
     }
 
-    // Nothing of the sources of a job, whose rows are run from a border on, where there is one.
+    // Nothing of the sources of a job, whose rows are run from a border on, if there is one.
     fn from_border(
         alloc: Global,
         p: &Program,
@@ -118,18 +118,18 @@ impl Held {
         })
     }
 
-    /// The border of the last cut. Before the first one none, or that of a resumed run.
+    /// The border of the last cut. Before the first one none, or the border of a resumed run.
     pub fn border(&self) -> Option<u64>
         ensures { result ≡ self.now.border }
     {
         self.border
     }
 
-    /// Reads the sources, in declared order, until each holds what the next round needs of it, and answers up to which time that
+    /// Reads the sources, in declared order, until each holds what the next round needs of it, and answers the time up to which that
     /// round takes rows. A source that is to be closed is read past `end` to the end of its file.
     ///
-    /// `above` is the border of the last cut; before the first one none, or that of a resumed run. A source fault is the defect that the round meets, of
-    /// the first source, as declared, that has one. Items are not counted: a round holds few.
+    /// `above` is the border of the last cut; before the first one none, or the border of a resumed run. A source fault is the defect that
+    /// the round meets, of the first source, as declared, that has one. Items are not counted: a round holds few.
     pub fn refill<F: Files>(
         &mut self,
         alloc: Global,
@@ -151,12 +151,12 @@ impl Held {
 
         ensures fault { IfErr result (IsRefillFault self.old (F.left files.old) (F.left files.new)) }
 
-        // What is held is bounded, also where a run that is resumed has not come to its border yet.
+        // What is held is bounded, even if a run that is resumed has not reached its border yet.
         ensures few { OnOk result (HoldsFew self.new) }
         ensures most { HoldsAtMost 64096 self.new }
 
-        // It takes bytes from the front of the sources' files alone, and a read fault has its cause there: no other answer comes
-        // behind a take that failed.
+        // It only takes bytes from the front of the sources' files, and a read fault has its cause there: no other answer comes
+        // after a take that failed.
         ensures fronts { WhereTold (F.left files.old) (F.left files.new) TookFronts }
         ensures others { WhereTold (F.left files.old) (F.left files.new) (LeavesOthers (files_of p.now.sources)) }
         ensures counts { CountsOfNames (F.left files.old) (files_of p.now.sources) (F.faults files.old) (F.faults files.new) }
@@ -175,12 +175,12 @@ impl Held {
         Ok(end)
     }
 
-    /// Takes the rows of a round out: for each itag its events, and the heartbeats of its source, up to the border, sorted by
+    /// Takes out the rows of a round: for each itag its events, and the heartbeats of its source, up to the border, sorted by
     /// time, and the end.
     ///
     /// # Errors
     ///
-    /// Only where memory is wanting.
+    /// Only if memory runs out.
     pub fn cut(&mut self, alloc: Global, p: &Program, b: Border) -> Result<Streams, AllocError>
         requires program { self.old.program ≡ p.now }
         requires stage { self.old.stage ≡ Stage.Filled b }

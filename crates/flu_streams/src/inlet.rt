@@ -24,12 +24,12 @@ use flu_outside::Files;
 use flu_rows::{Next, Row, Rows};
 use std::alloc::{AllocError, Global};
 
-/// With so many items, a resumed run that has not come to its border lets settled ones go. At most 60,000, the greatest slack, are not
+/// With this many items, a resumed run that has not reached its border yet drops settled ones. At most 60,000, the greatest slack, are not
 /// settled, and a round needs at most 4,096 more.
 const MOST_ITEMS: usize = 64_096;
 
 /// What is held of a source: the items with a time above the last border, in order of time; its reader; the greatest time that
-/// was read; and whether `end` was, and all of its file. In a resumed run, `goal` is its border until the reading has come to it.
+/// was read; and whether `end` was, and all of its file. In a resumed run, `goal` is its border until the reading has reached it.
 #[derive(Drop)]
 pub(crate) struct Inlet {
     pub(crate) rows: Rows,
@@ -51,7 +51,7 @@ impl Inlet {
     ghost use Rattle.flu_streams.specs.LoopHeld.{IsStopOf};
     ghost use Rattle.flu_streams.specs.LoopIntake.{IsRefusal};
 
-    /// Nothing of a source, whose rows are run from a border on, where there is one.
+    /// Nothing of a source, whose rows are run from a border on, if there is one.
     pub(crate) fn new(
         alloc: Global,
         source: &Source,
@@ -69,9 +69,9 @@ impl Inlet {
         })
     }
 
-    /// Reads the source until so many of its items are settled, and answers the settled time; or to the end of its file.
+    /// Reads the source until this many of its items are settled, and answers the settled time; or to the end of its file.
     ///
-    /// Whether the items are enough is asked before anything is read, so nothing is read of a source that needs nothing.
+    /// Whether the items are enough is tested before anything is read, so nothing is read of a source that needs nothing.
     pub(crate) fn refill<F: Files>(
         &mut self,
         kinds: &[Kind],
@@ -125,7 +125,7 @@ impl Inlet {
         }
     }
 
-    /// For each itag of the source, of which the first has the number `first`, its items up to a border, and the end.
+    /// For each itag of the source, the first of which has the number `first`, its items up to a border, and the end.
     pub(crate) fn lists(
         &self,
         alloc: Global,
@@ -152,7 +152,7 @@ impl Inlet {
     }
 
     // In a resumed run, drops the items up to its border once that is settled, or nothing more is to be read. Before that it drops
-    // those that are settled, where many are held: they are not needed to test later rows.
+    // those that are settled, if many are held: they are not needed to test later rows.
     fn catch_up(&mut self, slack: u64)
         requires { slack ≤ 60000 }
         ensures { CatchesUp slack self.old self.new }
@@ -180,7 +180,7 @@ impl Inlet {
         }
     }
 
-    // The settled time, where so many of the items come no later.
+    // The settled time, if this many of the items come no later.
     fn enough(&self, rows: u32, slack: u64) -> Option<u64>
         requires { 1 ≤ rows }
         ensures { result ≡ enough_in rows slack (source_of self.now) }
@@ -199,7 +199,7 @@ impl Inlet {
         Some(settled)
     }
 
-    // Takes a row in.
+    // Takes in a row.
     fn take(
         &mut self,
         kinds: &[Kind],
@@ -242,7 +242,7 @@ impl Inlet {
         }
     }
 
-    // Takes an event or a heartbeat in.
+    // Takes in an event or a heartbeat.
     fn insert(&mut self, slack: u64, item: Item) -> Result<(), RowRefusal>
         requires time { item_time item < 2 ^ 63 }
         requires room { length self.old.items < 64096 }

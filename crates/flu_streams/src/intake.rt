@@ -46,7 +46,7 @@ impl Intake {
     ghost use Rattle.flu_streams.specs.Tests.{fault_of};
     ghost use Rattle.flu_streams.specs.LoopIntake.{IsEmpty, TakesIn, Inserts, TakesEnd, IsRefusal, fault_at};
 
-    /// Nothing of a source with so many itags, where so many items of other sources are held.
+    /// Nothing of a source with this many itags, while this many items of other sources are held.
     pub(crate) fn new(
         alloc: Global,
         first: u32,
@@ -68,7 +68,7 @@ impl Intake {
         })
     }
 
-    /// Takes a row in.
+    /// Takes in a row.
     pub(crate) fn take(
         &mut self,
         kinds: &[Kind],
@@ -108,7 +108,7 @@ impl Intake {
         self.lists
     }
 
-    // Takes an event in, of the itag at this place.
+    // Takes in an event, of the itag at this place.
     fn event(&mut self, slack: u64, place: u32, time: u64, value: i64) -> Result<(), RowRefusal>
         requires { place < vec_len self.old.lists }
         ensures passes { OnOk result (fault_at slack (times_in self.old.items) self.old.held time 1 ≡ None) }
@@ -124,7 +124,7 @@ impl Intake {
         self.insert(slack, Item::Event(event), 1)
     }
 
-    // Takes an event or a heartbeat in, which is so many items.
+    // Takes in an event or a heartbeat, which counts as this many items.
     fn insert(&mut self, slack: u64, item: Item, count: u64) -> Result<(), RowRefusal>
         ensures passes { OnOk result (fault_at slack (times_in self.old.items) self.old.held (item_time item) count ≡ None) }
         ensures taken { OnOk result (Inserts item count self.old self.new) }
@@ -146,7 +146,7 @@ impl Intake {
         Ok(())
     }
 
-    // Takes the end in.
+    // Takes in the end.
     fn end(&mut self) -> Result<(), RowRefusal>
         ensures taken { OnOk result (TakesEnd self.old self.new) }
         ensures refused { IfErr result (IsRefusal None) }

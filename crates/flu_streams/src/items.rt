@@ -8,7 +8,7 @@ ghost use Rattle.flu_streams.specs.Lists.{items_of_list, item_time, item_for};
 use flu_model::Item;
 use std::alloc::{AllocError, Global};
 
-/// The time of an event or a heartbeat; the end has none, and 0 stands for it.
+/// The time of an event or a heartbeat; the end has none, and gets 0.
 pub(crate) fn time_of(item: &Item) -> u64
     ensures { result ≡ item_time item.now }
 {
@@ -33,7 +33,7 @@ pub(crate) fn count_until(items: &[Item], time: u64) -> usize
     count
 }
 
-/// So many empty lists.
+/// This many empty lists.
 pub(crate) fn empty_lists(alloc: Global, count: u32) -> Result<Vec<Vec<Item>>, AllocError>
     ensures len { IfOk result (λ lists. vec_len lists ≡ count) }
     ensures empty { IfOk result (λ lists. (i : ℕ) → items_of_list lists i ≡ []) }
@@ -45,7 +45,7 @@ pub(crate) fn empty_lists(alloc: Global, count: u32) -> Result<Vec<Vec<Item>>, A
     Ok(lists)
 }
 
-/// Gives each itag, of which the first has the number `first`, those of some items that are its own.
+/// Gives each itag, the first of which has the number `first`, those of some items that are its own.
 pub(crate) fn push_items(
     lists: &mut Vec<Vec<Item>>,
     first: u32,
@@ -62,7 +62,7 @@ pub(crate) fn push_items(
     Ok(())
 }
 
-/// Puts an item at the end of each list that it belongs to.
+/// Appends an item to each list that it belongs to.
 pub(crate) fn push_item(
     lists: &mut Vec<Vec<Item>>,
     first: u32,
@@ -86,7 +86,7 @@ pub(crate) fn push_item(
     }
 }
 
-// Puts an item at the end of one list.
+// Appends an item to one list.
 fn push_at(lists: &mut Vec<Vec<Item>>, place: usize, item: Item) -> Result<(), AllocError>
     requires { place < vec_len lists.old }
     ensures len { vec_len lists.new ≡ vec_len lists.old }
@@ -97,7 +97,7 @@ fn push_at(lists: &mut Vec<Vec<Item>>, place: usize, item: Item) -> Result<(), A
     Ok(())
 }
 
-/// Puts an item at the end of each list.
+/// Appends an item to each list.
 pub(crate) fn push_each(lists: &mut Vec<Vec<Item>>, item: Item) -> Result<(), AllocError>
     ensures len { vec_len lists.new ≡ vec_len lists.old }
     ensures each { OnOk result ((i : ℕ) → i < vec_len lists.old → items_of_list lists.new i ≡ items_of_list lists.old i ++ item ∷ []) }

@@ -1,4 +1,4 @@
-//! How a time is tested, and an item put in, among those that are held of a source.
+//! How a time is tested, and an item inserted, among those that are held of a source.
 
 ghost use Rattle.std.specs.Prelude.{◌≡◌, ◌==◌, false, [], IsTrue, None, OnOk, OnErr, IfErr};
 ghost use Rattle.std.specs.List.{list_any};
@@ -42,7 +42,7 @@ pub(crate) fn test_time(
     }
 }
 
-/// Puts an item in whose time passes its test, where `last` is the greatest time that was read, with it.
+/// Inserts an item whose time passes its test; `last` is the greatest time that was read, including this one.
 pub(crate) fn put_item(
     items: &mut TimedItems,
     item: Item,

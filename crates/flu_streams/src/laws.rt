@@ -6,30 +6,30 @@ ghost use Rattle.flu_streams.specs.Holding.{LawOfStart, LawOfEnds, LawOfBounds};
 ghost use Rattle.flu_streams.specs.Fronts.{LawOfFronts, LawOfFrontsAbove, LawOfMeeting};
 ghost use Rattle.flu_streams.specs.Rounds.{LawOfRounds, LawOfNoRows, LawOfLastRound, LawOfLastAbove};
 
-/// The law of borders: what is cut at a time is folded in turn. The fold of the events up to the time, and then, from its state,
-/// that of the later ones, give the state and the outputs of the whole fold; and its report is the two reports, one behind the
-/// other. The items up to a time and the later ones are cut so.
+/// The law of borders: what is cut at a time can be folded in turn. The fold of the events up to the time, and then, from its state,
+/// the fold of the later ones, give the state and the outputs of the whole fold; and its report is the two reports, one after the
+/// other. The items up to a time and the later ones are such a cut.
 pub fn borders_cut_a_fold()
     ensures fold { LawOfBorders }
     ensures items { ItemsAreCut }
 {}
 
-/// The law of rounds: the rounds up to any one, each folded from the state behind the one before it, give the state and the
+/// The law of rounds: the rounds up to any one, each folded from the state after the one before it, give the state and the
 /// outputs of the fold of all rows that were read above the run's start, up to its border; and its report is their reports, one
-/// behind another. And before the first round there is nothing to be folded.
+/// after another. And before the first round there is nothing to fold.
 pub fn rounds_are_folded_in_turn()
     ensures rounds { LawOfRounds }
     ensures none { LawOfNoRows }
 {}
 
 /// The law of counts: the events of the rounds up to any one, counted by itag round by round, are those of all rows that were read
-/// above the run's start, up to its border. And where one round more is counted, its events are counted behind those before it.
+/// above the run's start, up to its border. And if one more round is counted, its events are counted after those before it.
 pub fn rounds_are_counted_in_turn()
     ensures rounds { LawOfCounts }
     ensures one_more { OneMoreInTurn }
 {}
 
-/// The last round: behind it the rows that were read are all rows of the sources' files, and their lists are those that `gather`
+/// The last round: after it the rows that were read are all rows of the sources' files, and their lists are those that `gather`
 /// gives of good sources.
 pub fn last_round_has_all_rows()
     ensures { LawOfLastRound }
@@ -41,15 +41,15 @@ pub fn last_round_has_later_rows()
     ensures { LawOfLastAbove }
 {}
 
-/// The law of the start: before the first round nothing is read, so all lines are still to be read. And behind the last round,
-/// where all files were read to their ends, nothing is left of any of them.
+/// The law of the start: before the first round nothing has been read, so all lines are still to be read. And after the last round,
+/// if all files were read to their ends, nothing is left of any of them.
 pub fn rounds_begin_and_end()
     ensures start { LawOfStart }
     ensures ends { LawOfEnds }
 {}
 
-/// The law of fronts: where no source has a defect, the fold of all rows is that of the rows of the rounds up to a border, and then,
-/// from its state, that of the later ones; and its report is the two reports, one behind the other. The same holds of a run that
+/// The law of fronts: if no source has a defect, the fold of all rows is the fold of the rows of the rounds up to a border, and then,
+/// from its state, the fold of the later ones; and its report is the two reports, one after the other. The same holds of a run that
 /// starts above a border, with the rows above it.
 /// And the law of meeting: a defect that a round meets is the first one of its source.
 pub fn rounds_meet_what_is_there()
@@ -58,7 +58,7 @@ pub fn rounds_meet_what_is_there()
     ensures meeting { LawOfMeeting }
 {}
 
-/// The law of what is held: where of each source only as many rows are held as a round is to have, and one for each time within its
+/// The law of what is held: if only as many rows of each source are held as a round needs, and one for each time within its
 /// slack, these are at most 64,096 of each; and the lists of a round have at most 16,408,576 events and heartbeats, besides their
 /// ends.
 pub fn rounds_hold_few()

@@ -1,4 +1,4 @@
-//! The reading of all sources.
+//! Reading all sources.
 
 ghost use Rattle.std.specs.Prelude.{◌≡◌, ◌≢◌, ◌≤◌, ◌<◌, ◌+◌, ◌^◌, length, vec_len, OnOk, IfOk, IfErr, IsErrOf, Err};
 ghost use Rattle.flu_model.specs.Itags.{count_of_itags};
@@ -23,8 +23,8 @@ use std::alloc::Global;
 /// Reads each source of a job to its end, in declared order, and gives the items of each itag, sorted by time: a row may be
 /// late within its source's slack (`docs/LANGUAGE.md`, "Late rows").
 ///
-/// A source fault is that of the first source, as declared, that has a defect, by its first defect. Which sources are good
-/// and what they give stands in `specs/Good.antt`, over the bytes that the files have left when the call begins.
+/// A source fault is the first defect of the first source, as declared, that has one. Which sources are good
+/// and what they give is defined in `specs/Good.antt`, over the bytes that the files have left when the call begins.
 pub fn gather<F: Files>(alloc: Global, p: &Program, files: &mut F) -> Result<Streams, GatherFault>
     ensures good { OnOk result (WhereTold (F.left files.old) (F.left files.new) (λ old new. AreGood p.now old)) }
     ensures lists { IfOk result (λ streams. WhereTold (F.left files.old) (F.left files.new) (λ old new. listed streams ≡ lists_of p.now old)) }
@@ -33,7 +33,7 @@ pub fn gather<F: Files>(alloc: Global, p: &Program, files: &mut F) -> Result<Str
 
     ensures fault { IfErr result (IsFirstFault p.now (F.left files.old) (F.left files.new)) }
 
-    // It takes bytes from the front of the sources' files alone, and puts none; and a read fault has its cause there: no other
+    // It only takes bytes from the front of the sources' files, and puts none; and a read fault has its cause there: no other
     // answer comes after a take that failed.
     ensures fronts { WhereTold (F.left files.old) (F.left files.new) TookFronts }
     ensures others { WhereTold (F.left files.old) (F.left files.new) (LeavesOthers (files_of p.now.sources)) }
@@ -56,7 +56,7 @@ pub fn gather<F: Files>(alloc: Global, p: &Program, files: &mut F) -> Result<Str
     Ok(Streams::new(gathered.into_lists()))
 }
 
-// Reads one source more.
+// Reads one more source.
 fn add_source<F: Files>(
     alloc: Global,
     kinds: &[Kind],

@@ -1,4 +1,4 @@
-//! The reading of one source.
+//! Reading one source.
 
 ghost use Rattle.std.specs.Prelude.{◌≡◌, ◌≢◌, ◌≤◌, ◌+◌, length, OnOk, IfOk, IfErr, IsErrOf, Err};
 ghost use Rattle.flu_outside.specs.Outside.{WhereTold, Rose, SameCounts};
@@ -13,7 +13,7 @@ use flu_outside::{Files, TakeFault};
 use flu_rows::{Next, Rows};
 use std::alloc::Global;
 
-/// Why a source is not read to its end.
+/// Why a source was not read to its end.
 #[derive(Clone, Copy)]
 pub(crate) enum Stop {
     /// It has a defect.
@@ -22,7 +22,7 @@ pub(crate) enum Stop {
     NoMemory,
 }
 
-/// Reads a source to its end. Its first itag has the number `first`, and so many items of other sources are held.
+/// Reads a source to its end. Its first itag has the number `first`, and this many items of other sources are held.
 pub(crate) fn read_source<F: Files>(
     alloc: Global,
     kinds: &[Kind],
@@ -73,7 +73,7 @@ pub(crate) fn read_source<F: Files>(
     }
 }
 
-/// The stop of a read that fails.
+/// The stop for a read that fails.
 pub(crate) fn stop_of(fault: TakeFault) -> Stop
     ensures { result ≡ stop_of fault }
 {

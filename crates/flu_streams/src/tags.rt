@@ -10,7 +10,7 @@ ghost use Rattle.flu_streams.specs.Tests.{faults_of_event};
 use crate::faults::Why;
 use flu_model::{Keys, Kind, Source, Tag, TagRef};
 
-/// The place of the tag that a row names among those that the source lists; or what the row breaks.
+/// The place of the tag that a row names among those that the source lists; or the rule that the row breaks.
 pub(crate) fn place_of_event(
     kinds: &[Kind],
     source: &Source,
@@ -36,7 +36,7 @@ pub(crate) fn place_of_event(
     Ok(place)
 }
 
-// The tag that a name and perhaps a key name.
+// The tag of a name and an optional key.
 fn tag_named(kinds: &[Kind], name: &str, key: Option<u32>) -> Option<Tag>
     requires { length kinds.now ≤ 64 }
     ensures value { result ≡ tag_named kinds.now name.now key }

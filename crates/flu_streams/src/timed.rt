@@ -1,4 +1,4 @@
-//! Items in order of time, among which late ones are put.
+//! Items in order of time, into which late ones are inserted.
 
 ghost use Rattle.std.specs.Prelude.{◌≡◌, ◌++◌, ◌+◌, ◌^◌, ◌<◌, ◌≤◌, ◌==◌, ℕ, [], ◌∷◌, false, length, nat_le, nat_lt};
 ghost use Rattle.std.specs.Prelude.{slice_index_or, vec_len, IsTrue, OnOk, OnErr, IfOk};
@@ -16,9 +16,9 @@ use std::alloc::{AllocError, Global};
 use std::collections::BTreeMap;
 use std::marker::Model;
 
-/// Some items in order of time: those in a vector, and then those in a map under their times. An item that is in order is put at the
-/// end of the vector. Those after an item that is put in late are moved to the map, and back once no item can come before them any
-/// more, so no item is moved for each one that is put before it.
+/// Some items in order of time: those in a vector, and then those in a map under their times. An item that is in order is appended
+/// to the vector. Those after an item that is inserted late are moved to the map, and back once no item can come before them any
+/// more, so no item is moved for each one that is inserted before it.
 #[derive(Drop)]
 pub(crate) struct TimedItems {
     early: Vec<Item>,
@@ -71,7 +71,7 @@ impl TimedItems {
         Ok(self.late.contains_key(&time))
     }
 
-    /// Puts an item in, where its time belongs.
+    /// Inserts an item where its time belongs.
     pub(crate) fn put(&mut self, item: Item) -> Result<(), AllocError>
         requires rising { IsTrue (rises_from item_time 0 self.old) }
         requires apart { list_any (λ t. t == item_time item) (times_in self.old) ≡ false }
@@ -88,14 +88,14 @@ impl TimedItems {
         Ok(())
     }
 
-    /// Tells that no item comes at a time or before it any more.
+    /// Notes that no item comes at a time or before it any more.
     pub(crate) fn settle(&mut self, time: u64) -> Result<(), AllocError>
         ensures { self.new ≡ self.old }
     {
         move_back(&mut self.early, &mut self.late, time)
     }
 
-    /// Whether so many of them come no later than a time.
+    /// Whether this many of them come no later than a time.
     pub(crate) fn has_until(&self, count: usize, time: u64) -> bool
         requires rising { IsTrue (rises_from item_time 0 self.now) }
         requires some { 1 ≤ count }
@@ -117,7 +117,7 @@ impl TimedItems {
         drop_late(&mut self.late, time);
     }
 
-    /// Gives each itag, of which the first has the number `first`, those up to a border that are its own, and the end.
+    /// Gives each itag, the first of which has the number `first`, those up to a border that are its own, and the end.
     pub(crate) fn push_to(
         &self,
         lists: &mut Vec<Vec<Item>>,

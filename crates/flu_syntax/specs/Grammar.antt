@@ -63,7 +63,7 @@ key_signs (key.Fixed n) = Any (w.Mark m.OpenBracket) ∷ (number n ++ Any (w.Mar
 abbrev pub cell_signs : WrittenRef → List Sign
 cell_signs cell = name cell.family ++ key_signs cell.key
 
--- an expression: a number, `value`, `key`, `time`, a cell, `has` and a cell, what stands in parentheses, a unary operator and its
+-- an expression: a number, `value`, `key`, `time`, a cell, `has` and a cell, an expression in parentheses, a unary operator and its
 -- operand, or an operator between two operands
 abbrev pub spelled : Tree → List Sign
 spelled (NumberTree n) = number n
@@ -95,8 +95,8 @@ op_level op.Times = 5
 abbrev pub left_level : ℕ → ℕ
 left_level level = if level == 3 then 4 else level
 
--- The expression may stand where operators of this level and above are wanted: from `or` as 0 over `and`, `not`, the
--- comparisons, `+` and `-`, `*`, to unary `-` and what stands alone as 6.
+-- The expression may occur where operators of this level and above are expected: from `or` as 0 over `and`, `not`, the
+-- comparisons, `+` and `-`, `*`, to unary `-` and what is alone as 6.
 abbrev pub Fits : ℕ → Tree → Type 0
 Fits level (NumberTree n) = Unit {0}
 Fits level (ValueTree at) = Unit {0}
@@ -122,7 +122,7 @@ nest (NegTree at inner) = nest inner + 1
 nest (NotTree at inner) = nest inner + 1
 nest (TwoTree o left right) = max (nest left) (nest right)
 
--- an expression by the levels, with at most so many open at once
+-- an expression by the levels, with at most this many open at once
 abbrev pub IsExpression : ℕ → Tree → Type 0
 IsExpression most t = Fits 0 t × (nest t ≤ most)
 
@@ -215,7 +215,7 @@ version_signs (Some n) = Any (w.Reserved r.Version) ∷ number n
 abbrev pub job_signs : Job → List Sign
 job_signs job = version_signs job.version ++ declarations_signs job.declarations
 
--- The tokens are this job, in which at most so many parentheses and unary operators are open at once: they are its signs, one by one, and
+-- The tokens are this job, in which at most this many parentheses and unary operators are open at once: they are its signs, one by one, and
 -- it keeps the levels of operators.
 pub record IsJobWithin (most : ℕ) (tokens : List Token) (job : Job) : Type 0 where
   pub grammar : AreDeclarations most job.declarations

@@ -21,7 +21,7 @@ JobsAreUnique = (tokens : List Token) (a b : Job) → IsJob tokens a → IsJob t
 abbrev pub UnexpectedIsFirst : Type 0
 UnexpectedIsFirst = (end : ℕ) (tokens : List Token) (place : ℕ) → (verdict end tokens ≡ Unexpected place) ↔ IsFirstThatCannotFollow end tokens place
 
--- too many are open where a token that may follow opens the 65th
+-- too many are open if a token that may follow opens the 65th
 abbrev pub TooDeepIsThe65th : Type 0
 TooDeepIsThe65th = (end : ℕ) (tokens : List Token) → (verdict end tokens ≡ TooDeep) ↔ IsTooDeep tokens
 

@@ -40,7 +40,7 @@ cell_of family k = record { family = family; key = k }
 abbrev pub tag_of : WrittenSpan → WrittenKeys → WrittenTag
 tag_of kind ks = record { kind = kind; keys = ks }
 
--- ---- what stands at each turn
+-- ---- what there is at each turn
 
 -- the actions of a kind so far
 pub record Actions : Type 0 where
@@ -55,7 +55,7 @@ pub record Tags : Type 0 where
   pub slack : Option WrittenNumber
   pub all : List WrittenTag
 
--- where an expression stands: the amount of an action, or its guard; `at` is the place of the action's first token
+-- where an expression is: the amount of an action, or its guard; `at` is the place of the action's first token
 pub data Context : Type 0 where
   Amount : (so_far : Actions) (at : ℕ) (verb : Verb) (cell : WrittenRef) → Context
   Guard : (so_far : Actions) (at : ℕ) (deed : Deed) → Context
@@ -69,7 +69,7 @@ pub data Frame : Type 0 where
 
 -- how far an expression is
 pub data Mode : Type 0 where
-  -- one is wanted
+  -- one is expected
   Want : (level : ℕ) → Mode
   -- one is there, and operators of these levels may take it as their left operand
   Have : (low high : ℕ) (t : Tree) → Mode
@@ -89,19 +89,19 @@ pub data Now : Type 0 where
   Start : Now
   -- one is there, and nothing more of it may follow
   Declared : (d : Declaration) → Now
-  -- behind `cell`, behind its name, behind `keyed`
+  -- after `cell`, after its name, after `keyed`
   CellName : Now
   CellForm : (name : WrittenSpan) → Now
   CellSort : (name : WrittenSpan) (keyed : Bool) → Now
-  -- behind `tag`, behind its name, behind `keyed`
+  -- after `tag`, after its name, after `keyed`
   TagName : Now
   TagForm : (name : WrittenSpan) → Now
   TagValue : (name : WrittenSpan) (keyed : Bool) → Now
-  -- behind `depends`, behind its first name, behind its second name
+  -- after `depends`, after its first name, after its second name
   DependsFirst : Now
   DependsSecond : (a : WrittenSpan) → Now
   DependsHow : (a b : WrittenSpan) → Now
-  -- behind `source`, behind its name, behind its file, behind `rate`, behind the rate, behind `slack`, behind the slack
+  -- after `source`, after its name, after its file, after `rate`, after the rate, after `slack`, after the slack
   SourceName : Now
   SourceFile : (name : WrittenSpan) → Now
   SourceRate : (name file : WrittenSpan) → Now
@@ -109,7 +109,7 @@ pub data Now : Type 0 where
   SourceSlack : (name file : WrittenSpan) (rate : Option WrittenNumber) → Now
   SlackNumber : (name file : WrittenSpan) (rate : Option WrittenNumber) → Now
   SourceColon : (name file : WrittenSpan) (rate slack : Option WrittenNumber) → Now
-  -- where a tag is wanted, behind its kind, behind `[`, behind the first number, behind `..`, behind the last number, behind it
+  -- where a tag is expected, after its kind, after `[`, after the first number, after `..`, after the last number, after it
   TagKind : (so_far : Tags) → Now
   TagKeys : (so_far : Tags) (kind : WrittenSpan) → Now
   TagLow : (so_far : Tags) (kind : WrittenSpan) → Now
@@ -117,17 +117,17 @@ pub data Now : Type 0 where
   TagHigh : (so_far : Tags) (kind : WrittenSpan) (low : WrittenNumber) → Now
   TagClose : (so_far : Tags) (kind : WrittenSpan) (ks : WrittenKeys) → Now
   TagEnd : (so_far : Tags) → Now
-  -- behind `on`, behind its name, where an action is wanted, behind what it does, behind it
+  -- after `on`, after its name, where an action is expected, after what it does, after it
   OnKind : Now
   OnColon : (kind : WrittenSpan) → Now
   ActionStart : (so_far : Actions) → Now
   DeedEnd : (so_far : Actions) (at : ℕ) (deed : Deed) → Now
   ActionEnd : (so_far : Actions) → Now
-  -- behind `emit`, behind `flush`, behind its family
+  -- after `emit`, after `flush`, after its family
   EmitText : (so_far : Actions) (at : ℕ) → Now
   FlushFamily : (so_far : Actions) (at : ℕ) → Now
   FlushText : (so_far : Actions) (at : ℕ) (family : WrittenSpan) → Now
-  -- where a cell is wanted, behind its family, behind `[`, behind its key
+  -- where a cell is expected, after its family, after `[`, after its key
   CellFamily : (aim : Aim) → Now
   CellKeys : (aim : Aim) (family : WrittenSpan) → Now
   CellKey : (aim : Aim) (family : WrittenSpan) → Now
@@ -167,7 +167,7 @@ operator_of w.Name = None
 operator_of (w.Number n) = None
 operator_of w.Text = None
 
--- the greatest level behind an operator and its right operand: comparisons do not chain
+-- the greatest level after an operator and its right operand: comparisons do not chain
 abbrev pub level_behind : ℕ → ℕ
 level_behind level = if level == 3 then 2 else level
 
@@ -190,7 +190,7 @@ unfoldable pub deed_step : Actions → ℕ → Deed → Word → Next
 deed_step so_far at deed (w.Reserved r.When) = Goes (InExpression (Guard so_far at deed) (Want 0) [])
 deed_step so_far at deed word = action_step (acted so_far at deed None) word
 
--- behind an expression
+-- after an expression
 abbrev pub behind : Context → Tree → Now
 behind (Amount so_far at verb cell) t = DeedEnd so_far at (Writes verb cell t)
 behind (Guard so_far at deed) t = ActionEnd (acted so_far at deed (Some t))
@@ -270,7 +270,7 @@ expression_step context (Done e) frames t = done_step context e frames t.word
 
 -- ---- cells
 
--- behind a cell
+-- after a cell
 abbrev pub named : Aim → WrittenRef → Now
 named (ToWrite so_far at verb) cell = InExpression (Amount so_far at verb cell) (Want 0) []
 named (ToClear so_far at) cell = DeedEnd so_far at (Clears cell)
@@ -294,7 +294,7 @@ key_step aim family t _ = Refused
 
 -- ---- declarations
 
--- where one word alone may follow
+-- where only one word may follow
 abbrev pub on_name : Word → Now → Next
 on_name w.Name now = Goes now
 on_name _ now = Refused
@@ -458,7 +458,7 @@ named_whole (ToClear so_far at) cell = Some (on_line (acted so_far at (Clears ce
 named_whole (ToRead context level frames) cell = done_whole context (ReadTree cell) frames
 named_whole (ToTest context level frames at) cell = done_whole context (HasTree at cell) frames
 
--- what is declared, where a declaration may end here or begin
+-- what is declared, if a declaration may end here or begin
 unfoldable pub whole : Now → Option Declarations
 whole Start = Some []
 whole (Declared d) = Some (d ∷ [])
@@ -526,7 +526,7 @@ with_version version (Found all) = Found (record { version = version; declaratio
 with_version version (Unexpected place) = Unexpected place
 with_version version TooDeep = TooDeep
 
--- behind `version`
+-- after `version`
 abbrev pub numbered : ℕ → Token → Word → List Token → Verdict Job
 numbered end t (w.Number n) tokens = with_version (Some (number_of n t)) (run end [] Start tokens)
 numbered end t _ tokens = Unexpected t.from

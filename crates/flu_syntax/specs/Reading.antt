@@ -24,7 +24,7 @@ use Rattle.flu_syntax.specs.Machine.{TagMore, TagClose, TagEnd, SourceRate, Sour
 use Rattle.flu_syntax.specs.Machine.{ParenFrame, RightFrame, Mode, Want, Have, Done, opens, named, cell_of, tag_of, listed, source_of, acted, Verdict, Found}
 use Rattle.flu_syntax.specs.Machine.{Unexpected, TooDeep, run, verdict, with_version}
 
--- the fault tells the verdict, unless memory is wanting
+-- the fault is the verdict, unless memory runs out
 abbrev pub Tells : {X : Type 0} → SyntaxFault → Verdict X → Type 0
 Tells (f.Unexpected place) verdict = verdict ≡ Unexpected place
 Tells f.TooDeep verdict = verdict ≡ TooDeep
@@ -37,7 +37,7 @@ abbrev pub NotFirst : Word → List Token → Type 0
 NotFirst word [] = Unit {0}
 NotFirst word (t ∷ tokens) = t.word ≢ word
 
--- the first token is of this word, and these stand behind it
+-- the first token is of this word, and these come after it
 abbrev pub IsFirst : Word → List Token → Token → List Token → Type 0
 IsFirst word tokens t rest = (tokens ≡ t ∷ rest) × (t.word ≡ word)
 
@@ -57,19 +57,19 @@ Turn = Declarations × Now
 abbrev pub from_turn : ℕ → Turn → List Token → Verdict Declarations
 from_turn end turn tokens = run end turn.0 turn.1 tokens
 
--- A part of the grammar is read, wherever it stands: the verdict on the tokens is that on those behind the part, or the fault
--- tells it.
+-- A part of the grammar is read, wherever it occurs: the verdict on the tokens is the verdict on those after the part, or the fault
+-- is the verdict.
 abbrev pub Reads : {X : Type 0} → (Where : Type 0) → ℕ → List Token → (Where → Turn) → (X → Where → Turn) → (X → List Token) → Result X SyntaxFault → Type 0
 Reads Where end tokens before after rest (Ok x) = (here : Where) → from_turn end (before here) tokens ≡ from_turn end (after x here) (rest x)
 Reads Where end tokens before after rest (Err fault) = (here : Where) → Tells fault (from_turn end (before here) tokens)
 
--- what stands in brackets behind a family, if anything
+-- what is in brackets after a family, if anything
 abbrev pub ReadsKey : {X : Type 0} → ℕ → List Token → (X → WrittenKey) → (X → List Token) → Result X SyntaxFault → Type 0
 ReadsKey end tokens key rest result =
     Reads (Declarations × Aim × WrittenSpan) end tokens (λ here. (here.0, CellKeys here.1 here.2))
     (λ x here. (here.0, named here.1 (cell_of here.2 (key x)))) rest result
 
--- the same, behind the opening bracket and before the closing one
+-- the same, after the opening bracket and before the closing one
 abbrev pub ReadsInside : {X : Type 0} → ℕ → List Token → (X → WrittenKey) → (X → List Token) → Result X SyntaxFault → Type 0
 ReadsInside end tokens key rest result =
     Reads (Declarations × Aim × WrittenSpan) end tokens (λ here. (here.0, CellKey here.1 here.2))
@@ -79,7 +79,7 @@ abbrev pub ReadsCell : {X : Type 0} → ℕ → List Token → (X → WrittenRef
 ReadsCell end tokens cell rest result =
     Reads (Declarations × Aim) end tokens (λ here. (here.0, CellFamily here.1)) (λ x here. (here.0, named here.1 (cell x))) rest result
 
--- where an expression stands, with so many parentheses and unary operators open
+-- where an expression is, with this many parentheses and unary operators open
 pub record Inside (opened : ℕ) : Type 0 where
   pub before : Declarations
   pub context : Context
@@ -103,20 +103,20 @@ Closes end tokens rest (Err fault) =
     (before : Declarations) (context : Context) (t : Tree) (level at : ℕ) (frames : List Frame) → Tells fault
     (run end before (InExpression context (Done t) (ParenFrame level at ∷ frames)) tokens)
 
--- no operator of these levels stands here
+-- no operator of these levels is here
 abbrev pub IsPassed : ℕ → ℕ → List Token → Type 0
 IsPassed low high tokens =
     (end : ℕ) (before : Declarations) (context : Context) (t : Tree) (frames : List Frame) → run end before (InExpression context (Have low high t) frames)
     tokens ≡ run end before (InExpression context (Done t) frames) tokens
 
--- this one stands here
+-- this one is here
 abbrev pub IsTaken : ℕ → ℕ → List Token → Op → List Token → Type 0
 IsTaken low high tokens o rest =
     (end : ℕ) (before : Declarations) (context : Context) (t : Tree) (frames : List Frame)
     → run end before (InExpression context (Have low high t) frames) tokens ≡ run end before
     (InExpression context (Want (op_level o + 1)) (RightFrame low o t ∷ frames)) rest
 
--- what an action does; its first token stands at a place
+-- what an action does; its first token is at a place
 abbrev pub ReadsWriting : {X : Type 0} → ℕ → Verb → List Token → (X → Deed) → (X → List Token) → Result X SyntaxFault → Type 0
 ReadsWriting end verb tokens deed rest result =
     Reads (Declarations × Actions × ℕ) end tokens (λ here. (here.0, CellFamily (ToWrite here.1 here.2 verb)))
@@ -134,7 +134,7 @@ abbrev pub ReadsAction : {X : Type 0} → ℕ → List Token → (X → Action) 
 ReadsAction end tokens action rest result =
     Reads (Declarations × Actions) end tokens (λ here. (here.0, ActionStart here.1)) (λ x here. (here.0, ActionEnd (with_action here.1 (action x)))) rest result
 
--- an expression behind `when`, if that stands here
+-- an expression after `when`, if that is here
 abbrev pub ReadsGuard : {X : Type 0} → ℕ → List Token → (X → Option Tree) → (X → List Token) → Result X SyntaxFault → Type 0
 ReadsGuard end tokens guard rest result =
     Reads (Declarations × Actions × ℕ × Deed) end tokens (λ here. (here.0, DeedEnd here.1 here.2 here.3))
@@ -149,13 +149,13 @@ ReadsActions end tokens actions rest result =
     Reads (Declarations × WrittenSpan) end tokens (λ here. (here.0, ActionStart (no_actions here.1)))
     (λ x here. (here.0 ++ On here.1 (actions x) ∷ [], Start)) rest result
 
--- what stands in brackets behind a kind, if anything
+-- what is in brackets after a kind, if anything
 abbrev pub ReadsKeys : {X : Type 0} → ℕ → List Token → (X → WrittenKeys) → (X → List Token) → Result X SyntaxFault → Type 0
 ReadsKeys end tokens keys rest result =
     Reads (Declarations × Tags × WrittenSpan) end tokens (λ here. (here.0, TagKeys here.1 here.2))
     (λ x here. (here.0, TagEnd (listed here.1 (tag_of here.2 (keys x))))) rest result
 
--- the same, behind the first number and before the closing bracket
+-- the same, after the first number and before the closing bracket
 abbrev pub ReadsRange : {X : Type 0} → ℕ → WrittenNumber → List Token → (X → WrittenKeys) → (X → List Token) → Result X SyntaxFault → Type 0
 ReadsRange end low tokens keys rest result =
     Reads (Declarations × Tags × WrittenSpan) end tokens (λ here. (here.0, TagMore here.1 here.2 low)) (λ x here. (here.0, TagClose here.1 here.2 (keys x)))
@@ -165,7 +165,7 @@ abbrev pub ReadsTag : {X : Type 0} → ℕ → List Token → (X → WrittenTag)
 ReadsTag end tokens tag rest result =
     Reads (Declarations × Tags) end tokens (λ here. (here.0, TagKind here.1)) (λ x here. (here.0, TagEnd (listed here.1 (tag x)))) rest result
 
--- where the tags of a source stand
+-- where the tags of a source are
 pub record Head : Type 0 where
   pub before : Declarations
   pub name : WrittenSpan
@@ -194,7 +194,7 @@ abbrev pub ReadsDeclaration : {X : Type 0} → ℕ → Now → List Token → (X
 ReadsDeclaration end now tokens declaration rest result =
     Reads Declarations end tokens (λ before. (before, now)) (λ x before. (before ++ declaration x ∷ [], Start)) rest result
 
--- whether `keyed` stands here, and what stands behind it
+-- whether `keyed` is here, and what comes after it
 abbrev pub TakesKeyed : List Token → Bool → List Token → Type 0
 TakesKeyed tokens true rest = (t : Token) × IsFirst (w.Reserved r.Keyed) tokens t rest
 TakesKeyed tokens false rest = (rest ≡ tokens) × NotFirst (w.Reserved r.Keyed) tokens
@@ -209,7 +209,7 @@ abbrev pub ReadsDeclarations : {X : Type 0} → ℕ → List Token → (X → De
 ReadsDeclarations end tokens declarations (Ok x) = run end [] Start tokens ≡ Found (declarations x)
 ReadsDeclarations end tokens declarations (Err fault) = Tells fault (run end [] Start tokens)
 
--- the version of a job, if one is written: the verdict on all tokens is that on the declarations behind it, or the fault tells it
+-- the version of a job, if one is written: the verdict on all tokens is the verdict on the declarations after it, or the fault is the verdict
 abbrev pub ReadsVersion : {X : Type 0} → ℕ → List Token → (X → Option WrittenNumber) → (X → List Token) → Result X SyntaxFault → Type 0
 ReadsVersion end tokens version rest (Ok x) = verdict end tokens ≡ with_version (version x) (run end [] Start (rest x))
 ReadsVersion end tokens version rest (Err fault) = Tells fault (verdict end tokens)

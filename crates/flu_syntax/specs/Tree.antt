@@ -1,4 +1,4 @@
--- A job as it is written, as plain data: without where the boxes of its expressions lie in memory.
+-- A job as it is written, as plain data: without the places in memory of the boxes of its expressions.
 use Rattle.std.specs.Prelude.{ℕ, Bool, List, map, Option, option_map}
 use Rattle.flu_model.specs.declared.jobs.Op.{Op}
 use Rattle.flu_model.specs.declared.jobs.Sort.{Sort}
@@ -84,7 +84,7 @@ declaration_of (declaration.Source name file rate slack tags) = Source name file
 abbrev pub Declarations : Type 0
 Declarations = List Declaration
 
--- a whole job: the number behind `version`, if that is written, and the declarations
+-- a whole job: the number after `version`, if that is written, and the declarations
 pub record Job : Type 0 where
   pub version : Option WrittenNumber
   pub declarations : Declarations

@@ -14,7 +14,7 @@ use Rattle.flu_syntax.specs.Tree.{Emits, Flushes, Action, Declaration, Cell, Tag
 use Rattle.flu_text.specs.Signs.{Sign}
 use Rattle.flu_text.specs.Signs.{name, text, number}
 
--- those of a cell: its family's name, and perhaps the number in its brackets
+-- those of a cell: its family's name, and the number in its brackets, if there is one
 abbrev pub key_words : WrittenKey → List Sign
 key_words key.Alone = []
 key_words (key.OwnKey at) = []
@@ -59,7 +59,7 @@ keys_words (keys.Range low high) = number low ++ number high
 abbrev pub tag_words : WrittenTag → List Sign
 tag_words t = name t.kind ++ keys_words t.keys
 
--- that of a version, a rate or a slack, if one is written
+-- the one of a version, a rate or a slack, if one is written
 abbrev pub number_words : Option WrittenNumber → List Sign
 number_words None = []
 number_words (Some n) = number n

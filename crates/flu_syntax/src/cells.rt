@@ -8,7 +8,7 @@ use crate::tokens::{expect, number, span_of, take};
 use crate::tree::{WrittenKey, WrittenRef};
 use flu_text::{Mark, Reserved, Token, Word};
 
-/// What stands between the brackets behind a family: `key`, or a number.
+/// What is between the brackets after a family: `key`, or a number.
 fn inside(tokens: &[Token], end: usize) -> Result<(WrittenKey, &[Token]), SyntaxFault>
     ensures run { ReadsInside end tokens.now (λ x. x.0) (λ x. x.1.now) result }
     ensures shorter { IfOk result (λ x. length x.1.now < length tokens.now) }
@@ -20,7 +20,7 @@ fn inside(tokens: &[Token], end: usize) -> Result<(WrittenKey, &[Token]), Syntax
     Ok((WrittenKey::Fixed(number), rest))
 }
 
-/// What stands in brackets behind a family, if anything.
+/// What is in brackets after a family, if anything.
 pub fn key(tokens: &[Token], end: usize) -> Result<(WrittenKey, &[Token]), SyntaxFault>
     ensures run { ReadsKey end tokens.now (λ x. x.0) (λ x. x.1.now) result }
     ensures shorter { IfOk result (λ x. length x.1.now ≤ length tokens.now) }
@@ -33,7 +33,7 @@ pub fn key(tokens: &[Token], end: usize) -> Result<(WrittenKey, &[Token]), Synta
     Ok((key, rest))
 }
 
-/// A cell: a family's name, and perhaps brackets.
+/// A cell: a family's name, and optional brackets.
 pub fn cell(tokens: &[Token], end: usize) -> Result<(WrittenRef, &[Token]), SyntaxFault>
     ensures run { ReadsCell end tokens.now (λ x. x.0) (λ x. x.1.now) result }
     ensures shorter { IfOk result (λ x. length x.1.now < length tokens.now) }

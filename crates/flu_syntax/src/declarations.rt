@@ -21,7 +21,7 @@ use flu_model::List;
 use flu_text::{Mark, Reserved, Token, Word};
 use std::alloc::Global;
 
-/// Whether `keyed` stands here, and what stands behind it.
+/// Whether `keyed` is here, and what comes after it.
 fn keyed(tokens: &[Token]) -> (bool, &[Token])
     ensures { TakesKeyed tokens.now result.0 result.1.now }
 {
@@ -31,7 +31,7 @@ fn keyed(tokens: &[Token]) -> (bool, &[Token])
     }
 }
 
-/// A line of cells, behind its first word.
+/// A line of cells, after its first word.
 fn cell_line(tokens: &[Token], end: usize) -> Result<(WrittenDeclaration, &[Token]), SyntaxFault>
     ensures run { ReadsDeclaration end CellName tokens.now (λ x. declaration_of x.0) (λ x. x.1.now) result }
     ensures shorter { IfOk result (λ x. length x.1.now < length tokens.now) }
@@ -48,7 +48,7 @@ fn cell_line(tokens: &[Token], end: usize) -> Result<(WrittenDeclaration, &[Toke
     Ok((WrittenDeclaration::Cell { name, keyed, sort }, behind))
 }
 
-/// A line of tags, behind its first word.
+/// A line of tags, after its first word.
 fn tag_line(tokens: &[Token], end: usize) -> Result<(WrittenDeclaration, &[Token]), SyntaxFault>
     ensures run { ReadsDeclaration end TagName tokens.now (λ x. declaration_of x.0) (λ x. x.1.now) result }
     ensures shorter { IfOk result (λ x. length x.1.now < length tokens.now) }
@@ -86,7 +86,7 @@ fn relation(tokens: &[Token]) -> (WrittenRelation, &[Token])
     }
 }
 
-/// A line of two kinds that depend on each other, behind its first word.
+/// A line of two kinds that depend on each other, after its first word.
 fn depends_line(tokens: &[Token], end: usize) -> Result<(WrittenDeclaration, &[Token]), SyntaxFault>
     ensures run { ReadsDeclaration end DependsFirst tokens.now (λ x. declaration_of x.0) (λ x. x.1.now) result }
     ensures shorter { IfOk result (λ x. length x.1.now < length tokens.now) }
@@ -99,7 +99,7 @@ fn depends_line(tokens: &[Token], end: usize) -> Result<(WrittenDeclaration, &[T
     Ok((WrittenDeclaration::Depends { a, b, relation }, rest))
 }
 
-/// An action that writes an amount to a cell, behind its first word.
+/// An action that writes an amount to a cell, after its first word.
 fn writing(
     alloc: Global,
     verb: Verb,
@@ -203,7 +203,7 @@ fn actions(
     }
 }
 
-/// The actions of a kind, behind their first word.
+/// The actions of a kind, after their first word.
 fn on_line(
     alloc: Global,
     tokens: &[Token],
@@ -219,7 +219,7 @@ fn on_line(
     Ok((WrittenDeclaration::On { kind, actions }, rest))
 }
 
-/// One key, or behind it `..` and the last key of a range.
+/// One key, or after it `..` and the last key of a range.
 fn range(
     low: WrittenNumber,
     tokens: &[Token],
@@ -235,7 +235,7 @@ fn range(
     Ok((WrittenKeys::Range(low, high), rest))
 }
 
-/// What stands in brackets behind a kind, if anything.
+/// What is in brackets after a kind, if anything.
 fn keys(tokens: &[Token], end: usize) -> Result<(WrittenKeys, &[Token]), SyntaxFault>
     ensures run { ReadsKeys end tokens.now (λ x. x.0) (λ x. x.1.now) result }
     ensures shorter { IfOk result (λ x. length x.1.now ≤ length tokens.now) }
@@ -305,7 +305,7 @@ fn slack(tokens: &[Token], end: usize) -> Result<(Option<WrittenNumber>, &[Token
     Ok((Some(slack), rest))
 }
 
-/// A source, behind its first word.
+/// A source, after its first word.
 fn source_line(
     alloc: Global,
     tokens: &[Token],

@@ -42,7 +42,7 @@ fn close(tokens: &[Token], end: usize) -> Result<&[Token], SyntaxFault>
     }
 }
 
-/// The greatest level behind an operator and its right operand: comparisons do not chain.
+/// The greatest level after an operator and its right operand: comparisons do not chain.
 fn level_behind(level: u32) -> u32
     ensures { result ≡ level_behind level }
 {
@@ -59,7 +59,7 @@ fn is_within(low: u32, level: u32, high: u32) -> bool
     low <= level && level <= high
 }
 
-/// A binary operator of one of these levels, and what stands behind it.
+/// A binary operator of one of these levels, and what comes after it.
 fn operator(tokens: &[Token], low: u32, high: u32) -> Option<(Op, &[Token])>
     ensures run { MatchOption result (IsPassed low high tokens.now) (λ x. IsTaken low high tokens.now x.0 x.1.now) }
     ensures shorter { IfSome result (λ x. length x.1.now < length tokens.now) }
@@ -94,8 +94,8 @@ fn numbered(value: i64, at: usize) -> WrittenExpr
     WrittenExpr::Number(WrittenNumber { value, at })
 }
 
-/// What an expression begins with: an atom, or a unary operator with its operand. Beside it stands the greatest level that an
-/// operator behind it may have.
+/// What an expression begins with: an atom, or a unary operator with its operand. With it comes the greatest level that an
+/// operator after it may have.
 #[cycle(expression)]
 fn first<'t>(
     alloc: Global,
@@ -160,8 +160,8 @@ fn first<'t>(
     }
 }
 
-/// An expression whose operators outside parentheses have at least this level, where so many parentheses and unary operators
-/// are open.
+/// An expression whose operators outside parentheses have at least this level, with this many parentheses and unary operators
+/// open.
 #[cycle(expression)]
 pub fn expression<'t>(
     alloc: Global,

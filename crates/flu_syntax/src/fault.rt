@@ -12,7 +12,7 @@ pub enum SyntaxFault {
     /// A token opens the 65th parenthesis or unary operator at once.
     #[error("too many are open")]
     TooDeep,
-    /// Memory is wanting.
+    /// Out of memory.
     #[error("out of memory")]
     NoMemory,
 }

@@ -44,22 +44,22 @@ fn declarations(
     Ok(List::of(all))
 }
 
-/// The job that the tokens of a text are; `end` is the text's length in bytes. The grammar is that of `docs/LANGUAGE.md`.
+/// The job that the tokens of a text are; `end` is the text's length in bytes. The grammar is the one of `docs/LANGUAGE.md`.
 ///
 /// # Errors
 ///
 /// [`SyntaxFault::Unexpected`] at the first token with which the tokens before it can no longer be continued to a job, however many
-/// parentheses and unary operators may be open, or at `end` where all of them can and are none yet. [`SyntaxFault::TooDeep`] where, before
-/// that, a token opens the 65th of them at once. [`SyntaxFault::NoMemory`] where memory is wanting.
+/// parentheses and unary operators may be open, or at `end` if all of them can and are none yet. [`SyntaxFault::TooDeep`] if, before
+/// that, a token opens the 65th of them at once. [`SyntaxFault::NoMemory`] if memory runs out.
 pub fn read_syntax(alloc: Global, tokens: &[Token], end: usize) -> Result<WrittenJob, SyntaxFault>
     // What is found is the job that the tokens are, and no other.
     ensures job { IfOk result (λ found. IsJob tokens.now (job_of found)) }
-    // The place of the first token with which the tokens may no longer go on.
+    // The place of the first token with which the tokens can no longer be continued.
     ensures unexpected { (at : ℕ) → result ≡ Err (SyntaxFault.Unexpected at) → IsFirstThatCannotFollow end tokens.now at }
     // A token that may follow opens the 65th.
     ensures too_deep { result ≡ Err SyntaxFault.TooDeep → IsTooDeep tokens.now }
 
-    // All that is told, but want of memory, is the verdict on the tokens.
+    // Each answer, except for lack of memory, is the verdict on the tokens.
     ensures verdict { MatchResult result (λ found. verdict end tokens.now ≡ Found (job_of found)) (λ fault. Tells fault (verdict end tokens.now)) }
 {
     let (version, rest) = version(tokens, end)?;

@@ -1,4 +1,4 @@
-//! The first of some tokens: whether it is the one that is wanted, and what it begins.
+//! The first of some tokens: whether it is the expected one, and what it begins.
 
 ghost use Rattle.std.specs.Prelude.{◌≡◌, ◌<◌, ◌∷◌, length, MatchOption, MatchResult, IfOk, IfSome, []};
 ghost use Rattle.flu_text.specs.Signs.{place_of};
@@ -38,7 +38,7 @@ pub fn span_of(token: Token) -> WrittenSpan
     }
 }
 
-/// The first token, and those behind it.
+/// The first token, and those after it.
 pub fn next(tokens: &[Token]) -> Option<(Token, &[Token])>
     ensures { MatchOption result (tokens.now ≡ []) (λ p. tokens.now ≡ p.0 ∷ p.1.now) }
 {
@@ -46,7 +46,7 @@ pub fn next(tokens: &[Token]) -> Option<(Token, &[Token])>
     Some((*first, rest))
 }
 
-/// The first token, if it is of this word, and those behind it.
+/// The first token, if it is of this word, and those after it.
 pub fn take(tokens: &[Token], word: Word) -> Option<(Token, &[Token])>
     ensures front { MatchOption result (NotFirst word tokens.now) (λ x. IsFirst word tokens.now x.0 x.1.now) }
     ensures shorter { IfSome result (λ x. length x.1.now < length tokens.now) }
@@ -59,7 +59,7 @@ pub fn take(tokens: &[Token], word: Word) -> Option<(Token, &[Token])>
     }
 }
 
-/// The first token, which has to be of this word, and those behind it.
+/// The first token, which has to be of this word, and those after it.
 pub fn expect(tokens: &[Token], end: usize, word: Word) -> Result<(Token, &[Token]), SyntaxFault>
     ensures front { MatchResult result (λ x. IsFirst word tokens.now x.0 x.1.now)
         (λ fault. (fault ≡ SyntaxFault.Unexpected (place_of end tokens.now)) × NotFirst word tokens.now) }
@@ -71,7 +71,7 @@ pub fn expect(tokens: &[Token], end: usize, word: Word) -> Result<(Token, &[Toke
     }
 }
 
-/// The first token, which has to be a number, and those behind it.
+/// The first token, which has to be a number, and those after it.
 pub fn number(tokens: &[Token], end: usize) -> Result<(WrittenNumber, &[Token]), SyntaxFault>
     ensures front { MatchResult result (λ x. IsNumber tokens.now x.0 x.1.now)
         (λ fault. (fault ≡ SyntaxFault.Unexpected (place_of end tokens.now)) × NotNumber tokens.now) }

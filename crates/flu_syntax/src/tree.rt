@@ -3,7 +3,7 @@
 use flu_model::{List, Op, Sort};
 pub use flu_text::{WrittenKeys, WrittenNumber, WrittenSpan};
 
-/// What stands in brackets behind a family's name, if anything: `key`, by the place of that word, or a number.
+/// What is in brackets after a family's name, if anything: `key`, by the place of that word, or a number.
 #[derive(Clone, Copy, PartialEq, Eq)]
 pub enum WrittenKey {
     Alone,
@@ -11,14 +11,14 @@ pub enum WrittenKey {
     Fixed(WrittenNumber),
 }
 
-/// A cell: a family's name and what stands in brackets.
+/// A cell: a family's name and what is in brackets.
 #[derive(Clone, Copy, PartialEq, Eq)]
 pub struct WrittenRef {
     pub family: WrittenSpan,
     pub key: WrittenKey,
 }
 
-/// An expression; `at` is the place of a word that stands alone. Parentheses are kept, so that a tree has one spelling.
+/// An expression; `at` is the place of a word that is alone. Parentheses are kept, so that a tree has one spelling.
 pub enum WrittenExpr {
     Number(WrittenNumber),
     Value { at: usize },
@@ -32,7 +32,7 @@ pub enum WrittenExpr {
     Two(Op, Box<WrittenExpr>, Box<WrittenExpr>),
 }
 
-// Operators group to the left, so that a long row of them is a chain of left operands: the loop goes along it. What stands to the
+// Operators group to the left, so that a long sequence of them is a chain of left operands: the loop goes along it. What is to the
 // right goes no deeper than parentheses and unary operators may be open.
 impl Drop for WrittenExpr {
     fn drop(mut self) {
@@ -79,7 +79,7 @@ pub struct WrittenTag {
     pub keys: WrittenKeys,
 }
 
-/// A declaration. The relation of a `depends` is `same` where that word stands, by its place; a written `all` means the
+/// A declaration. The relation of a `depends` is `same` if that word is there, by its place; a written `all` means the
 /// same as none, so it is kept only as that word.
 #[derive(Drop)]
 pub enum WrittenDeclaration {
@@ -119,7 +119,7 @@ pub enum WrittenRelation {
     Same { at: usize },
 }
 
-/// A whole job: the number behind `version`, if that is written, and the declarations in order.
+/// A whole job: the number after `version`, if that is written, and the declarations in order.
 #[derive(Drop)]
 pub struct WrittenJob {
     pub version: Option<WrittenNumber>,

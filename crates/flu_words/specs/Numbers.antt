@@ -4,13 +4,13 @@ use Rattle.std.specs.Char.{is_ascii_digit}
 use Rattle.std.specs.List.{list_all}
 use Rattle.std.specs.Str.Parse.{digits_value}
 
--- the number that one to ten digits write, where it is at most a limit
+-- the number that one to ten digits write, if it is at most a limit
 unfoldable pub number_of : ℕ → List ℕ → Option ℕ
 number_of limit digits =
     if not (length digits == 0) && nat_le (length digits) 10 && list_all is_ascii_digit digits && nat_le (digits_value 10 digits) limit
     then Some (digits_value 10 digits) else None
 
--- how deep a plan is wanted: 0 to 6
+-- the depth that a plan may have: 0 to 6
 abbrev pub depth_of : List ℕ → Option ℕ
 depth_of digits = number_of 6 digits
 

@@ -6,8 +6,8 @@ use Rattle.flu_words.specs.declared.words.Command.{Command as NamedCommand}
 use Rattle.flu_words.specs.declared.words.Command.TheVariants as named
 use Rattle.flu_words.specs.Numbers.{depth_of, seed_of, draws_of}
 
--- what else a run does: how deep its greedy plan may be where no plan is named, whether its plan follows what is observed, the name of
--- the file that its checkpoints are put under, whether the flushes at each put are left out, and the name of the checkpoint that it is
+-- what else a run does: how deep its greedy plan may be if no plan is named, whether its plan follows what is observed, the name of
+-- the file that its checkpoints are put to, whether the flushes at each put are left out, and the name of the checkpoint that it is
 -- resumed from
 pub record RunOptions : Type 0 where
   pub depth : ℕ
@@ -16,7 +16,7 @@ pub record RunOptions : Type 0 where
   pub unflushed : Bool
   pub resume : Option (List ℕ)
 
--- what the words ask for, each with the names of its files, where a plan may be left out, how deep a plan is wanted, the seed of
+-- what the words ask for, each with the names of its files, of which a plan may be left out, how deep a plan may be, the seed of
 -- what is drawn, whether the trace of a drawn run is asked for in place of its report, and how many events a demo draws
 pub data Command : Type 0 where
   Fold : (job : List ℕ) → Command
@@ -28,7 +28,7 @@ pub data Command : Type 0 where
   Replay : (job plan trace : List ℕ) → Command
   Demo : (n seed : ℕ) → Command
 
--- a run's options without where their names lie in memory
+-- a run's options without the places of their names in memory
 abbrev pub plain_options : NamedOptions → RunOptions
 plain_options options = record {
   depth = options.depth.levels;
@@ -38,7 +38,7 @@ plain_options options = record {
   resume = option_map (λ name. name.now) options.resume;
 }
 
--- a command without where its names lie in memory
+-- a command without the places of its names in memory
 abbrev pub plain_command : NamedCommand → Command
 plain_command (named.Fold job) = Fold job.now
 plain_command (named.Check job) = Check job.now
@@ -58,7 +58,7 @@ abbrev pub no_word_after : List ℕ → List (List ℕ) → Result (List ℕ) �
 no_word_after job [] = Ok job
 no_word_after job (w ∷ ws) = Err 2
 
--- the job's name in the words behind a command that has no others
+-- the job's name in the words after a command that has no others
 abbrev pub job_alone : List (List ℕ) → Result (List ℕ) ℕ
 job_alone [] = Err 1
 job_alone (w ∷ ws) = if is_file_name w then no_word_after w ws else Err 1
@@ -75,7 +75,7 @@ abbrev pub plan_after : List ℕ → List (List ℕ) → Result (List ℕ × Lis
 plan_after job [] = Err 2
 plan_after job (w ∷ ws) = if is_file_name w then no_word_after_both job w ws else Err 2
 
--- the names of a job and a plan in the words behind a command that has no others
+-- the names of a job and a plan in the words after a command that has no others
 abbrev pub job_and_plan : List (List ℕ) → Result (List ℕ × List ℕ) ℕ
 job_and_plan [] = Err 1
 job_and_plan (w ∷ ws) = if is_file_name w then plan_after w ws else Err 1
@@ -84,7 +84,7 @@ abbrev pub on_both : (List ℕ → List ℕ → Command) → Result (List ℕ ×
 on_both command (Ok names) = Ok (command names.0 names.1)
 on_both command (Err at) = Err at
 
--- the number that the word at a place is, with the words behind it
+-- the number that the word at a place is, with the words after it
 abbrev pub no_word_after_number : ℕ → Option ℕ → List (List ℕ) → Result ℕ ℕ
 no_word_after_number at None ws = Err at
 no_word_after_number at (Some n) [] = Ok n
@@ -102,7 +102,7 @@ abbrev pub depth_at : ℕ → List (List ℕ) → Result DepthBegun ℕ
 depth_at at [] = Err at
 depth_at at (w ∷ ws) = depth_from at (depth_of w) ws
 
--- the depth that the words from a place on begin with: the one after `--depth`, and 3 where they don't begin with that
+-- the depth that the words from a place on begin with: the one after `--depth`, and 3 if they don't begin with that
 abbrev pub depth_and_rest : ℕ → List (List ℕ) → Result DepthBegun ℕ
 depth_and_rest at [] = Ok (3, at, [])
 depth_and_rest at (w ∷ ws) = if bytes_eq w (codes "--depth") then depth_at (at + 1) ws else Ok (3, at, w ∷ ws)
@@ -115,7 +115,7 @@ abbrev pub depth_alone : Result DepthBegun ℕ → Result ℕ ℕ
 depth_alone (Ok begun) = no_word_after_depth begun.0 begun.1 begun.2
 depth_alone (Err at) = Err at
 
--- the depth in the words behind a job's name, which have no others
+-- the depth in the words after a job's name, which have no others
 abbrev pub depth_after : List (List ℕ) → Result ℕ ℕ
 depth_after ws = depth_alone (depth_and_rest 2 ws)
 
@@ -123,7 +123,7 @@ abbrev pub with_job : List ℕ → Result ℕ ℕ → Result (List ℕ × ℕ) �
 with_job job (Ok depth) = Ok (job, depth)
 with_job job (Err at) = Err at
 
--- the name of a job and a depth in the words behind a command that has no others
+-- the name of a job and a depth in the words after a command that has no others
 abbrev pub job_and_depth : List (List ℕ) → Result (List ℕ × ℕ) ℕ
 job_and_depth [] = Err 1
 job_and_depth (w ∷ ws) = if is_file_name w then with_job w (depth_after ws) else Err 1
@@ -132,7 +132,7 @@ abbrev pub on_depth : (List ℕ → ℕ → Command) → Result (List ℕ × ℕ
 on_depth command (Ok both) = Ok (command both.0 both.1)
 on_depth command (Err at) = Err at
 
--- whether a plan's file, where one is named, has another name than a word
+-- whether a plan's file, if one is named, has another name than a word
 abbrev pub is_no_plan : Option (List ℕ) → List ℕ → Bool
 is_no_plan None w = true
 is_no_plan (Some plan) w = not (bytes_eq w plan)
@@ -141,7 +141,7 @@ is_no_plan (Some plan) w = not (bytes_eq w plan)
 abbrev pub is_other_file : List ℕ → Option (List ℕ) → List ℕ → Bool
 is_other_file job plan w = is_file_name w && not (bytes_eq w job) && is_no_plan plan w
 
--- What words begin with, where they do: a name; the place of the first word behind it, and the words from there on.
+-- What words begin with, if anything: a name; the place of the first word after it, and the words from there on.
 abbrev pub Begun : Type 0
 Begun = Option (List ℕ) × ℕ × List (List ℕ)
 
@@ -153,12 +153,12 @@ abbrev pub file_behind : List ℕ → Option (List ℕ) → ℕ → List (List �
 file_behind job plan at [] = Err at
 file_behind job plan at (w ∷ ws) = if is_other_file job plan w then Ok (Some w, at + 1, ws) else Err at
 
--- the file behind an option, in the words from a place on, which may begin with that option
+-- the file after an option, in the words from a place on, which may begin with that option
 abbrev pub file_after : List ℕ → List ℕ → Option (List ℕ) → ℕ → List (List ℕ) → Result Begun ℕ
 file_after option job plan at [] = Ok (None, at, [])
 file_after option job plan at (w ∷ ws) = if bytes_eq w option then file_behind job plan (at + 1) ws else Ok (None, at, w ∷ ws)
 
--- the depth of the greedy plan in the words from a place on, which may give one only where no plan is named
+-- the depth of the greedy plan in the words from a place on, which may give one only if no plan is named
 abbrev pub depth_without : Option (List ℕ) → ℕ → List (List ℕ) → Result DepthBegun ℕ
 depth_without (Some plan) at ws = Ok (3, at, ws)
 depth_without None at ws = depth_and_rest at ws
@@ -208,7 +208,7 @@ on_options command (Err at) = Err at
 abbrev pub run_of : List ℕ → Begun → Result Command ℕ
 run_of job begun = on_options (Run job begun.0) (run_options job begun.0 begun.1 begun.2)
 
--- the name of a job, maybe that of a plan, and a run's options in the words behind `run`
+-- the name of a job, the name of a plan if there is one, and a run's options in the words after `run`
 abbrev pub run_command : List (List ℕ) → Result Command ℕ
 run_command [] = Err 1
 run_command (w ∷ ws) = if is_file_name w then run_of w (plan_and_rest ws) else Err 1
@@ -222,7 +222,7 @@ abbrev pub on_seed : (ℕ → Command) → Result ℕ ℕ → Result Command ℕ
 on_seed command (Ok seed) = Ok (command seed)
 on_seed command (Err at) = Err at
 
--- whether a trace is asked for, in the words behind a seed: `--trace` alone asks for it
+-- whether a trace is asked for, in the words after a seed: `--trace` alone asks for it
 abbrev pub no_word_after_option : List (List ℕ) → Result Bool ℕ
 no_word_after_option [] = Ok true
 no_word_after_option (w ∷ ws) = Err 5
@@ -247,7 +247,7 @@ abbrev pub plan_and_others : List ℕ → List (List ℕ) → Result (List ℕ �
 plan_and_others job [] = Err 2
 plan_and_others job (w ∷ ws) = if is_file_name w then Ok (job, w, ws) else Err 2
 
--- the names of a job and a plan that the words behind a command begin with, and the words behind them
+-- the names of a job and a plan that the words after a command begin with, and the words after them
 abbrev pub both_and_rest : List (List ℕ) → Result (List ℕ × List ℕ × List (List ℕ)) ℕ
 both_and_rest [] = Err 1
 both_and_rest (w ∷ ws) = if is_file_name w then plan_and_others w ws else Err 1
@@ -256,7 +256,7 @@ abbrev pub on_rest : (List ℕ → List ℕ → List (List ℕ) → Result Comma
 on_rest command (Ok begun) = command begun.0 begun.1 begun.2
 on_rest command (Err at) = Err at
 
--- the names of a job and a plan, a seed and maybe an option in the words behind `simulate`
+-- the names of a job and a plan, a seed and the option if there is one, in the words after `simulate`
 abbrev pub simulation : List (List ℕ) → Result Command ℕ
 simulation ws = on_rest simulation_of (both_and_rest ws)
 
@@ -268,7 +268,7 @@ abbrev pub replay_of : List ℕ → List ℕ → List (List ℕ) → Result Comm
 replay_of job plan [] = Err 3
 replay_of job plan (w ∷ ws) = if is_file_name w then no_word_after_trace job plan w ws else Err 3
 
--- the names of a job, a plan and a trace in the words behind `replay`
+-- the names of a job, a plan and a trace in the words after `replay`
 abbrev pub replay : List (List ℕ) → Result Command ℕ
 replay ws = on_rest replay_of (both_and_rest ws)
 
@@ -276,7 +276,7 @@ abbrev pub demo_with : Option ℕ → List (List ℕ) → Result Command ℕ
 demo_with None ws = Err 1
 demo_with (Some n) ws = on_seed (Demo n) (seed_alone 2 ws)
 
--- the number of events and the seed in the words behind `demo`
+-- the number of events and the seed in the words after `demo`
 abbrev pub demo : List (List ℕ) → Result Command ℕ
 demo [] = Err 1
 demo (w ∷ ws) = demo_with (draws_of w) ws
@@ -292,7 +292,7 @@ command_of w ws =
     else if bytes_eq w (codes "replay") then replay ws
     else if bytes_eq w (codes "demo") then demo ws else Err 0
 
--- the command that words are, or the number from 0 of the first word that does not fit, which is the number of words where
+-- the command that words are, or the number from 0 of the first word that does not fit, which is the number of words if
 -- one is missing
 abbrev pub command_in : List (List ℕ) → Result Command ℕ
 command_in [] = Err 0

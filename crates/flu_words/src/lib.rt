@@ -1,4 +1,4 @@
-//! The words of a command line: the commands, and which words are none (`docs/LANGUAGE.md`, "Words").
+//! The words of a command line: the commands, and which words are no command (`docs/LANGUAGE.md`, "Words").
 #![tactic(auto)]
 
 mod numbers;

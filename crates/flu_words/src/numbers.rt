@@ -3,26 +3,26 @@
 ghost use Rattle.std.specs.Prelude.{◌≡◌, ◌≤◌, ◌<◌, ◌-◌, ◌^◌, IfSome, option_map};
 ghost use Rattle.flu_words.specs.Numbers.{number_of, depth_of, seed_of, draws_of};
 
-/// The most digits that a number is written with.
+/// The most digits that a number may have.
 const MOST_DIGITS: usize = 10;
 
-/// The most levels below its root that a plan has.
+/// The most levels below its root that a plan may have.
 const MOST_LEVELS: u32 = 6;
 
 /// The greatest seed.
 const GREATEST_SEED: u32 = 2_147_483_647;
 
-/// The most events that a demo draws.
+/// The most events that a demo may draw.
 const MOST_DRAWS: u32 = 1_000_000;
 
-/// How deep a plan is wanted: how many levels its nodes may have below the root, at most 6.
+/// The depth that a plan may have: how many levels its nodes may have below the root, at most 6.
 #[derive(Clone, Copy, Debug)]
 pub struct Depth {
     pub levels: u32,
     pub ghost at_most: { levels ≤ 6 },
 }
 
-/// How deep a plan is where no depth is given: three levels below its root.
+/// The depth of a plan if no depth is given: three levels below its root.
 pub const USUAL_DEPTH: Depth = Depth { levels: 3 };
 
 /// The number that the draws of a schedule or of a demo begin with, below 2^31.
@@ -32,7 +32,7 @@ pub struct Seed {
     pub ghost small: { number < 2 ^ 31 },
 }
 
-/// How many events a demo draws, at most 1,000,000; its ticks come on top.
+/// How many events a demo draws, at most 1,000,000; its ticks are added to these.
 #[derive(Clone, Copy, Debug)]
 pub struct Draws {
     pub count: u32,
@@ -63,7 +63,7 @@ pub(crate) fn draws_of(digits: &[u8]) -> Option<Draws>
     Some(Draws { count })
 }
 
-// The number that one to ten digits write, where it is at most a limit.
+// The number that one to ten digits write, if it is at most a limit.
 #[tactic(auto, unfolding(crate::specs::Numbers::number_of))]
 fn number_of(limit: u32, digits: &[u8]) -> Option<u32>
     requires { limit < 2 ^ 32 - 1 }

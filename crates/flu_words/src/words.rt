@@ -7,7 +7,7 @@ ghost use Rattle.flu_words.specs.Words.{trace_after, seed_alone, both_and_rest, 
 
 use crate::numbers::{Depth, Draws, Seed, USUAL_DEPTH, depth_of, draws_of, seed_of};
 
-/// The words are no command: the place from 0 of the first word that does not fit, or the number of words where one is missing.
+/// The words are no command: the place from 0 of the first word that does not fit, or the number of words if one is missing.
 #[derive(Clone, Copy, Debug, PartialEq, Eq)]
 pub struct BadWords {
     pub at: usize,
@@ -16,11 +16,11 @@ pub struct BadWords {
 /// What else a run does. The names are neither the job's nor the plan's.
 #[derive(Clone, Copy)]
 pub struct RunOptions<'a> {
-    /// How deep the greedy plan may be: 3 levels where no depth is given, and where a plan is named.
+    /// How deep the greedy plan may be: 3 levels if no depth is given or a plan is named.
     pub depth: Depth,
     /// Whether the plan follows what is observed.
     pub adapt: bool,
-    /// The name of the file that a checkpoint is put under after each round that wrote its report.
+    /// The name of the file that a checkpoint is put to after each round that wrote its report.
     pub save: Option<&'a str>,
     /// Whether the flushes at each put of a checkpoint are left out.
     pub unflushed: bool,
@@ -35,23 +35,23 @@ pub enum Command<'a> {
     Fold {
         job: &'a str,
     },
-    /// `check JOB`: the job in normal form, where it is accepted.
+    /// `check JOB`: the job in normal form, if it is accepted.
     Check {
         job: &'a str,
     },
-    /// `valid JOB PLAN`: the plan in normal form, where it is valid for the job.
+    /// `valid JOB PLAN`: the plan in normal form, if it is valid for the job.
     Valid {
         job: &'a str,
         plan: &'a str,
     },
-    /// `plan JOB [--depth D]`: the greedy plan of the job, where it is accepted.
+    /// `plan JOB [--depth D]`: the greedy plan of the job, if it is accepted.
     Plan {
         job: &'a str,
         depth: Depth,
     },
     /// `run JOB [PLAN | --depth D] [--adapt] [--save FILE [--unflushed]] [--resume FILE]`: the report of a run on the tree of threads, by
-    /// the plan, or by the greedy plan of a depth where none is named; by a plan that follows what is observed, with checkpoints that are
-    /// put under a file, or resumed from one.
+    /// the plan, or by the greedy plan of a depth if none is named; by a plan that follows what is observed, with checkpoints that are
+    /// put to a file, or resumed from one.
     Run {
         job: &'a str,
         plan: Option<&'a str>,
@@ -77,11 +77,11 @@ pub enum Command<'a> {
     },
 }
 
-/// The command that words are, exactly: those that stand behind the program's name.
+/// The command that the words are, exactly: those that come after the program's name.
 ///
 /// # Errors
 ///
-/// The words are in none of the forms of `docs/LANGUAGE.md`, "Words"; the place is the first word's that does not fit.
+/// The words have none of the forms of `docs/LANGUAGE.md`, "Words"; the place is the place of the first word that does not fit.
 pub fn read_words(words: &[String]) -> Result<Command<'_>, BadWords>
     ensures { MatchResult result
         (λ command. command_in (map string_bytes words.now) ≡ Ok (plain_command command))
@@ -113,7 +113,7 @@ pub fn read_words(words: &[String]) -> Result<Command<'_>, BadWords>
     }
 }
 
-// The job's name in the words behind a command that has no others.
+// The job's name in the words after a command that has no others.
 fn job_alone(operands: &[String]) -> Result<&str, BadWords>
     ensures { MatchResult result
         (λ job. job_alone (map string_bytes operands.now) ≡ Ok job.now)
@@ -131,7 +131,7 @@ fn job_alone(operands: &[String]) -> Result<&str, BadWords>
     Ok(job.as_str())
 }
 
-// The names of a job and a plan in the words behind a command that has no others.
+// The names of a job and a plan in the words after a command that has no others.
 fn job_and_plan(operands: &[String]) -> Result<(&str, &str), BadWords>
     ensures { MatchResult result
         (λ names. job_and_plan (map string_bytes operands.now) ≡ Ok (names.0.now, names.1.now))
@@ -155,7 +155,7 @@ fn job_and_plan(operands: &[String]) -> Result<(&str, &str), BadWords>
     Ok((job.as_str(), plan.as_str()))
 }
 
-// The job, maybe the plan, and the options in the words behind `run`.
+// The job, the plan if there is one, and the options in the words after `run`.
 fn run_command(operands: &[String]) -> Result<Command<'_>, BadWords>
     ensures { MatchResult result
         (λ command. run_command (map string_bytes operands.now) ≡ Ok (plain_command command))
@@ -173,7 +173,7 @@ fn run_command(operands: &[String]) -> Result<Command<'_>, BadWords>
     Ok(Command::Run { job, plan, options })
 }
 
-// The plan's name that the words behind a job's name may begin with, the place of the first word behind it, and the words from there on.
+// The plan's name that the words after a job's name may begin with, the place of the first word after it, and the words from there on.
 fn plan_and_rest(words: &[String]) -> (Option<&str>, usize, &[String])
     ensures value { plan_and_rest (map string_bytes words.now) ≡ (option_map (λ name. name.now) result.0, result.1, map string_bytes result.2.now) }
     ensures near { result.1 ≤ 3 }
@@ -217,7 +217,7 @@ fn run_options<'a>(
     })
 }
 
-// The depth of the greedy plan in the words from a place on, which may give one only where no plan is named; the place of the first word
+// The depth of the greedy plan in the words from a place on, which may give one only if no plan is named; the place of the first word
 // after it, and the words from there on.
 fn depth_without<'a>(
     plan: Option<&str>,
@@ -272,7 +272,7 @@ fn unflushed_after<'a>(
     }
 }
 
-// The file behind an option that the words from a place on may begin with, the place of the first word behind both, and the words from
+// The file after an option that the words from a place on may begin with, the place of the first word after both, and the words from
 // there on.
 fn file_after<'a>(
     option: &str,
@@ -303,7 +303,7 @@ fn file_after<'a>(
     Ok((Some(file.as_str()), at + 2, rest))
 }
 
-// The name of a job and a depth in the words behind a command that has no others.
+// The name of a job and a depth in the words after a command that has no others.
 fn job_and_depth(operands: &[String]) -> Result<(&str, Depth), BadWords>
     ensures { MatchResult result
         (λ both. job_and_depth (map string_bytes operands.now) ≡ Ok (both.0.now, both.1.levels))
@@ -319,7 +319,7 @@ fn job_and_depth(operands: &[String]) -> Result<(&str, Depth), BadWords>
     Ok((job.as_str(), depth))
 }
 
-// The depth in the words behind a job's name.
+// The depth in the words after a job's name.
 fn depth_after(options: &[String]) -> Result<Depth, BadWords>
     ensures { MatchResult result
         (λ depth. depth_after (map string_bytes options.now) ≡ Ok depth.levels)
@@ -356,7 +356,7 @@ fn depth_and_rest(at: usize, words: &[String]) -> Result<(Depth, usize, &[String
     Ok((depth, at + 2, others))
 }
 
-// The names of a job and a plan that the words behind a command begin with, and the words behind them.
+// The names of a job and a plan that the words after a command begin with, and the words after them.
 fn both_and_rest(operands: &[String]) -> Result<(&str, &str, &[String]), BadWords>
     ensures { MatchResult result
         (λ begun. both_and_rest (map string_bytes operands.now) ≡ Ok (begun.0.now, begun.1.now, map string_bytes begun.2.now))
@@ -377,7 +377,7 @@ fn both_and_rest(operands: &[String]) -> Result<(&str, &str, &[String]), BadWord
     Ok((job.as_str(), plan.as_str(), others))
 }
 
-// The job, the plan, the seed and maybe the option in the words behind `simulate`.
+// The job, the plan, the seed and the option if there is one, in the words after `simulate`.
 fn simulation(operands: &[String]) -> Result<Command<'_>, BadWords>
     ensures { MatchResult result
         (λ command. simulation (map string_bytes operands.now) ≡ Ok (plain_command command))
@@ -399,7 +399,7 @@ fn simulation(operands: &[String]) -> Result<Command<'_>, BadWords>
     })
 }
 
-// Whether a trace is asked for, in the words behind a seed.
+// Whether a trace is asked for, in the words after a seed.
 fn trace_after(options: &[String]) -> Result<bool, BadWords>
     ensures { MatchResult result
         (λ asked. trace_after (map string_bytes options.now) ≡ Ok asked)
@@ -417,7 +417,7 @@ fn trace_after(options: &[String]) -> Result<bool, BadWords>
     Ok(true)
 }
 
-// The job, the plan and the trace in the words behind `replay`.
+// The job, the plan and the trace in the words after `replay`.
 fn replay(operands: &[String]) -> Result<Command<'_>, BadWords>
     ensures { MatchResult result
         (λ command. replay (map string_bytes operands.now) ≡ Ok (plain_command command))
@@ -440,7 +440,7 @@ fn replay(operands: &[String]) -> Result<Command<'_>, BadWords>
     })
 }
 
-// The number of events and the seed in the words behind `demo`.
+// The number of events and the seed in the words after `demo`.
 fn demo(operands: &[String]) -> Result<Command<'_>, BadWords>
     ensures { MatchResult result
         (λ command. demo (map string_bytes operands.now) ≡ Ok (plain_command command))

@@ -32,7 +32,7 @@ fn files_are_taken_on_and_put_whole(rt: HostRuntime) -> Result<(), Fail> {
         assert_eq!(rt; buffer.get(..count), Some(wanted.as_bytes()));
     }
 
-    // a put leaves none of the old bytes, and no file beside; what an earlier process left there is taken away
+    // a put leaves none of the old bytes, and no file beside; what an earlier process left there is removed
     fs::write(&rt, beside.as_str(), "left")?;
     for bytes in ["a longer checkpoint", "short", ""] {
         assert_eq!(rt;
@@ -49,13 +49,13 @@ fn files_are_taken_on_and_put_whole(rt: HostRuntime) -> Result<(), Fail> {
     assert_eq!(rt; fs::read_to_string(&rt, save.as_str())?.as_str(), "linked");
     assert!(rt; fs::symlink_metadata(&rt, link.as_str())?.is_symlink());
 
-    // where the file beside can't be made, the old bytes stay
+    // if the file beside can't be made, the old bytes stay
     fs::create_dir(&rt, beside.as_str())?;
     let put = files.put(save.as_str(), b"new".to_vec(alloc)?);
     assert_eq!(rt; put, Err(PutFault::Failed));
     assert_eq!(rt; fs::read_to_string(&rt, save.as_str())?.as_str(), "linked");
 
-    // what was taken from is not put over by another name
+    // what was taken from is not replaced by another name
     let other = format!(in alloc; "{folder}/./a.csv")?;
     let put = files.put(other.as_str(), b"new".to_vec(alloc)?);
     assert_eq!(rt; put, Err(PutFault::Failed));

@@ -1,4 +1,4 @@
-//! Runs over real files that are stopped behind a round, and go on from their checkpoints.
+//! Runs over real files that are stopped after a round, and resume from their checkpoints.
 
 use crate::help;
 use crate::tests::run;
@@ -9,7 +9,7 @@ use std::test::Fail;
 use std::thread::Threads;
 use std::{env, fs, process, rt, str};
 
-/// Views of ten pages, put out at each tick, with the greatest value so far; behind these lines come those of the sources.
+/// Views of ten pages, emitted at each tick, with the greatest value so far; after these lines come those of the sources.
 const VIEWS: &str = "cell views keyed sum\n\
     cell top max\n\
     tag view keyed int\n\
@@ -44,7 +44,7 @@ fn words_in(alloc: Global, folder: &str, words: &str) -> Result<Vec<String>, All
     Ok(owned)
 }
 
-/// What a call answers, and what it writes, where there is room for so many bytes.
+/// What a call answers, and what it writes, if there is room for this many bytes.
 fn call<R: rt::Files + AllocGlobal + Threads + Wait + Sync>(
     rt: &R,
     folder: &str,
@@ -96,7 +96,7 @@ fn border_in<R: rt::Files + AllocGlobal>(rt: &R, folder: &str) -> Result<u64, Fa
     time_of(behind)
 }
 
-/// Stops a run in the middle of the line behind those of the rounds up to a border, and lets it go on from its checkpoint.
+/// Stops a run in the middle of the line after those of the rounds up to a border, and resumes it from its checkpoint.
 fn check_stop<R: rt::Files + AllocGlobal + Threads + Wait + Sync + Abort>(
     rt: &R,
     folder: &str,
