@@ -6,7 +6,7 @@ use Rattle.flu_deps.specs.Checking.{program_of}
 use Rattle.flu_deps.specs.Validated.{IsValidFor}
 use Rattle.flu_model.specs.Itags.{count_of_itags}
 
--- its job, the plan in force, how many events of each itag it has run, where it adapts, and whether it does: whether the plan follows
+-- its job, the plan in force, how many events of each itag it has run, if it adapts, and whether it adapts: whether the plan follows
 -- those counts
 pub record AdaptiveNote : Type 0 where
   pub checked : Checked

@@ -1,10 +1,10 @@
--- The plan that counts of events ask for (`docs/TREE.md`, "A plan that follows the counts").
+-- The plan that is chosen from counts of events (`docs/TREE.md`, "A plan that follows the counts").
 use Rattle.std.specs.Prelude.{ℕ, ◌^◌, min, List, map}
 use Rattle.flu_model.specs.declared.jobs.Program.{Program}
 use Rattle.flu_model.specs.declared.plans.Node.{Node}
 use Rattle.flu_planner.specs.Plans.{IsGreedyPlan}
 
--- what is observed of the itags with these counts is their rates, of which none is above the greatest rate that a job may declare
+-- the rates observed for the itags with these counts, none of which is above the greatest rate that a job may declare
 abbrev pub observed_rates : List ℕ → List ℕ
 observed_rates counts = map (λ count. min count (2 ^ 40)) counts
 

@@ -5,7 +5,7 @@ use Rattle.flu_deps.specs.Validated.{IsValidFor}
 use Rattle.flu_adaptive.specs.declared.ways.Way.{Way}
 use Rattle.flu_adaptive.specs.declared.ways.Way.TheVariants.{InForce, Planned, Alone}
 
--- where a plan is chosen, it is valid for the job
+-- if a plan is chosen, it is valid for the job
 abbrev pub IsWayOf : Program → Way → Type 0
 IsWayOf p InForce = ⊤
 IsWayOf p (Planned valid) = IsValidFor p valid

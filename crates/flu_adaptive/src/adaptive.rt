@@ -1,4 +1,4 @@
-//! The engine that plans anew by the events that it has run.
+//! The engine that makes new plans from the events that it has run.
 
 ghost use Rattle.std.specs.Prelude.{◌≡◌, ◌≤◌, false, length, replicate, IfOk, IfSome, OnOk, IsTrue};
 ghost use Rattle.std.specs.List.Sorted.{IsPermutation};
@@ -26,14 +26,14 @@ use std::marker::{Model, PhantomData};
 use std::sync::Wait;
 use std::thread::Threads;
 
-/// Runs batches on a tree of threads, the first one on a given plan. Where it adapts, the plan follows the counts of the events that it
-/// has run: each later batch runs on the observed plan of the counts so far (`docs/TREE.md`). Where it does not, each batch runs on the
+/// Runs batches on a tree of threads, the first one on a given plan. If it adapts, the plan follows the counts of the events that it
+/// has run: each later batch runs on the observed plan of the counts so far (`docs/TREE.md`). If it does not, each batch runs on the
 /// given plan, and nothing is counted.
 ///
-/// Where it is to choose, each batch is run by its own counts, whether the engine adapts or not: on the tree by the greedy plan of such
-/// counts, or by the backup alone where the tree does not pay (`docs/TREE.md`, "Which rounds run on the tree").
+/// If it chooses, each batch is run by its own counts, whether the engine adapts or not: on the tree by the greedy plan of such
+/// counts, or by the backup alone if the tree does not pay off (`docs/TREE.md`, "Which rounds run on the tree").
 ///
-/// Like [`TreeEngine`] it keeps the promise of an [`Engine`] for any runtime that has threads, and is none.
+/// Like [`TreeEngine`] it keeps the promise of an [`Engine`] for any runtime that has threads, and is not itself one.
 ///
 /// Contracts see its job, the plan in force, the counts, and whether it adapts (`AdaptiveNote` of `specs/Notes.antt`).
 #[derive(Drop)]
@@ -41,15 +41,15 @@ pub struct Adaptive<'a, G: Gate, R, B: Engine<R>> {
     checked: &'a Checked,
     valid: Valid,
     gate: &'a G,
-    // What runs a batch where a thread is refused. It is lent to each batch.
+    // What runs a batch if a thread is refused. It is lent to each batch.
     backup: Option<B>,
-    // How many events of each itag were run, where it adapts.
+    // How many events of each itag were run, if it adapts.
     counts: Vec<u64>,
     // Whether the plan follows the counts.
     adapts: bool,
-    // What chooses how a batch is run, where it is not run by the plan in force.
+    // What chooses how a batch is run, if it is not run by the plan in force.
     chooser: Option<Chooser>,
-    // By what the backup runs.
+    // The runtime that the backup runs on.
     by: PhantomData<R>,
 }
 
@@ -74,12 +74,12 @@ impl<'a, G: Gate, R, B: Engine<R>> Model for Adaptive<'a, G, R, B> {
 }
 
 impl<'a, G: Gate, R, B: Engine<R> + Drop> Adaptive<'a, G, R, B> {
-    /// The engine of a job, a plan that is valid for it, by which its first batch runs, a gate and a backup of the same job, which
-    /// runs a batch where a thread is refused; and whether its plan follows the counts behind that.
+    /// The engine of a job, a plan that is valid for it, on which its first batch runs, a gate and a backup of the same job, which
+    /// runs a batch if a thread is refused; and whether its plan follows the counts after that.
     ///
     /// # Errors
     ///
-    /// Only where memory is wanting.
+    /// Only if memory runs out.
     pub fn new(
         alloc: Global,
         checked: &'a Checked,
@@ -115,7 +115,7 @@ impl<'a, G: Gate, R, B: Engine<R> + Drop> Adaptive<'a, G, R, B> {
         self.checked
     }
 
-    /// The plan in force: that of the next batch. It takes no memory.
+    /// The plan in force, which is the plan of the next batch. It takes no memory.
     pub fn valid(&self) -> &Valid
         ensures plan { result.now ≡ self.now.valid }
         ensures of { IsValidFor (program_of self.now.checked) self.now.valid }
@@ -123,8 +123,8 @@ impl<'a, G: Gate, R, B: Engine<R> + Drop> Adaptive<'a, G, R, B> {
         &self.valid
     }
 
-    /// How many events of each itag were run, by the itags' numbers, where it adapts; else no events. A count stays at the greatest
-    /// number that there is. It takes no memory.
+    /// How many events of each itag were run, by the itags' numbers, if it adapts; otherwise no events are counted. A count that
+    /// reaches the greatest `u64` stays there. It takes no memory.
     pub fn counts(&self) -> &[u64]
         ensures counts { result.now ≡ self.now.counts }
         ensures one_each { length self.now.counts ≡ count_of_itags (program_of self.now.checked) }
@@ -141,12 +141,12 @@ impl<'a, G: Gate, R, B: Engine<R> + Drop> Adaptive<'a, G, R, B> {
 }
 
 impl<'a, G: Gate, R: Threads + Wait + Sync, B: Engine<R> + Drop> Adaptive<'a, G, R, B> {
-    /// The same engine, where it is to choose how each batch is run: on the tree of threads by the greedy plan, of at most this depth, of
-    /// the batch's own counts or of those of a batch a little earlier, or by the backup alone where the tree does not pay.
+    /// The same engine, but it chooses how each batch is run: on the tree of threads by the greedy plan, of at most this depth, of
+    /// the batch's own counts or of those of a batch a little earlier, or by the backup alone if the tree does not pay off.
     ///
     /// # Errors
     ///
-    /// Only where memory is wanting.
+    /// Only if memory runs out.
     pub fn choosing(
         self,
         rt: &R,
@@ -164,12 +164,12 @@ impl<'a, G: Gate, R: Threads + Wait + Sync, B: Engine<R> + Drop> Adaptive<'a, G,
 
     /// Runs all events of the streams, which have one list for each itag of the job, from a state that holds values of the job's
     /// sorts, on the tree of threads of the plan in force: the state is the fold's, which holds such values too, and the outputs are
-    /// the fold's in some order. Where the engine adapts, the counts have grown by these events behind it, and the plan in force is the
-    /// observed one of the counts; else both stay as they are. It waits for its threads.
+    /// the fold's in some order. If the engine adapts, afterwards the counts have grown by these events, and the plan in force is the
+    /// observed one of the counts; otherwise both stay as they are. It waits for its threads.
     ///
     /// # Errors
     ///
-    /// Only where memory is wanting. Behind an error an engine that adapts is to be given up.
+    /// Only if memory runs out. After an error an engine that adapts must be discarded.
     pub fn batch(
         &mut self,
         rt: &R,
@@ -254,7 +254,7 @@ impl<'a, G: Gate, R: Threads + Wait + Sync, B: Engine<R> + Drop> Adaptive<'a, G,
         }
     }
 
-    // Gives the plan by which a batch was run back to what chose it.
+    // Gives the plan by which a batch was run back to the chooser.
     fn take_back(&mut self, way: Way)
         requires { IsWayOf (program_of self.old.checked) way }
         ensures { self.new ≡ self.old }

@@ -1,4 +1,4 @@
-//! How a batch is run: on the tree of threads where that pays, and else by the backup alone.
+//! How a batch is run: on the tree of threads if that pays off, and otherwise by the backup alone.
 
 ghost use Rattle.std.specs.Prelude.{◌≡◌, ◌≤◌, length, IfOk, IfSome};
 ghost use Rattle.flu_model.specs.Itags.{count_of_itags};
@@ -11,7 +11,7 @@ use flu_estimate::{Costs, is_worth_it};
 use std::alloc::{AllocError, Global};
 use std::thread::{Threads, available_parallelism};
 
-// A plan is made anew once the batches since the last one cost so many times what the planning does.
+// A new plan is made once the batches since the last one cost this many times what the planning does.
 const PLANNINGS: u64 = 64;
 
 /// Chooses for each batch of a job, by the batch's own counts, whether it is run on the tree of threads, and by which plan.
@@ -22,13 +22,13 @@ pub(crate) struct Chooser {
     depth: u32,
     // What the batches since the last plan was made cost by the fold, in nanoseconds.
     since: u64,
-    // The plan that was made last, where it is not lent.
+    // The plan that was made last, if it is not lent.
     pub(crate) last: Option<Valid>,
     ghost shallow: { depth ≤ 6 },
 }
 
 impl Chooser {
-    /// Chooses for a job among plans of at most this depth, for the processors that there are.
+    /// Chooses for a job among plans of at most this depth, for the available processors.
     pub(crate) fn new<R: Threads>(
         rt: &R,
         alloc: Global,
@@ -46,7 +46,7 @@ impl Chooser {
         })
     }
 
-    /// The plan by which a batch with these counts is to run on the tree of threads; none where the tree does not pay.
+    /// The plan by which a batch with these counts is to run on the tree of threads; none if the tree does not pay off.
     pub(crate) fn choose(
         &mut self,
         alloc: Global,
@@ -76,7 +76,7 @@ impl Chooser {
         Ok(None)
     }
 
-    // Of the greedy plans of these counts that one by which the tree costs least.
+    // The one of the greedy plans of these counts by which the tree costs least.
     fn best(
         &self,
         alloc: Global,
@@ -100,7 +100,7 @@ impl Chooser {
     }
 }
 
-// How many processors the run may use, one where that is not told.
+// How many processors the run may use; one if that is not known.
 fn processors<R: Threads>(rt: &R) -> u64 {
     match available_parallelism(rt) {
         Ok(count) => count.get() as u64,

@@ -9,7 +9,7 @@ ghost use Rattle.flu_streams.specs.Counts.{grown, no_counts};
 use flu_model::{Itag, Item, Program, Streams, itag_count};
 use std::alloc::{AllocError, Global};
 
-/// So many counts of nothing.
+/// A count of 0 for each of this many itags.
 pub(crate) fn no_counts(alloc: Global, itags: u32) -> Result<Vec<u64>, AllocError>
     ensures { IfOk result (λ counts. counts.items ≡ replicate itags 0) }
 {

@@ -1,4 +1,4 @@
-//! The plan that counts of events ask for.
+//! The plan that is chosen from counts of events.
 
 ghost use Rattle.std.specs.Prelude.{◌≡◌, ◌≤◌, length, IfOk};
 ghost use Rattle.flu_model.specs.Itags.{count_of_itags};
@@ -31,7 +31,7 @@ pub(crate) fn observed_plan(
     greedy_plan(alloc, checked, counts, DEPTH)
 }
 
-/// The greedy plan of this depth of the rates that are observed of these counts.
+/// The greedy plan of this depth for the rates observed from these counts.
 pub(crate) fn greedy_plan(
     alloc: Global,
     checked: &Checked,
@@ -47,7 +47,7 @@ pub(crate) fn greedy_plan(
     plan(alloc, checked, rates.as_slice(), depth)
 }
 
-// The rates that are observed of these counts.
+// The rates observed from these counts.
 fn observed_rates(alloc: Global, counts: &[u64]) -> Result<Vec<u64>, AllocError>
     ensures { IfOk result (λ rates. rates.items ≡ Observed.observed_rates counts.now) }
 {

@@ -1,4 +1,4 @@
--- What keeps a job from being accepted, and the first of it.
+-- Faults that keep a job from being accepted, and the first of them.
 use Rattle.std.specs.Prelude.{◌≡◌, true, false}
 use Rattle.std.specs.Ordering.{ordering_then, is_lt}
 use Rattle.std.specs.declared.cmp.Ordering.{Ordering}

@@ -19,7 +19,7 @@ tag_at p i = tag_of_itag p (record { 0 = i })
 abbrev pub is_fault_before : Fault → Fault → Bool
 is_fault_before x y = is_lt (fault_cmp x.a x.b x.cell y.a y.b y.cell)
 
--- a fault of the job, at the first cell of its two tags, which is one of the job's
+-- a fault of the job, at the first cell on which its two tags conflict, which is one of the job's
 pub record IsFound (p : Program) (f : Fault) : Type 0 where
   pub fault : IsCheckFault p f.a f.b f.cell
   pub cell : IsFirstConflict p f.a f.b f.cell
@@ -41,7 +41,7 @@ PassesPair p a b found = (c : Cell) → IsCheckFault p a b c → IsPassed found 
 abbrev pub PassesTag : Program → Tag → Option Fault → Type 0
 PassesTag p a found = (j : ℕ) → j < count_of_itags p → PassesPair p a (tag_at p j) found
 
--- two tags are before those of the fault so far
+-- two tags are before the tags of the fault so far
 abbrev pub is_pair_before : Tag → Tag → Option Fault → Bool
 is_pair_before a b None = true
 is_pair_before a b (Some f) = is_lt (ordering_then (tag_cmp a f.a) (tag_cmp b f.b))

@@ -6,8 +6,8 @@ ghost use Rattle.flu_laws.specs.Lawful.{IsLawful};
 
 use crate::Checked;
 
-/// Update of a part: an update of one part of a state before the parts are joined is the update after it, where the other part
-/// is neutral at the cells that the event's tag needs.
+/// Update of a part: updating one part of a state and then joining the parts is the same as joining them and then updating, if the
+/// other part is neutral at the cells that the event's tag needs.
 pub fn update_of_a_part(checked: &Checked)
     ensures left { UpdatesLeft (program_of checked.now) }
     ensures right { UpdatesRight (program_of checked.now) }
@@ -15,14 +15,14 @@ pub fn update_of_a_part(checked: &Checked)
     flu_laws::update_of_a_part();
 }
 
-/// Independent updates commute: two events of independent tags give in both orders the same state, and each the same texts.
+/// Independent updates commute: two events of independent tags give the same state in both orders, and each gives the same texts.
 pub fn independent_updates_commute(checked: &Checked)
     ensures { Commutes (program_of checked.now) }
 {
     flu_laws::independent_updates_commute();
 }
 
-/// Join undoes split: where some cells of a state are moved to another part and others are copied to it, the parts join to the
+/// Join undoes split: if some cells of a state are moved to another part and others are copied to it, the parts join to the
 /// state once the copies are dropped.
 pub fn join_undoes_split(_checked: &Checked)
     ensures { JoinsSplits }
@@ -30,7 +30,7 @@ pub fn join_undoes_split(_checked: &Checked)
     flu_laws::join_undoes_split();
 }
 
-/// The job has all that the worker tree asks of a job.
+/// The job has everything that the worker tree requires of a job.
 pub fn lawful(checked: &Checked)
     ensures { IsLawful (program_of checked.now) }
 {

@@ -1,4 +1,4 @@
-//! Whether a job is accepted, and the laws that hold of an accepted one (`docs/MODEL.md`).
+//! Whether a job is accepted, and the laws that hold for an accepted one (`docs/MODEL.md`).
 #![tactic(auto)]
 
 ghost use Rattle.std.specs.Prelude.{◌≡◌, ◌↔◌, IsOk, IfOk, IfErr, IsTrue};
@@ -27,8 +27,8 @@ pub struct CheckFault {
 ///
 /// The fault is the first conflict of independent tags: by the first tag, then the second, then the cell, where the second
 /// is not before the first; tags are in order of their kinds as declared and then their keys, cells of their families and
-/// then their keys. In both cases the same job comes back. It takes no memory, and its time is that of the number of pairs
-/// of itags by that of `dep` and `conflict` of `flu_deps`.
+/// then their keys. In both cases the same job is returned. It takes no memory, and its time is the number of pairs of itags times
+/// the time of `dep` and `conflict` of `flu_deps`.
 pub fn check(p: Program) -> Result<Checked, CheckFault>
     ensures accepted { IsOk result ↔ IsAccepted p }
     ensures same { IfOk result (λ c. program_of c ≡ p) }

@@ -21,7 +21,7 @@ pub struct Fault {
     pub cell: Cell,
 }
 
-/// The first conflict of two independent tags of a job; none where the job is accepted.
+/// The first conflict of two independent tags of a job; none if the job is accepted.
 pub fn first_fault(p: &Program) -> Option<Fault>
     ensures first { IfSome result (λ f. IsFirstCheckFault p.now f.a f.b f.cell) }
     ensures declared { IfSome result (λ f. IsTrue (is_cell_of p.now.families f.cell)) }
@@ -38,7 +38,7 @@ pub fn first_fault(p: &Program) -> Option<Fault>
     found
 }
 
-// A fault, where two tags are likely to have one: the search then passes over all tags that come after them.
+// A fault, if two tags are likely to have one: the search then skips all tags that come after them.
 fn likely_fault(p: &Program, clashes: &Clashes, count: u32) -> Option<Fault>
     requires clashes { FindsClashes p.now clashes.now }
     requires all { count ≡ count_of_itags p.now }
@@ -54,7 +54,7 @@ fn likely_fault(p: &Program, clashes: &Clashes, count: u32) -> Option<Fault>
     }
 }
 
-// The two itags so far, or an itag with another where they are likely to have an earlier fault.
+// The two itags so far, or an itag with another if they are likely to have an earlier fault.
 fn likely_with(
     p: &Program,
     clashes: &Clashes,
@@ -98,7 +98,7 @@ fn is_likely(
     earlier && !b.cmp(&a).is_lt() && !clashes.never_conflict(p, i, a, j, b) && !dep(p, a, b)
 }
 
-// The first of the fault so far and of those of a tag with each tag of the job.
+// The first of the fault so far and the faults of a tag with each tag of the job.
 fn first_of_tag(
     p: &Program,
     clashes: &Clashes,
@@ -121,7 +121,7 @@ fn first_of_tag(
     found
 }
 
-// The first of the fault so far and of that of two tags.
+// The first of the fault so far and the faults of two tags.
 fn first_of_pair(
     p: &Program,
     clashes: &Clashes,

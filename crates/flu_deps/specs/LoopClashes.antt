@@ -1,4 +1,4 @@
--- What a quick test of conflicts notes. No theorem's meaning rests on these: they serve the test alone.
+-- What a quick test of conflicts notes. No theorem's meaning depends on these: they serve the test alone.
 use Rattle.std.specs.Prelude.{◌≡◌, ℕ, ◌<◌, ◌%◌, Bool, true, not, ◌==◌, ◌&&◌, ◌||◌, List, length, slice_get, slice_index}
 use Rattle.std.specs.List.{list_all}
 use Rattle.flu_model.specs.declared.events.Tag.{Tag}
@@ -35,7 +35,7 @@ marked_test version class m = λ way family place. not (in_class version class w
 abbrev pub met_test : ℕ → Class → Marks → Meeting → Test
 met_test version class m n = λ way family place. not (in_class version class way) || is_met m n family place
 
--- itag j is noted with kind a where it is of kind b, which touches the cell at its key in a family in which kind a marked that key
+-- itag j is noted with kind a if it is of kind b, and that kind touches the cell at its key in a family in which kind a marked that key
 abbrev pub IsFixedNoted : Program → Marks → Meeting → ℕ → ℕ → Clashes → ℕ → Type 0
 IsFixedNoted p m n a b t j =
     (tag_at p j).kind ≡ b → (family : ℕ) → has (word_at m (tag_at p j).key) family ≡ true → has n.own family ≡ true → has (slice_index t.fixed j) a ≡ true
@@ -53,7 +53,7 @@ HasFamiliesBelow p class table n = (a : ℕ) → a < n → HasMarks p class a (s
 abbrev pub HasFamilies : Program → Class → List ℕ → Type 0
 HasFamilies p class table = HasFamiliesBelow p class table (length p.kinds)
 
--- what meets by these classes of two kinds is noted
+-- where two kinds meet by these classes, that is noted
 pub record IsNoted (p : Program) (one other : Class) (a b : ℕ) (t : Clashes) : Type 0 where
   pub marks : Marks
   pub meeting : Meeting
@@ -63,7 +63,7 @@ pub record IsNoted (p : Program) (one other : Class) (a b : ℕ) (t : Clashes) :
   pub same_key : meeting.same_key ≡ true → has (slice_index t.same_key (a % 64)) b ≡ true
   pub fixed : (j : ℕ) → j < count_of_itags p → IsFixedNoted p marks meeting a b t j
 
--- two kinds touch no family by these classes, one each
+-- no family is touched by both kinds, each by its own one of these classes
 pub record AreApart (p : Program) (one other : Class) (a b : ℕ) : Type 0 where
   pub ours : ℕ
   pub theirs : ℕ
@@ -71,7 +71,7 @@ pub record AreApart (p : Program) (one other : Class) (a b : ℕ) : Type 0 where
   pub there : HasMarks p other b theirs
   pub none : (family : ℕ) → has ours family ≡ true → has theirs family ≡ true → ⊥
 
--- what clashes by these classes of two kinds is noted
+-- the clashes of two kinds by these classes are noted
 pub data IsDone (p : Program) (one other : Class) (a b : ℕ) (t : Clashes) : Type 0 where
   Noted : IsNoted p one other a b t → IsDone p one other a b t
   Apart : AreApart p one other a b → IsDone p one other a b t
@@ -79,7 +79,7 @@ pub data IsDone (p : Program) (one other : Class) (a b : ℕ) (t : Clashes) : Ty
 abbrev pub AreDone : Program → Class → Class → Clashes → Type 0
 AreDone p one other t = (a b : ℕ) → a < length p.kinds → b < length p.kinds → IsDone p one other a b t
 
--- what is noted stays so
+-- what is noted stays noted
 pub record KeepsClashes (old new : Clashes) : Type 0 where
   pub always : (i n : ℕ) → has (slice_index old.always i) n ≡ true → has (slice_index new.always i) n ≡ true
   pub same_key : (i n : ℕ) → has (slice_index old.same_key i) n ≡ true → has (slice_index new.same_key i) n ≡ true

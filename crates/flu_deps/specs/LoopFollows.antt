@@ -1,4 +1,4 @@
--- What stays in a walk over actions. No theorem's meaning rests on these: they serve a quick test alone.
+-- What stays the same during a walk over actions. No theorem's meaning depends on these: they serve a quick test alone.
 use Rattle.std.specs.Prelude.{◌≡◌, ℕ, Bool, true, false, not, ◌||◌, if◌then◌else◌}
 use Rattle.flu_deps.specs.declared.visits.Way.{Way}
 use Rattle.flu_deps.specs.declared.visits.Place.{Place}
@@ -14,7 +14,7 @@ KeepsMarks old new = (family : ℕ) (place : Place) → is_marked old family pla
 abbrev pub KeepsMet : Marks → Meeting → Meeting → Type 0
 KeepsMet m old new = (family : ℕ) (place : Place) → is_met m old family place ≡ true → is_met m new family place ≡ true
 
--- a touch is noted, or of another class
+-- a touch is noted, or is of another class
 abbrev pub is_told : Visit → Test
 is_told v way family place =
     not (in_class v.version v.class way) || (if v.marking then is_marked v.marks family place else is_met v.marks v.meeting family place)
@@ -27,6 +27,6 @@ pub record Follows (old new : Visit) : Type 0 where
   pub marks : old.marking ≡ false → new.marks ≡ old.marks
   pub kept : (way : Way) (family : ℕ) (place : Place) → is_told old way family place ≡ true → is_told new way family place ≡ true
 
--- what is told from a state on
+-- what is noted from a state on
 abbrev pub Tells : Visit → (Test → Bool) → Type 0
 Tells v holds = (later : Visit) → Follows v later → holds (is_told later) ≡ true

@@ -40,7 +40,7 @@ abbrev pub pieces_cells : ℕ → List Piece → List Cell
 pieces_cells key [] = []
 pieces_cells key (q ∷ qs) = piece_cells key q ++ pieces_cells key qs
 
--- of a family that is flushed the first cell stands for all that no other action names
+-- for a family that is flushed, the first cell represents all those that no other action names
 abbrev pub act_cells : ℕ → Act → List Cell
 act_cells key (Add r e) = cell_of r key ∷ expr_cells key e
 act_cells key (Raise r e) = cell_of r key ∷ expr_cells key e
@@ -57,12 +57,12 @@ actions_cells key [] = []
 actions_cells key (a ∷ all) = action_cells key a ++ actions_cells key all
 
 -- ---- the first cell of a list that passes a test
--- no cell, or one behind c
+-- no cell, or one after c
 abbrev pub is_before_best : Cell → Option Cell → Bool
 is_before_best c None = true
 is_before_best c (Some d) = is_cell_before c d
 
--- the best so far, or c where it passes and is before that
+-- the best so far, or c if it passes and is before that
 abbrev pub better : (Cell → Bool) → Option Cell → Cell → Option Cell
 better passes best c = if is_before_best c best && passes c then Some c else best
 

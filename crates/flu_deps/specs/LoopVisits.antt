@@ -1,4 +1,4 @@
--- What actions touch, and what a walk over them notes of it. No theorem's meaning rests on these: they serve a quick test alone.
+-- What actions touch, and what a walk over them notes about it. No theorem's meaning depends on these: they serve a quick test alone.
 use Rattle.std.specs.Prelude.{ℕ, ◌%◌, Bool, true, false, not, ◌==◌, ◌&&◌, ◌||◌, Option, Some, None, slice_index}
 use Rattle.std.specs.List.{list_all}
 use Rattle.std.specs.Int.{bit_at}
@@ -86,7 +86,7 @@ in_class version Raises Raise = true
 in_class version Raises Overwrite = false
 
 -- ---- marks
--- a word has a number, which counts from 0 to 63
+-- a word has the bit of a number; numbers count from 0 to 63
 unfoldable pub has : ℕ → ℕ → Bool
 has word n = bit_at word (n % 64) == 1
 

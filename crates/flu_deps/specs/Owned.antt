@@ -11,7 +11,7 @@ abbrev pub kids_of : Option Node → Option (ℕ × ℕ)
 kids_of None = None
 kids_of (Some node) = node.kids
 
--- the children of node w, where it is there and has some
+-- the children of node w, if it exists and has some
 abbrev pub kids_at : List Node → ℕ → Option (ℕ × ℕ)
 kids_at nodes w = kids_of (slice_get nodes w)
 

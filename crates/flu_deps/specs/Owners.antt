@@ -14,6 +14,6 @@ pub record IsOwned (p : Program) (nodes : List Node) (i : Itag) : Type 0 where
   pub there : owner < length nodes
   pub alone : (w : ℕ) → (owns p nodes w i ≡ true) ↔ (owner_of p nodes i ≡ Some w)
 
--- OWNERS: each itag has an owner, and that a node owns it says that the node is its owner
+-- OWNERS: each itag has an owner, and a node owns it exactly if the node is its owner
 abbrev pub ItagsAreOwned : Type 0
 ItagsAreOwned = (p : Program) (nodes : List Node) (i : Itag) → IsValid p nodes → i.0 < count_of_itags p → IsOwned p nodes i

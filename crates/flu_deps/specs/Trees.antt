@@ -1,4 +1,4 @@
--- TREES: how the nodes of a plan stand to each other. Each statement holds of every list of nodes that is a tree.
+-- TREES: how the nodes of a plan relate to each other. Each statement holds of every list of nodes that is a tree.
 use Rattle.std.specs.Prelude.{◌≡◌, ℕ, ◌<◌, ◌≤◌, true, false, ◌==◌, ◌||◌, Some, None, List, [], ◌∷◌, ◌⊎◌, length, IsTrue}
 use Rattle.flu_model.specs.declared.plans.Node.{Node}
 use Rattle.flu_model.specs.PlanRules.{is_tree}
@@ -38,7 +38,7 @@ pub record IsRooted (nodes : List Node) : Type 0 where
 abbrev pub TreesAreRooted : Type 0
 TreesAreRooted = (nodes : List Node) → IsTrue (is_tree nodes) → IsRooted nodes
 
--- PATHS: the root has no ancestors, and those of a child are its parent and the parent's ancestors
+-- PATHS: the root has no ancestors, and the ancestors of a child are its parent and the parent's ancestors
 pub record HasPaths (nodes : List Node) : Type 0 where
   pub root : path_up nodes 0 ≡ 0 ∷ []
   pub child : (u v : ℕ) → IsUnder nodes u v → path_up nodes v ≡ v ∷ path_up nodes u
@@ -46,7 +46,7 @@ pub record HasPaths (nodes : List Node) : Type 0 where
 abbrev pub PathsGoUp : Type 0
 PathsGoUp = (nodes : List Node) → IsTrue (is_tree nodes) → HasPaths nodes
 
--- SUBTREES: below a leaf is it alone, and below another node are it and what is below its children, of which nothing is below both
+-- SUBTREES: the subtree of a leaf is the leaf alone, and the subtree of another node is the node with the subtrees of its children, which share no node
 pub record HasSubtrees (nodes : List Node) : Type 0 where
   pub leaf : (w v : ℕ) → v < length nodes → kids_at nodes w ≡ None → is_within nodes w v ≡ (v == w)
   pub inner : (w left right v : ℕ) → v < length nodes → kids_at nodes w ≡ Some (left, right)
@@ -56,8 +56,8 @@ pub record HasSubtrees (nodes : List Node) : Type 0 where
 abbrev pub SubtreesAreOfChildren : Type 0
 SubtreesAreOfChildren = (nodes : List Node) → IsTrue (is_tree nodes) → HasSubtrees nodes
 
--- THE ORDER OF NODES: "v is w or below it" orders the nodes, with the root above all of them; what is below a node is not before
--- it, and of two nodes above a third one is above the other
+-- THE ORDER OF NODES: "v is w or below it" orders the nodes, with the root above all of them; what is below a node does not come before
+-- it, and of two nodes above a third, one is above the other
 pub record IsOrdered (nodes : List Node) : Type 0 where
   pub itself : (v : ℕ) → v < length nodes → is_within nodes v v ≡ true
   pub later : (w v : ℕ) → v < length nodes → is_within nodes w v ≡ true → w ≤ v

@@ -15,7 +15,7 @@ plan_of v = v.plan
 abbrev pub owner_in : Valid → Itag → ℕ
 owner_in v i = slice_index v.owners i.0
 
--- the plan is valid for a job, and the owners are those of the job's itags in it
+-- the plan is valid for a job, and the owners are the owners of the job's itags in it
 pub record IsValidFor (p : Program) (v : Valid) : Type 0 where
   pub valid : IsValid p (plan_of v).nodes
   pub owner : (i : Itag) → i.0 < count_of_itags p → owner_of p (plan_of v).nodes i ≡ Some (owner_in v i)

@@ -15,7 +15,7 @@ pub struct Checked {
 impl Checked {
     ghost use Rattle.flu_deps.specs.Checking.{program_of};
 
-    /// The accepted job. It takes no memory; `check` of `flu_check` tells whether a job is accepted.
+    /// The accepted job. It takes no memory; `check` of `flu_check` decides whether a job is accepted.
     pub fn of(p: Program) -> Checked
         requires { IsAccepted p }
         ensures { program_of result ≡ p }

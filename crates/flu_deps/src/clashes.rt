@@ -19,7 +19,7 @@ struct Tags {
     keys: [u32; 256],
 }
 
-/// What may conflict: pairs of kinds whatever the tags' keys, pairs of kinds where the keys are equal, and itags by the cell at
+/// What may conflict: pairs of kinds whatever the tags' keys, pairs of kinds if the keys are equal, and itags by the cell at
 /// their key with kinds that name this cell by its number.
 #[derive(Drop)]
 pub struct Clashes {
@@ -28,7 +28,7 @@ pub struct Clashes {
     fixed: [u64; 256],
 }
 
-// Whether two words have a number in common.
+// Whether two words have a bit in common.
 fn meet(x: u64, y: u64) -> bool
     ensures { (n : ℕ) → has x n ≡ true → has y n ≡ true → result ≡ true }
 {
@@ -83,8 +83,8 @@ impl Clashes {
         clashes
     }
 
-    // What clashes by one class of the first kind and the other of the second. Two kinds that have no family in common do not, so
-    // that the actions of a kind are gone through once for each kind with which it has one.
+    // Notes what clashes by one class of the first kind and the other class of the second. Two kinds that have no family in common do
+    // not clash, so the actions of a kind are visited once for each kind with which it has one in common.
     fn note(&mut self, p: &Program, tags: &Tags, visit: &mut Visit, one: Class, other: Class)
         requires tags { HasTags p.now tags.now }
         requires version { visit.old.version ≡ p.now.version }
@@ -122,7 +122,7 @@ impl Clashes {
         }
     }
 
-    // The same, where these are the families that kind b touches by the other class.
+    // The same, given the families that kind b touches by the other class.
     fn note_two(
         &mut self,
         p: &Program,
@@ -194,7 +194,7 @@ impl Clashes {
         self.same_key[i] = with(self.same_key[i], b);
     }
 
-    // The itags of kind b whose own cells kind a names by their numbers.
+    // Notes the itags of kind b whose own cells kind a names by their numbers.
     fn note_fixed(
         &mut self,
         p: &Program,
@@ -216,7 +216,7 @@ impl Clashes {
         }
     }
 
-    /// Whether two itags with these tags conflict nowhere, as far as a quick test tells.
+    /// Whether two itags with these tags conflict nowhere, as far as a quick test can tell.
     pub fn never_conflict(&self, p: &Program, i: Itag, a: Tag, j: Itag, b: Tag) -> bool
         requires found { FindsClashes p.now self.now }
         requires i { i.0 < count_of_itags p.now }

@@ -19,10 +19,10 @@ struct Pair {
 }
 
 /// The first cell, by family as declared and then by key, on which two tags conflict, dependent or not: both use it, and
-/// they neither both only add to it, nor both only raise it, nor, in version 2, both only read it. None where there is no such
+/// they neither both only add to it, nor both only raise it, nor, in version 2, both only read it. None if there is no such
 /// cell.
 ///
-/// The cell is one of the job's where the tags are. It takes no memory.
+/// The cell is one of the job's if the tags are. It takes no memory.
 pub fn conflict(p: &Program, a: Tag, b: Tag) -> Option<Cell>
     ensures first { IfSome result (IsFirstConflict p.now a b) }
     ensures none { IfNone result (NeverConflict p.now a b) }
@@ -33,8 +33,8 @@ pub fn conflict(p: &Program, a: Tag, b: Tag) -> Option<Cell>
     among_actions(p, pair, best, b.key, actions_of(p, b))
 }
 
-// Each of the functions below gives the first of a cell so far and of those that its last argument names, for a tag with
-// the key, on which the two tags conflict.
+// Each of the functions below returns the first of the cell so far and the cells that its last argument names, for a tag with
+// the key, and on which the two tags conflict.
 
 fn among_actions(
     p: &Program,
@@ -142,7 +142,7 @@ fn among_expr(p: &Program, pair: Pair, best: Option<Cell>, key: u32, e: &Expr) -
     }
 }
 
-// The cell so far, or another where the tags conflict on it and it is before that.
+// The cell so far, or another one if the tags conflict on it and it is before that.
 fn better(p: &Program, pair: Pair, best: Option<Cell>, c: Cell) -> Option<Cell>
     ensures { result ≡ better (conflicts_on p.now pair.a pair.b) best c }
 {

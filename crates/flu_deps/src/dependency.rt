@@ -6,7 +6,7 @@ ghost use Rattle.flu_model.specs.Itags.{ties_tags, is_dependent};
 use flu_model::{Depend, Program, Tag};
 
 /// Whether two tags are dependent: some `depends` of the job names their kinds, in either order, and asks for equal keys
-/// where it is `same`. It takes no memory.
+/// if it is `same`. It takes no memory.
 pub fn dep(p: &Program, a: Tag, b: Tag) -> bool
     ensures { result ≡ is_dependent p.now a b }
 {

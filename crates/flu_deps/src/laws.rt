@@ -1,4 +1,4 @@
-//! What holds of conflicts, of trees and of owners. Each law is the contract of a function that does nothing.
+//! Laws about conflicts, trees and owners. Each law is the contract of a function that does nothing.
 
 ghost use Rattle.flu_deps.specs.Dependencies.{ConflictIsMutual};
 ghost use Rattle.flu_deps.specs.Owners.{ItagsAreOwned};
@@ -9,7 +9,7 @@ pub fn conflict_is_mutual()
     ensures { ConflictIsMutual }
 {}
 
-/// How the nodes of a tree stand to each other: which are children, parents and ancestors, and what is below a node.
+/// How the nodes of a tree relate to each other: which are children, parents and ancestors, and what is below a node.
 pub fn plans_are_trees()
     ensures children { ChildrenAreLater }
     ensures parents { TreesAreRooted }

@@ -1,4 +1,4 @@
-//! Which tags depend on each other, how a tag uses a cell, where two tags conflict, accepted jobs (`docs/MODEL.md`), and valid
+//! Which tags depend on each other, how a tag uses a cell, on which cell two tags conflict, accepted jobs (`docs/MODEL.md`), and valid
 //! plans (`docs/TREE.md`).
 #![tactic(auto)]
 

@@ -9,10 +9,10 @@ ghost use Rattle.flu_model.specs.Modes as modes;
 use flu_model::{Act, Action, Cell, CellRef, Expr, Mode, Piece, Program, Tag, actions_of, cell_of};
 
 /// The mode of a tag on a cell, by whether its kind's actions read the cell (in an expression, a guard or a text), overwrite it
-/// (by `set`, `clear` or `flush`), add to it or raise it; the tag's key stands for `key`.
+/// (by `set`, `clear` or `flush`), add to it or raise it; `key` is the tag's key.
 ///
-/// In version 1 of the job's language it is Own where they read or overwrite the cell; in version 2 where they overwrite it, or
-/// read it and add to it or raise it, and Read where they only read it. Else it is Add, Raise or None. It takes no memory.
+/// In version 1 of the job's language it is Own if they read or overwrite the cell; in version 2 it is Own if they overwrite it, or
+/// read it and add to it or raise it, and Read if they only read it. Otherwise it is Add, Raise or None. It takes no memory.
 pub fn mode(p: &Program, t: Tag, c: Cell) -> Mode
     ensures { result ≡ modes.mode_of p.now t c }
 {

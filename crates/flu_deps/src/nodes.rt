@@ -1,4 +1,4 @@
-//! Which itags the nodes of a plan own, and how nodes stand to each other.
+//! Which itags the nodes of a plan own, and how nodes relate to each other.
 
 ghost use Rattle.std.specs.Prelude.{◌≡◌, ◌<◌, ◌^◌, IfSome, length, slice_index, EachIndex};
 ghost use Rattle.flu_model.specs.Itags.{count_of_itags};
@@ -12,7 +12,7 @@ use flu_model::{Itag, Node, Plan, Program, itag_count, matches};
 /// How many itags a job has at most.
 pub const MAX_ITAGS: usize = 256;
 
-/// Whether a node owns an itag: it is there, and one of its predicates matches the itag. It takes no memory.
+/// Whether a node owns an itag: the node exists, and one of its predicates matches the itag. It takes no memory.
 pub fn owns(p: &Program, plan: &Plan, w: u32, i: Itag) -> bool
     requires { i.0 < count_of_itags p.now }
     ensures { result ≡ owns p.now plan.now.nodes w i }
@@ -30,7 +30,7 @@ fn node_owns(p: &Program, node: &Node, i: Itag) -> bool
     node.preds.items().iter().any(|pred| matches(p, pred, i))
 }
 
-/// The number of the first node that owns an itag; none where no node does. It takes no memory.
+/// The number of the first node that owns an itag; none if no node does. It takes no memory.
 pub fn first_owner(p: &Program, plan: &Plan, i: Itag) -> Option<u32>
     requires { i.0 < count_of_itags p.now }
     ensures owner { result ≡ owner_of p.now plan.now.nodes i }
@@ -57,7 +57,7 @@ fn numbered(place: Option<usize>) -> Option<u32>
     }
 }
 
-/// The children of a node, the left one first; none where it is a leaf.
+/// The children of a node, the left one first; none if it is a leaf.
 pub fn kids(plan: &Plan, w: u32) -> Option<(u32, u32)>
     requires { w < length plan.now.nodes }
     ensures kids { result ≡ kids_at plan.now.nodes w }
@@ -74,7 +74,7 @@ fn kids_at(nodes: &[Node], w: u32) -> Option<(u32, u32)>
     nodes[w as usize].kids
 }
 
-/// The node of which a node is a child; none where it is the root.
+/// The parent of a node; none if it is the root.
 pub fn parent(plan: &Plan, w: u32) -> Option<u32>
     ensures parent { result ≡ parent_of plan.now.nodes w }
     ensures node { IfSome result (λ u. u < length plan.now.nodes) }

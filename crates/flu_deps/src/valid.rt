@@ -28,7 +28,7 @@ impl Valid {
     ghost use Rattle.flu_deps.specs.Trees.{AreKids};
     ghost use Rattle.flu_deps.specs.Validated.{plan_of, owner_in, IsValidFor};
 
-    /// The valid plan with its owners. It takes no memory; `validate` of `flu_valid` tells whether a plan is valid.
+    /// The valid plan with its owners. It takes no memory; `validate` of `flu_valid` decides whether a plan is valid.
     pub fn of(c: &Checked, plan: Plan) -> Valid
         requires { IsValid (program_of c.now) plan.nodes }
         ensures valid { IsValidFor (program_of c.now) result }
@@ -55,7 +55,7 @@ impl Valid {
         self.plan.nodes.items().len() as u32
     }
 
-    /// The children of a node, the left one first; none where it is a leaf.
+    /// The children of a node, the left one first; none if it is a leaf.
     pub fn kids(&self, w: u32) -> Option<(u32, u32)>
         requires { w < length (plan_of self.now).nodes }
         ensures kids { result ≡ kids_at (plan_of self.now).nodes w }
@@ -65,7 +65,7 @@ impl Valid {
         nodes::kids(&self.plan, w)
     }
 
-    /// The node of which a node is a child; none where it is the root.
+    /// The parent of a node; none if it is the root.
     pub fn parent(&self, w: u32) -> Option<u32>
         requires { w < length (plan_of self.now).nodes }
         ensures parent { result ≡ parent_of (plan_of self.now).nodes w }

@@ -26,7 +26,7 @@ pub enum Place {
     All,
 }
 
-/// Which ways are looked at: a way that needs what the cell holds conflicts with one that writes it, and adding with raising.
+/// Which ways are considered: a way that needs what the cell holds conflicts with one that writes it, and adding with raising.
 #[derive(Clone, Copy, PartialEq, Eq)]
 pub enum Class {
     Needs,
@@ -47,14 +47,14 @@ fn in_class(version: u32, class: Class, way: Way) -> bool
     }
 }
 
-/// Whether a word has a number; numbers count from 0 to 63.
+/// Whether a word has the bit of a number; numbers count from 0 to 63.
 pub fn has(word: u64, n: u32) -> bool
     ensures { result ≡ has word n }
 {
     (word >> (n % 64)) & 1 == 1
 }
 
-/// A word with a number.
+/// A word with the bit of a number set.
 pub fn with(word: u64, n: u32) -> u64
     ensures there { has result n ≡ true }
     ensures kept { (k : ℕ) → has word k ≡ true → has result k ≡ true }
@@ -99,7 +99,7 @@ impl Marks {
     }
 }
 
-/// How the touches of a kind meet the marks of another: whatever the tags' keys, where these are equal, and which families it
+/// How the touches of a kind meet the marks of another: for any keys of the tags, for equal keys, and which families it
 /// touches at the key of the tag.
 #[derive(Clone, Copy)]
 pub struct Meeting {
@@ -128,7 +128,7 @@ impl Meeting {
     }
 }
 
-/// A walk over actions, which marks what they touch or meets it with what is marked.
+/// A walk over actions, which marks what they touch or compares it with what is marked.
 #[derive(Drop)]
 pub struct Visit {
     pub version: u32,
@@ -175,7 +175,7 @@ impl Visit {
         self.actions(actions);
     }
 
-    /// Meets what the actions touch by a class with what is marked.
+    /// Compares what the actions touch by a class with what is marked.
     pub fn meet(&mut self, class: Class, actions: &[Action])
         ensures met { list_all (action_all (met_test self.new.version class self.new.marks self.new.meeting)) actions.now ≡ true }
         ensures version { self.new.version ≡ self.old.version }

@@ -10,13 +10,13 @@ use flu_deps::{Checked, Valid};
 use flu_model::{Itag, actions_of, itag_count, tag_of};
 use std::alloc::{AllocError, Global};
 
-/// What is known of the cost of a job's rounds before any of them is run. Times are in nanoseconds.
+/// What is known about the cost of a job's rounds before any of them is run. Times are in nanoseconds.
 #[derive(Drop)]
 pub struct Costs {
     itags: u32,
     // By the itags' numbers.
     events: Vec<EventCost>,
-    // What it costs to ask of each pair of itags whether they depend on each other.
+    // What it costs to check for each pair of itags whether they depend on each other.
     questions: u64,
     processors: u64,
     ghost few: { itags ≤ 256 },
@@ -30,11 +30,11 @@ struct EventCost {
 }
 
 impl Costs {
-    /// The costs of a job's rounds on a machine of so many processors.
+    /// The costs of a job's rounds on a machine with this many processors.
     ///
     /// # Errors
     ///
-    /// Only where memory is wanting.
+    /// Only if memory runs out.
     pub fn new(alloc: Global, checked: &Checked, processors: u64) -> Result<Costs, AllocError> {
         let p = checked.program();
         let itags = itag_count(p);
@@ -57,7 +57,7 @@ impl Costs {
         })
     }
 
-    /// What the fold of so many events of each itag costs. It takes no memory.
+    /// What the fold of this many events of each itag costs. It takes no memory.
     pub fn fold(&self, counts: &[u64]) -> u64 {
         let mut cost: u64 = 0;
         for (event, count) in self.events.iter().zip(counts) {
@@ -66,18 +66,18 @@ impl Costs {
         cost
     }
 
-    /// What it costs to plan. It takes no memory.
+    /// What planning costs. It takes no memory.
     pub fn planning(&self) -> u64 {
         let itags = u64::from(self.itags);
         let steps = itags.saturating_mul(itags).saturating_mul(itags);
         self.questions.saturating_add(steps.saturating_mul(STEP))
     }
 
-    /// What a run of so many events of each itag on the tree of threads of a plan costs.
+    /// What a run of this many events of each itag on the tree of threads of a plan costs.
     ///
     /// # Errors
     ///
-    /// Only where memory is wanting.
+    /// Only if memory runs out.
     pub fn tree(&self, alloc: Global, plan: &Valid, counts: &[u64]) -> Result<u64, AllocError> {
         let loads = self.loads(alloc, plan, counts)?;
         let workers = WORKER.saturating_mul(u64::from(plan.count()));
@@ -108,7 +108,7 @@ impl Costs {
     }
 }
 
-/// Whether a tree of this cost is to be preferred to a fold of that cost: where it takes less than four fifths of it, since the estimates
+/// Whether a tree of this cost is to be preferred to a fold of that cost: if it takes less than four fifths of it, since the estimates
 /// are rough and the tree takes more of the processors' time.
 pub fn is_worth_it(tree: u64, fold: u64) -> bool
     ensures { result ≡ nat_lt (5 * tree) (4 * fold) }
@@ -116,7 +116,7 @@ pub fn is_worth_it(tree: u64, fold: u64) -> bool
     5 * u128::from(tree) < 4 * u128::from(fold)
 }
 
-// Adds up the load of a node, the children of which are added up.
+// Adds up the load of a node, whose children are already added up.
 fn add_up(loads: &mut Vec<Load>, plan: &Valid, node: u32)
     requires { node < length (plan_of plan.now).nodes }
 {

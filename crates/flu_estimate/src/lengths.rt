@@ -12,7 +12,7 @@ pub(crate) fn event_cost(actions: &[Action]) -> u64 {
     cost
 }
 
-/// How many cells these actions name as what they change.
+/// How many cells these actions name as targets of a change.
 pub(crate) fn targets(actions: &[Action]) -> u64 {
     let mut count: u64 = 0;
     for action in actions {
@@ -24,7 +24,7 @@ pub(crate) fn targets(actions: &[Action]) -> u64 {
     count
 }
 
-// An action that has a guard is counted by half, since it is not done at each event.
+// An action that has a guard is counted as half, since it is not done at each event.
 fn action_cost(action: &Action) -> u64 {
     let cost = act_cost(&action.act).saturating_add(ACTION);
     match &action.guard {

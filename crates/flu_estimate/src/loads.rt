@@ -12,11 +12,11 @@ pub(crate) struct Load {
     itags: u64,
     // How many cells the itags of the subtree change.
     cells: u64,
-    // How long it takes until the subtree has given up its lot for one event from above, and goes on with a new one; and what its
-    // workers do for that in all.
+    // How long it takes until the subtree has given up its lot for one event from above, and continues with a new one; and what its
+    // workers do for that in total.
     trip: u64,
     handover: u64,
-    // How long the subtree takes where each of its workers has a processor, and what they do in all.
+    // How long the subtree takes if each of its workers has a processor, and what they do in total.
     path: u64,
     work: u64,
 }
@@ -52,9 +52,9 @@ impl Load {
         self.work = self.path;
     }
 
-    /// Adds up a worker that has these children, which are added up.
+    /// Adds up a worker that has these children, which are already added up.
     ///
-    /// For each of its own events the lots of both children come up and go down again, one beside the other.
+    /// For each of its own events the lots of both children come up and go down again, both at the same time.
     pub(crate) fn join(&mut self, left: &Load, right: &Load) {
         let cells = CELL.saturating_mul(right.cells);
         let apart = left.trip.max(right.trip);
@@ -72,14 +72,14 @@ impl Load {
         self.cells = self.cells.saturating_add(below);
     }
 
-    /// How long the subtree takes on so many processors, of which each two are threads of one core: as long as its longest path, and no
+    /// How long the subtree takes on this many processors, where each two are threads of one core: as long as its longest path, and no
     /// less than all its work divided among them.
     pub(crate) fn time_on(&self, processors: u64) -> u64 {
         let shared = self.work / processors.saturating_add(1).max(2);
         self.path.max(shared.saturating_mul(2))
     }
 
-    // What the worker's own events take.
+    // How long the worker's own events take.
     fn own_time(&self) -> u64 {
         let look = LOOK.saturating_mul(self.itags);
         let turn = TURN.saturating_add(look);

@@ -1,4 +1,4 @@
--- What holds of each element of a list with its index.
+-- What holds for each element of a list with its index.
 use Rattle.std.specs.Prelude.{◌≡◌, ℕ, List, Some, slice_get}
 
 abbrev pub AtEach : {X : Type 0} → (ℕ → X → Type 0) → List X → Type 0

@@ -1,4 +1,4 @@
--- A list in order of a number of each element, to which elements are added late.
+-- A list ordered by a number of each element, to which elements are added late.
 use Rattle.std.specs.Prelude.{ℕ, ◌+◌, Bool, true, ◌&&◌, nat_lt, nat_le, List, [], ◌∷◌, if◌then◌else◌}
 
 -- the number of one element is less than that of another

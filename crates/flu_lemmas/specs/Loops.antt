@@ -1,4 +1,4 @@
--- Looks that may find a fault: the first one found is the answer.
+-- Checks that may find a fault: the first one found is the answer.
 use Rattle.std.specs.Prelude.{List, [], ◌∷◌, ◌++◌, Result, Ok, Err}
 
 -- what follows what was found

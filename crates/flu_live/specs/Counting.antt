@@ -1,4 +1,4 @@
--- How many steps some counts have together.
+-- How many steps these counts have in total.
 use Rattle.std.specs.Prelude.{ℕ, ◌+◌}
 use Rattle.flu_live.specs.declared.counts.StepCounts.{StepCounts}
 

@@ -1,4 +1,4 @@
--- ONE RUN A SEED: what workers look at of a job, a plan and streams, and a seed, determine the steps of the whole run, how many of each kind they are, and the mark.
+-- ONE RUN A SEED: what workers use of a job, a plan and streams, and a seed, determine the steps of the whole run, their number by kind, and the mark.
 use Rattle.std.specs.Prelude.{◌≡◌, ℕ, List}
 use Rattle.flu_fork.specs.declared.content.Content.{Content}
 use Rattle.flu_net.specs.declared.steps.Step.{Step}

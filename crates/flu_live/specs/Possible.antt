@@ -1,4 +1,4 @@
--- The steps that a net may have, in the order of the seeded schedule, and those of them that are enabled.
+-- The steps that a net may make, in the order of the seeded schedule, and those of them that are enabled.
 use Rattle.std.specs.Prelude.{ℕ, ◌<◌, List, [], ◌∷◌, ◌++◌, map, filter, length}
 use Rattle.std.specs.List.{flat_map, range_with_len}
 use Rattle.flu_model.specs.Itags.{count_of_itags}

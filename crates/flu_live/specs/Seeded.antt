@@ -1,4 +1,4 @@
--- THE SEEDED SCHEDULE: which step a seed draws at each moment, and what the run of these steps counts.
+-- THE SEEDED SCHEDULE: which step a seed draws at each moment, and what is counted of the run of these steps.
 use Rattle.std.specs.Prelude.{◌≡◌, ℕ, ◌+◌, ◌*◌, ◌%◌, ◌^◌, Some, List, [], ◌∷◌, ◌++◌, length, slice_get}
 use Rattle.flu_draw.specs.Draws.{next_draw, draw_of}
 use Rattle.flu_fork.specs.declared.content.Content.{Content}
@@ -13,11 +13,11 @@ use Rattle.flu_live.specs.Possible.{enabled_steps}
 
 -- ---- numbers
 
--- the place, from 0, that a drawn number gives among so many steps
+-- the place, from 0, that a drawn number selects among this many steps
 unfoldable pub place_of : ℕ → ℕ → ℕ
 place_of x count = draw_of x % count
 
--- the mark, once the step at a place was made
+-- the mark, after the step at a place was made
 unfoldable pub marked : ℕ → ℕ → ℕ
 marked mark place = (mark * 33 + place) % 2 ^ 32
 
@@ -42,13 +42,13 @@ pub record IsDrawn (n : NetNote) (x place : ℕ) (s : Step) : Type 0 where
   pub at : place ≡ place_of x (length (enabled_steps n))
   pub is : slice_get (enabled_steps n) place ≡ Some s
 
--- the nets that a seed comes to, each with the steps that were made, the number drawn last, how many steps these are and the mark
+-- the nets that a seed leads to, each with the steps that were made, the number drawn last, how many steps of each kind these are, and the mark
 pub data Reaches (k : Content) (seed : ℕ) : NetNote → List Step → ℕ → StepCounts → ℕ → Type 0 where
   begun : {n : NetNote} → IsStart k n → Reaches k seed n [] seed no_steps 0
   made : {old new : NetNote} {done : List Step} {x place : ℕ} {s : Step} {steps : StepCounts} {mark : ℕ} → Reaches k seed old done x steps mark
       → IsDrawn old (next_draw x) place s → Makes s old new → Reaches k seed new (done ++ s ∷ []) (next_draw x) (counting s steps) (marked mark place)
 
--- these are the steps of a whole run, how many of each kind they are and the mark: in the end no step is enabled, and the net is final
+-- these are the steps of a whole run, with how many of each kind there are and the mark: in the end no step is enabled, and the net is final
 pub record IsWholeRun (k : Content) (seed : ℕ) (done : List Step) (steps : StepCounts) (mark : ℕ) : Type 0 where
   pub net : NetNote
   pub last : ℕ
@@ -56,7 +56,7 @@ pub record IsWholeRun (k : Content) (seed : ℕ) (done : List Step) (steps : Ste
   pub ended : enabled_steps net ≡ []
   pub is_final : IsFinal net
 
--- so many steps of each kind has a whole run, and this mark
+-- a whole run has this many steps of each kind, and this mark
 pub record IsSeeded (k : Content) (seed : ℕ) (steps : StepCounts) (mark : ℕ) : Type 0 where
   pub done : List Step
   pub run : IsWholeRun k seed done steps mark

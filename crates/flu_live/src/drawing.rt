@@ -5,7 +5,7 @@ ghost use Rattle.flu_live.specs.Seeded.{place_of, marked};
 
 use flu_draw::draw_of;
 
-/// The place, from 0, that a drawn number gives among so many steps.
+/// The place, from 0, that a drawn number selects among this many steps.
 #[tactic(auto, unfolding(crate::specs::Seeded::place_of))]
 pub fn place_of(x: u32, count: usize) -> usize
     requires some { 0 < count }
@@ -17,7 +17,7 @@ pub fn place_of(x: u32, count: usize) -> usize
     draw_of(x) as usize % count
 }
 
-/// The mark, once the step at a place was made.
+/// The mark, after the step at a place was made.
 pub fn marked(mark: u32, place: usize) -> u32
     requires { place < 65536 }
     ensures { result ≡ marked mark place }

@@ -4,7 +4,7 @@ ghost use Rattle.flu_live.specs.OneRun.{OneRunASeed, OneLineASeed, OneTraceASeed
 
 use flu_net::laws::steps_determine;
 
-/// A job, a plan, streams and a seed have one run: its steps, how many of each kind they are, and the mark.
+/// A job, a plan, streams and a seed have one run: its steps, how many of each kind there are, and the mark.
 pub fn a_seed_draws_one_run()
     ensures run { OneRunASeed }
     ensures line { OneLineASeed }

@@ -1,4 +1,4 @@
-//! The steps that a net may have, and which of them are enabled.
+//! The steps that a net may make, and which of them are enabled.
 
 ghost use Rattle.std.specs.Prelude.{◌≡◌, [], ◌∷◌, ◌++◌, map, true, false, length, IfOk, OnOk, IfSome, IfNone, IsNone, ◌↔◌};
 ghost use Rattle.std.specs.Bool.{OnTrue, OnFalse};
@@ -32,7 +32,7 @@ fn steps_of(w: u32) -> [Step; 9]
     ]
 }
 
-/// The arrivals of so many itags.
+/// The arrivals of this many itags.
 fn arrivals(alloc: Global, itags: u32) -> Result<Vec<Step>, AllocError>
     ensures { IfOk result (λ v. v.items ≡ map arrival (range_with_len 0 itags)) }
 {
@@ -43,7 +43,7 @@ fn arrivals(alloc: Global, itags: u32) -> Result<Vec<Step>, AllocError>
     Ok(steps)
 }
 
-/// Puts some steps at the end of a list.
+/// Appends some steps to a list.
 fn push_each(steps: &mut Vec<Step>, more: &[Step]) -> Result<(), AllocError>
     ensures { OnOk result (steps.new.items ≡ steps.old.items ++ more.now) }
 {
@@ -53,7 +53,7 @@ fn push_each(steps: &mut Vec<Step>, more: &[Step]) -> Result<(), AllocError>
     Ok(())
 }
 
-/// All steps that a net of the case may have, in the order of the seeded schedule.
+/// All steps that a net of the case may make, in the order of the seeded schedule.
 pub fn all_steps(alloc: Global, case: &Case) -> Result<Vec<Step>, AllocError>
     ensures { IfOk result (λ v. v.items ≡ all_steps case.now) }
 {
@@ -64,7 +64,7 @@ pub fn all_steps(alloc: Global, case: &Case) -> Result<Vec<Step>, AllocError>
     Ok(steps)
 }
 
-// Whether a step may be made, told as the list of it where it is enabled.
+// Whether a step may be made. The contract says it by the list of the step: unchanged if it is enabled, and else empty.
 #[tactic(none)]
 fn is_one(net: &Net, case: &Case, step: Step) -> bool
     requires { case.now ≡ net.now.case }
@@ -74,7 +74,7 @@ fn is_one(net: &Net, case: &Case, step: Step) -> bool
     net.enabled(case, step)
 }
 
-/// Puts the enabled ones of some steps into a list, in place of what it has.
+/// Replaces the content of a list by the enabled ones of some steps.
 #[tactic(auto, using(crate::proofs::Chosen::among_none))]
 pub fn put_enabled(
     enabled: &mut Vec<Step>,
@@ -92,7 +92,7 @@ pub fn put_enabled(
     Ok(())
 }
 
-// Puts a step at the end of a list, where it is enabled.
+// Appends a step to a list, if it is enabled.
 fn put_one(enabled: &mut Vec<Step>, net: &Net, case: &Case, step: Step) -> Result<(), AllocError>
     requires { case.now ≡ net.now.case }
     ensures { OnOk result (enabled.new.items ≡ enabled.old.items ++ enabled_among net.now (step ∷ [])) }
@@ -118,7 +118,7 @@ fn first_enabled(net: &Net, case: &Case, steps: &[Step]) -> Option<Step>
     None
 }
 
-/// A step that is enabled; none exactly where the net is final, but for a net in a step of which memory was wanting: there nothing is
+/// A step that is enabled; none exactly if the net is final, except for a net that ran out of memory in a step: there nothing is
 /// enabled any more. It takes no memory.
 pub fn some_enabled(net: &Net, case: &Case) -> Option<Step>
     requires { case.now ≡ net.now.case }
@@ -159,7 +159,7 @@ fn first_arrival(net: &Net, case: &Case) -> Option<Step>
     None
 }
 
-// The first step of a worker that is enabled, where no arrival is.
+// The first step of a worker that is enabled, if no arrival is.
 #[tactic(auto, using(crate::proofs::Chosen::among_none))]
 fn first_doing(net: &Net, case: &Case) -> Option<Step>
     requires case { case.now ≡ net.now.case }

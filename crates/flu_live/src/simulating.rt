@@ -25,8 +25,8 @@ use flu_model::Outs;
 use flu_net::{Net, Step, StepFault};
 use std::alloc::{AllocError, Global};
 
-/// What a run of the net came to: the state and what was put out, how many steps of each kind were made, and the mark, which the
-/// places of the drawn steps make.
+/// What a run of the net led to: the state and the outputs emitted, how many steps of each kind were made, and the mark, which is
+/// made from the places of the drawn steps.
 #[derive(Drop)]
 pub struct Run {
     pub state: State,
@@ -35,7 +35,7 @@ pub struct Run {
     pub mark: u32,
 }
 
-// A run on its way: the net, the number that was drawn last, and the steps that were made, where they are kept.
+// A run in progress: the net, the number that was drawn last, and the steps that were made, if they are kept.
 #[derive(Drop)]
 struct Drawing {
     seed: u32,
@@ -51,7 +51,7 @@ struct Drawing {
 ///
 /// # Errors
 ///
-/// Only where memory is wanting.
+/// Only if memory runs out.
 pub fn simulate(alloc: Global, case: &Case, seed: u32) -> Result<Run, AllocError>
     requires { seed < 2 ^ 31 }
     ensures state { IfOk result (λ r. held r.state ≡ final_state (job case.now) (held case.now.opening) (listed case.now.streams)) }
@@ -63,7 +63,7 @@ pub fn simulate(alloc: Global, case: &Case, seed: u32) -> Result<Run, AllocError
     run.end(alloc, case)
 }
 
-/// The steps of a run, in their order, with how many of each kind they are and the mark of their places.
+/// The steps of a run, in their order, with how many of each kind there are and the mark of their places.
 #[derive(Drop)]
 pub struct TracedRun {
     pub steps: Vec<Step>,
@@ -71,11 +71,11 @@ pub struct TracedRun {
     pub mark: u32,
 }
 
-/// The run that a seed draws, step by step (`docs/TREE.md`). Each of its steps names an itag or a worker that is there.
+/// The run that a seed draws, step by step (`docs/TREE.md`). Each of its steps names an itag or a worker that exists.
 ///
 /// # Errors
 ///
-/// Only where memory is wanting.
+/// Only if memory runs out.
 pub fn trace(alloc: Global, case: &Case, seed: u32) -> Result<TracedRun, AllocError>
     requires { seed < 2 ^ 31 }
     ensures drawn { IfOk result (λ t. IsWholeRun case.now seed t.steps.items t.counts t.mark) }
@@ -98,7 +98,7 @@ pub fn trace(alloc: Global, case: &Case, seed: u32) -> Result<TracedRun, AllocEr
     })
 }
 
-// The whole run that a seed draws, which puts its steps at the end of a list, where one is handed in.
+// The whole run that a seed draws; it appends its steps to a list, if one is passed in.
 fn drawn_run(
     alloc: Global,
     case: &Case,
@@ -126,7 +126,7 @@ fn drawn_run(
     Ok(run)
 }
 
-// Puts a step at the end of a list, where there is one.
+// Appends a step to a list, if there is one.
 fn keep(kept: &mut Option<Vec<Step>>, s: Step) -> Result<(), AllocError>
     ensures { OnOk result (kept_in kept.new ≡ option_map (λ steps. steps ++ s ∷ []) (kept_in kept.old)) }
 {
@@ -151,7 +151,7 @@ impl Drawing {
         ensures seed { IfOk result (λ d. d.seed ≡ seed) }
         ensures kept { IfOk result (λ d. d.kept ≡ kept) }
     {
-        // The bound fits its type, and so does each count of steps.
+        // The bound fits its type, and so do the counts of steps.
         let _most = bound(case);
         let net = Net::new(alloc, case)?;
         Ok(Drawing {
@@ -164,7 +164,7 @@ impl Drawing {
         })
     }
 
-    // Makes the step that is drawn of these.
+    // Makes a step drawn from these.
     fn turn(&mut self, alloc: Global, case: &Case, enabled: &[Step]) -> Result<(), AllocError>
         requires way { IsOnItsWay case.now self.old }
         requires enabled { enabled.now ≡ enabled_steps self.old.net }
@@ -188,7 +188,7 @@ impl Drawing {
         Ok(())
     }
 
-    // What the run came to, once no step is enabled.
+    // What the run led to, once no step is enabled.
     fn end(self, alloc: Global, case: &Case) -> Result<Run, AllocError>
         requires way { IsOnItsWay case.now self }
         requires ended { enabled_steps self.net ≡ [] }

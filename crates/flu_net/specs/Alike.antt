@@ -1,5 +1,5 @@
--- ALIKE: two nets that the same steps came to. They agree in all on which it rests which steps are enabled: what is seen and counted, what is in the hands and on
--- the edges by its shape, targets and asks, and of lots that came down the counts of the itags above. The values in lots are not compared, but those that counts
+-- ALIKE: two nets that the same steps led to. They agree in everything that decides which steps are enabled: what is seen and counted, the shapes of hands and
+-- edges, targets and asks, and, for lots that came down, the counts of the itags above. The values in lots are not compared, but the values that counts
 -- describe are the same.
 use Rattle.std.specs.Prelude.{◌≡◌, ℕ, ◌<◌, Bool, true, Some, List, length, slice_get, slice_index, ⊤}
 use Rattle.flu_model.specs.declared.events.Item.{Item}
@@ -20,7 +20,7 @@ use Rattle.flu_net.specs.Final.{IsFinal}
 use Rattle.flu_net.specs.Notes.{NetNote}
 use Rattle.flu_net.specs.Starting.{IsStart}
 
--- what workers look at of a job with a plan and streams: how many itags there are, which of them a node owns and which the nodes above it, which of them depend on
+-- what workers use of a job with a plan and streams: how many itags there are, which of them a node owns and which the nodes above it, which of them depend on
 -- each other, the nodes, and the items
 pub record View : Type 0 where
   pub count : ℕ
@@ -98,8 +98,8 @@ pub record AreAlike (k : View) (n m : NetNote) : Type 0 where
   pub each : (w : ℕ) (a b : WorkerNote) → slice_get n.workers w ≡ Some a → slice_get m.workers w ≡ Some b → AreAlikeAt k w a b
   pub over : (w : ℕ) (a b : Edge) → slice_get n.edges w ≡ Some a → slice_get m.edges w ≡ Some b → AreAlikeOver k w a b
 
--- ---- the laws: the nets at the start are alike; where nets are alike the same steps are enabled, and one is final where the other is; and the same step keeps
--- them so. So what a list of steps comes to, which steps are enabled after it, and whether it is a whole run, is determined by the steps
+-- ---- the laws: the nets at the start are alike; if nets are alike, the same steps are enabled, and one is final if the other is; and the same step keeps
+-- them alike. So the steps alone determine what a list of steps leads to, which steps are enabled after it, and whether it is a whole run
 abbrev pub StartsAreAlike : Type 0
 StartsAreAlike = (k j : Content) (n m : NetNote) → view_in j ≡ view_in k → IsStart k n → IsStart j m → AreAlike (view_in k) n m
 

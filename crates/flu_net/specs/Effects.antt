@@ -15,7 +15,7 @@ use Rattle.flu_net.specs.declared.steps.Step.{Step}
 use Rattle.flu_net.specs.declared.steps.Step.TheVariants.{Arrive, Handle, Ask, Take, Give, Hold, Lend}
 use Rattle.flu_net.specs.Notes.{NetNote, kid_of, asked_of}
 
--- a worker that has seen so many items of an itag
+-- a worker that has seen this many items of an itag
 abbrev pub seeing : ℕ → ℕ → WorkerNote → WorkerNote
 seeing i count n = record n { seen = slice_set n.seen i count }
 
@@ -25,7 +25,7 @@ arrived n i =
     let count = slice_index n.seen i.0 + 1 in
     record n { seen = slice_set n.seen i.0 count; workers = map (seeing i.0 count) n.workers }
 
--- the other steps: worker w becomes another, which keeps a worker's rule, and perhaps an edge
+-- the other steps: worker w is replaced by one that keeps a worker's rule, and perhaps an edge is replaced
 pub record IsStepOf (w : ℕ) (old new : NetNote) : Type 0 where
   pub was : WorkerNote
   pub is : WorkerNote

@@ -36,12 +36,12 @@ is_lent (Some Held) = false
 is_lent (Some (Asked y)) = false
 is_lent (Some (Given lot)) = false
 
--- a worker that is there passes a test
+-- a worker that exists passes a test
 abbrev pub if_there : (WorkerNote → Bool) → Option WorkerNote → Bool
 if_there test None = false
 if_there test (Some n) = test n
 
--- ARRIVE: items of the itag are not seen yet
+-- ARRIVE: some items of the itag are not seen yet
 abbrev pub may_arrive : NetNote → Itag → Bool
 may_arrive n i = nat_lt (slice_index n.seen i.0) (length (slice_index_or (listed n.case.streams) i.0 []))
 
@@ -89,6 +89,6 @@ by_step n (Give w) = may_give_up n w
 by_step n (Hold w) = may_hold n w
 by_step n (Lend w s) = may_lend_part n w s
 
--- nothing is, once memory was wanting in a step
+-- no step is enabled once memory ran out in a step
 abbrev pub is_enabled : NetNote → Step → Bool
 is_enabled n s = not n.gone && by_step n s

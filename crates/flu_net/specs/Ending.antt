@@ -25,7 +25,7 @@ SeesAllItems k seen = (i : ℕ) → slice_index seen i ≡ length (slice_index_o
 abbrev pub AreOf : Content → List WorkerNote → Type 0
 AreOf k workers = (w : ℕ) (v : WorkerNote) → slice_get workers w ≡ Some v → v.case ≡ k
 
--- each worker has nothing left
+-- each worker has nothing left to do
 pub record IsOver (v : WorkerNote) : Type 0 where
   pub all : HasDoneAll v
   pub finished : IsFinished v
@@ -33,7 +33,7 @@ pub record IsOver (v : WorkerNote) : Type 0 where
 abbrev pub AreOver : List WorkerNote → Type 0
 AreOver workers = (w : ℕ) (v : WorkerNote) → slice_get workers w ≡ Some v → IsOver v
 
--- or one has
+-- or one of them has
 pub record OneIsLeft (workers : List WorkerNote) : Type 0 where
   pub at : ℕ
   pub worker : WorkerNote
@@ -43,7 +43,7 @@ pub record OneIsLeft (workers : List WorkerNote) : Type 0 where
 
 -- ---- joined
 
--- a worker of a final net: it has nothing left, and a leaf has its lot
+-- a worker of a final net: it has nothing left to do, and a leaf has its lot
 pub record IsAtEnd (k : Content) (w : ℕ) (v : WorkerNote) : Type 0 where
   pub case : v.case ≡ k
   pub node : v.node ≡ w
@@ -64,7 +64,7 @@ pub record IsBrought (k : Content) (v : ℕ) (lent : LotCounts) (edges : List Ed
   pub on : slice_get edges v ≡ Some (Given lot)
   pub all : BringsAll k v lent lot
 
--- so it is over each edge from a node before m to a child that is not
+-- this holds for each edge from a node before m to a child that is not before m
 pub record AreBrought (k : Content) (m : ℕ) (workers : List WorkerNote) (edges : List Edge) : Type 0 where
   pub each : length edges ≡ length (nodes k)
   pub brought : (s : Side) (u l r : ℕ) (v : WorkerNote) → u < m → slice_get workers u ≡ Some v → kids k u ≡ Some (l, r)

@@ -1,5 +1,5 @@
--- FACTS of every list of steps, one by one: each event that a worker handles has an exact place, the parts of a lot are paired, and what the owners counted is
--- a prefix for dependent events.
+-- FACTS that hold after every list of steps, one by one: each event that a worker handles has an exact place, the parts of a lot are paired, and what the
+-- owners counted is a prefix for dependent events.
 use Rattle.std.specs.Prelude.{◌≡◌, ℕ, ◌<◌, true, Option, Some, None, List, slice_get, slice_index}
 use Rattle.flu_model.specs.declared.events.Event.{Event}
 use Rattle.flu_model.specs.Merging.{is_before}
@@ -25,7 +25,7 @@ use Rattle.flu_net.specs.Starting.{IsStart}
 
 -- ---- exact places
 
--- EVENTS ARE EXACT: after whatever steps a worker handles an event, the counts of the lot in its hand are exact for this event
+-- EVENTS ARE EXACT: whatever steps come before, when a worker handles an event, the counts of the lot in its hand are exact for this event
 abbrev pub EventsAreExact : Type 0
 EventsAreExact =
     (k : Content) (old now new : NetNote) (steps : List Step) (w : ℕ) → IsStart k old → Runs steps old now
@@ -33,7 +33,7 @@ EventsAreExact =
 
 -- ---- paired parts
 
--- the part of a hand at a side
+-- the part that a hand has for a side
 abbrev pub part_of : Side → Holding → Option Lot
 part_of s Empty = None
 part_of s (Whole lot) = None
@@ -70,7 +70,7 @@ pub record IsCounted (n : NetNote) (j l : ℕ) : Type 0 where
   pub owns : own (job n.case) (nodes n.case) owner j ≡ true
   pub there : l < slice_index worker.counts j
 
--- WHAT OWNERS COUNTED IS A PREFIX: after any list of steps, with an event that its owner counted each earlier event on which it depends is counted by its own
+-- WHAT OWNERS COUNTED IS A PREFIX: after any list of steps, if the owner of an event counted it, each earlier event on which it depends is counted by its owner
 abbrev pub OwnersCountPrefixes : Type 0
 OwnersCountPrefixes =
     (k : Content) (old new : NetNote) (steps : List Step) (i m j l : ℕ) (x y : Event) → IsStart k old → Runs steps old new

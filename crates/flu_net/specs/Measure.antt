@@ -1,4 +1,4 @@
--- HOW MANY STEPS ARE LEFT, at most: each step that is made lowers this number, whatever the order of the steps.
+-- HOW MANY STEPS ARE LEFT, at most: each step that is made lowers this number, in whatever order the steps are made.
 use Rattle.std.specs.Prelude.{ℕ, ◌+◌, ◌-◌, ◌*◌, Option, Some, None, List, [], length, slice_get, slice_index, slice_index_or, if◌then◌else◌}
 use Rattle.std.specs.List.{count_by, range_with_len}
 use Rattle.flu_lemmas.specs.Totals.{total}
@@ -29,7 +29,7 @@ items_of k i = length (slice_index_or (listed k.streams) i [])
 abbrev pub events_of : Content → ℕ → ℕ
 events_of k i = length (events_at (setting_of k) i)
 
--- how many nodes are in the subtree of node v, itself among them
+-- how many nodes are in the subtree of node v, itself included
 abbrev pub size : List Node → ℕ → ℕ
 size nodes v = count_by (is_within nodes v) (range_with_len 0 (length nodes))
 
@@ -45,7 +45,7 @@ counted_in (Some v) i = slice_index v.counts i
 abbrev pub uncounted : Content → List WorkerNote → ℕ
 uncounted k workers = total (λ i. events_of k i - counted_in (slice_get workers (owner_in k.valid (itag i))) i) (itags k)
 
--- ---- LEND: of a part that is to be lent each node of its subtree has a round of five steps to come: lend, hold, ask, give and take
+-- ---- LEND: for a part that is still to be lent, each node of its subtree has a round of five steps ahead: lend, hold, ask, give and take
 abbrev pub rounds_below : Content → Option ℕ → ℕ
 rounds_below k None = 0
 rounds_below k (Some v) = 5 * size (nodes k) v
@@ -68,10 +68,10 @@ steps_on k v (Some (Given lot)) = 1
 abbrev pub on_edges : Content → List Edge → ℕ
 on_edges k edges = total (λ v. steps_on k v (slice_get edges v)) (range_with_len 0 (length (nodes k)))
 
--- ---- all together: an event that is handled makes one step, and a new round for each node below its owner
+-- ---- in total: handling an event takes one step, and starts a new round for each node below its owner
 abbrev pub steps_left : NetNote → ℕ
 steps_left n = unseen n.case n.seen + 5 * length (nodes n.case) * uncounted n.case n.workers + to_be_lent n.workers + on_edges n.case n.edges
 
--- and at the start at most
+-- and at most this many at the start
 abbrev pub most_steps : Content → ℕ
 most_steps k = total (items_of k) (itags k) + total (events_of k) (itags k) + 8 * length (nodes k) * (total (events_of k) (itags k) + 1)

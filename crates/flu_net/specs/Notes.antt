@@ -12,17 +12,17 @@ use Rattle.flu_net.specs.declared.edges.Edge.TheVariants.{Home, Lent, Held, Aske
 
 pub record NetNote : Type 0 where
   pub case : Content
-  -- whether memory was wanting in a step: such a net is to be given up
+  -- whether memory ran out in a step: such a net must be discarded
   pub gone : Bool
   -- how many items of each itag are seen
   pub seen : List ℕ
-  -- the workers and the edges by their nodes; an edge is that above its node, and the root's is always at home
+  -- the workers and the edges by their nodes; the edge of a node is the one above it, and the root's is always Home
   pub workers : List WorkerNote
   pub edges : List Edge
-  -- what was put out
+  -- what was emitted
   pub outs : List Out
 
--- the child of a node at a side, where the node has children
+-- the child of a node at a side, if the node has children
 abbrev pub side_of : Side → Option (ℕ × ℕ) → Option ℕ
 side_of s None = None
 side_of s (Some pair) = Some (at_side s pair.0 pair.1)

@@ -1,5 +1,5 @@
--- THE RULE OF THE NET: what holds after any list of steps, by node and by edge. Each worker keeps a rule of its own beside it. How a worker stands to the edges
--- that it touches is said by the ties of flu_worker; here stands which edge shows what, and what holds of the lots on it.
+-- THE RULE OF THE NET: what holds after any list of steps, by node and by edge. In addition, each worker keeps a rule of its own. The ties of flu_worker say
+-- how a worker relates to the edges that it touches; this file says which edge shows what, and what holds for the lots on it.
 use Rattle.std.specs.Prelude.{◌≡◌, ℕ, ◌<◌, ◌≤◌, true, false, Some, List, [], length, slice_get, slice_index, slice_index_or}
 use Rattle.flu_model.specs.declared.events.Out.{Out}
 use Rattle.flu_model.specs.Itags.{count_of_itags}
@@ -19,9 +19,9 @@ use Rattle.flu_net.specs.declared.edges.Edge.{Edge}
 use Rattle.flu_net.specs.declared.edges.Edge.TheVariants.{Home, Lent, Held, Asked, Given}
 use Rattle.flu_net.specs.Notes.{NetNote}
 
--- ---- a worker under its edge: the lot is with it exactly where the edge is Held or Asked
+-- ---- a worker under its edge: the lot is with it exactly if the edge is Held or Asked
 
--- a lot on its way down: it fits the node, and its counts go on from those of the lot given last
+-- a lot on its way down: it fits the node, and its counts continue from those of the lot given last
 pub record IsUnderLent (n : WorkerNote) (lot : Lot) : Type 0 where
   pub shut : HangsFrom n Away
   pub fits : LotFits n.case n.node lot
@@ -57,7 +57,7 @@ pub record IsOverHeld (s : Side) (n c : WorkerNote) : Type 0 where
   pub out : LetsTo s n LentOut
   pub loan : IsLoan s n c.held c.given
 
--- it is asked for the target that the worker keeps
+-- it is asked back for the target that the worker keeps
 pub record IsOverAsk (s : Side) (n c : WorkerNote) (y : Ask) : Type 0 where
   pub recalled : LetsTo s n (Recalled y)
   pub loan : IsLoan s n c.held c.given
@@ -86,15 +86,15 @@ pub record Ties (k : Content) (seen : List ℕ) (workers : List WorkerNote) (edg
   pub workers_each : length workers ≡ length (nodes k)
   pub edges_each : length edges ≡ length (nodes k)
   pub placed : (w : ℕ) (n : WorkerNote) → slice_get workers w ≡ Some n → IsPlaced k seen w n
-  -- nothing is above the root, which has the opening lot
+  -- the root has no edge above it, and has the opening lot
   pub top : slice_get edges 0 ≡ Some Home
   pub root : (n : WorkerNote) → slice_get workers 0 ≡ Some n → n.held ≡ none_counted k
   pub hangs : (w : ℕ) (n : WorkerNote) (e : Edge) → 0 < w → slice_get workers w ≡ Some n → slice_get edges w ≡ Some e → Hangs n e
   pub lets : (s : Side) (w l r : ℕ) (n c : WorkerNote) (e : Edge) → kids k w ≡ Some (l, r) → slice_get workers w ≡ Some n
       → slice_get edges (at_side s l r) ≡ Some e → slice_get workers (at_side s l r) ≡ Some c → Lets s n e c
 
--- a worker with the edge above it: what it keeps as its target, and is of an itag above it, is asked over this edge; its lot is not lost;
--- and the root has its lot, or parts of it are out
+-- a worker with the edge above it: if its target is of an itag above it, that target is asked over this edge; its lot is not lost; and the root has its lot,
+-- or parts of it are out
 pub record Stands (w : ℕ) (n : WorkerNote) (e : Edge) : Type 0 where
   pub asked : (y : Ask) → n.kept ≡ Some y → above_of n y.itag.0 ≡ true → e ≡ Asked y
   pub sound : is_lost n.hand ≡ false
@@ -108,7 +108,7 @@ pub record IsSeen (k : Content) (seen : List ℕ) : Type 0 where
   pub one_each : length seen ≡ count_of_itags (job k)
   pub there : (i : ℕ) → slice_index seen i ≤ length (slice_index_or (listed k.streams) i [])
 
--- OUTPUTS ONCE: `done` is, of each itag, what its owner counted, and the outputs are those of these events, each event's once
+-- OUTPUTS ONCE: `done` is, for each itag, what its owner counted, and the outputs are those of these events, each event's once
 pub record Tells (k : Content) (workers : List WorkerNote) (outs : List Out) : Type 0 where
   pub done : List ℕ
   pub long : length done ≡ count_of_itags (job k)
@@ -121,6 +121,6 @@ pub record Rule (n : NetNote) : Type 0 where
   pub stands : AllStand n.workers n.edges
   pub tells : Tells n.case n.workers n.outs
 
--- so it is, but where memory was wanting in a step
+-- this holds, unless memory ran out in a step
 abbrev pub IsWell : NetNote → Type 0
 IsWell n = n.gone ≡ false → Rule n

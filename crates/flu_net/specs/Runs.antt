@@ -1,4 +1,4 @@
--- STEPS AND RUNS: what a step does to the number of steps that are left, how long a list of steps can be, and what any list of steps comes to.
+-- STEPS AND RUNS: what a step does to the number of steps that are left, how long a list of steps can be, and what any list of steps leads to.
 use Rattle.std.specs.Prelude.{◌≡◌, ◌⊎◌, ℕ, ◌<◌, ◌≤◌, true, false, Some, List, [], ◌∷◌, length, slice_get}
 use Rattle.std.specs.List.Sorted.{IsPermutation}
 use Rattle.flu_model.specs.Folding.{final_outputs}
@@ -20,7 +20,7 @@ use Rattle.flu_net.specs.Notes.{NetNote}
 use Rattle.flu_net.specs.Rule.{Rule, Tells}
 use Rattle.flu_net.specs.Starting.{IsStart}
 
--- a step is made where it is enabled
+-- a step that is enabled is made
 pub record IsMade (s : Step) (old new : NetNote) : Type 0 where
   pub enabled : is_enabled old s ≡ true
   pub made : Makes s old new
@@ -38,11 +38,11 @@ abbrev pub Runs : List Step → NetNote → NetNote → Type 0
 Runs [] old new = new ≡ old
 Runs (s ∷ steps) old new = (next : NetNote) × IsMade s old next × Runs steps next new
 
--- so a net makes no more steps from the start on than the bound, in whatever order
+-- so from the start on a net makes no more steps than the bound, in whatever order
 abbrev pub RunsAreBounded : Type 0
 RunsAreBounded = (k : Content) (old new : NetNote) (steps : List Step) → IsStart k old → Runs steps old new → length steps ≤ most_steps k
 
--- ---- what any list of steps comes to
+-- ---- what any list of steps leads to
 
 -- the rule of the net holds, and each worker keeps its own
 pub record IsReached (k : Content) (n : NetNote) : Type 0 where
@@ -55,14 +55,14 @@ pub record IsReached (k : Content) (n : NetNote) : Type 0 where
 abbrev pub RunsKeepTheRule : Type 0
 RunsKeepTheRule = (k : Content) (old new : NetNote) (steps : List Step) → IsStart k old → Runs steps old new → IsReached k new
 
--- each partial state, on an edge or in a hand, is the one that its counts describe; what was put out are the outputs in the fold of the events that their owners
--- counted, each event's once; and where the net is final, they are the fold's in some order
+-- each partial state, on an edge or in a hand, is the one that its counts describe; the outputs emitted are those that the fold has for the events that their
+-- owners counted, each event's once; and if the net is final, they are the fold's in some order
 pub record TellsTheFold (k : Content) (n : NetNote) : Type 0 where
   pub edges : (w : ℕ) (lot : Lot) → (slice_get n.edges w ≡ Some (Lent lot)) ⊎ (slice_get n.edges w ≡ Some (Given lot)) → LotFits k w lot
   pub hands : (w : ℕ) (v : WorkerNote) → slice_get n.workers w ≡ Some v → LotsFit v v.holding
   pub outs : Tells k n.workers n.outs
   pub whole : IsFinal n → IsPermutation (final_outputs (job k) (held k.opening) (listed k.streams)) n.outs
 
--- RUNS TELL THE FOLD: so it is after every list of steps from the start, in whatever order
+-- RUNS TELL THE FOLD: this holds after every list of steps from the start, in whatever order
 abbrev pub RunsTellTheFold : Type 0
 RunsTellTheFold = (k : Content) (old new : NetNote) (steps : List Step) → IsStart k old → Runs steps old new → TellsTheFold k new

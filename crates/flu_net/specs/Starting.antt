@@ -10,7 +10,7 @@ use Rattle.flu_net.specs.declared.edges.Edge.TheVariants.{Home}
 use Rattle.flu_net.specs.Blocking.{AllKeep}
 use Rattle.flu_net.specs.Notes.{NetNote}
 
--- of the first nodes the workers are new, each of its node, and each keeps a worker's rule
+-- the workers of the first nodes are new, each at its node, and each keeps a worker's rule
 pub record AreNew (k : Content) (count : ℕ) (workers : List WorkerNote) : Type 0 where
   pub each : length workers ≡ count
   pub new : (w : ℕ) (n : WorkerNote) → slice_get workers w ≡ Some n → IsNew k w n

@@ -1,4 +1,4 @@
--- What a step at the edge to one child leaves to the edge to the other one.
+-- What a step at the edge to one child leaves unchanged for the edge to the other one.
 use Rattle.std.specs.Prelude.{◌≡◌, ℕ, true, Some}
 use Rattle.flu_fork.specs.declared.content.Content.{Content}
 use Rattle.flu_fork.specs.declared.lots.Ask.{Ask}
@@ -15,7 +15,7 @@ pub record IsKid (k : Content) (w v : ℕ) : Type 0 where
   pub are : kids k w ≡ Some (left, right)
   pub is : v ≡ at_side side left right
 
--- what the edge to the child at side s sees of the worker
+-- what the edge to the child at side s shows of the worker
 pub record StaysAt (s : Side) (old new : WorkerNote) : Type 0 where
   pub lent : lent_to s new ≡ lent_to s old
   pub taken : taken_from s new ≡ taken_from s old

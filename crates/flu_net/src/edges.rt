@@ -10,7 +10,7 @@ ghost use Rattle.flu_worker.specs.Hands as hands;
 use flu_fork::{Ask, Case, Lot};
 use flu_worker::{Hand, Side};
 
-/// An edge of the tree, by the phase of the loan that goes over it, with the lot or the ask that is on it.
+/// An edge of the tree, by the phase of the loan over it, with the lot or the ask that is on it.
 #[derive(Drop)]
 pub enum Edge {
     /// Nothing is on it: what the lower worker gave was taken, or nothing was lent yet.
@@ -25,7 +25,7 @@ pub enum Edge {
     Given(Lot),
 }
 
-/// The child of a node at a side, where there is one.
+/// The child of a node at a side, if there is one.
 pub fn kid_of(case: &Case, w: u32, side: Side) -> Option<u32>
     ensures { result ≡ notes.kid_of case.now w side }
 {
@@ -47,7 +47,7 @@ fn at_side(side: Side, left: u32, right: u32) -> u32
     }
 }
 
-/// The part for this side is to be lent.
+/// Whether the part for this side is still to be lent.
 pub fn may_lend(side: Side, hand: Hand) -> bool
     ensures { result ≡ hands.may_lend side hand }
 {
@@ -57,7 +57,7 @@ pub fn may_lend(side: Side, hand: Hand) -> bool
     }
 }
 
-/// The part of this side is to be taken.
+/// Whether the part of this side is to be taken.
 pub fn may_take(side: Side, hand: Hand) -> bool
     ensures { result ≡ hands.may_take side hand }
 {
@@ -77,7 +77,7 @@ fn part(side: Side, left: bool, right: bool) -> bool
     }
 }
 
-/// A lot is on its way down over the edge above a node.
+/// Whether a lot is on its way down over the edge above a node.
 pub fn lent_at(edges: &[Edge], v: u32) -> bool
     ensures { result ≡ is_lent (slice_get edges.now v) }
 {
@@ -87,7 +87,7 @@ pub fn lent_at(edges: &[Edge], v: u32) -> bool
     }
 }
 
-/// The edge above a node, where there is one, is Held.
+/// Whether the edge above a node, if there is one, is Held.
 pub fn held_at(edges: &[Edge], v: Option<u32>) -> bool
     ensures { result ≡ is_held (edge_at edges.now v) }
 {
@@ -100,7 +100,7 @@ pub fn held_at(edges: &[Edge], v: Option<u32>) -> bool
     }
 }
 
-/// A lot is on its way up over the edge above a node, where there is one.
+/// Whether a lot is on its way up over the edge above a node, if there is one.
 pub fn given_at(edges: &[Edge], v: Option<u32>) -> bool
     ensures { result ≡ is_given (edge_at edges.now v) }
 {
@@ -123,7 +123,7 @@ pub fn ask_at(edges: &[Edge], v: u32) -> Option<Ask>
     }
 }
 
-/// Puts something on the edge above a node, and hands out what was on it.
+/// Puts something on the edge above a node, and returns what was on it.
 pub fn put(edges: &mut Vec<Edge>, v: u32, edge: Edge) -> Edge
     requires { v < length edges.old.items }
     ensures was { slice_get edges.old.items v ≡ Some result }

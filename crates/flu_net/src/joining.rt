@@ -1,4 +1,4 @@
-//! The lots of a net in which nothing is left to do are joined.
+//! Joining the lots of a net in which nothing is left to do.
 
 ghost use Rattle.std.specs.Prelude.{◌≡◌, ◌<◌, ℕ, None, Some, length, slice_get, slice_set, IfOk, IsSome, OnOk};
 ghost use Rattle.flu_model.specs.Owners.{parent_of};
@@ -17,8 +17,8 @@ use flu_fork::{Case, Lot, join};
 use flu_worker::Worker;
 use std::alloc::{AllocError, Global};
 
-/// The lot of the whole tree. From the last node to the root each one's lot goes up: a leaf's is its worker's, and that of a node
-/// with children is what theirs join to.
+/// The lot of the whole tree. From the last node to the root each node's lot goes up: the lot of a leaf is its worker's, and the lot
+/// of a node with children is what their lots join to.
 pub fn whole_lot(
     alloc: Global,
     case: &Case,
@@ -45,7 +45,7 @@ pub fn whole_lot(
     lot_at(alloc, case, 0, root, &mut edges)
 }
 
-// A lot goes up from a node.
+// Sends a lot up from a node.
 fn put_up(edges: &mut Vec<Edge>, w: u32, lot: Lot)
     requires { w < length edges.old.items }
     ensures { edges.new.items ≡ slice_set edges.old.items w (Given lot) }
@@ -53,7 +53,7 @@ fn put_up(edges: &mut Vec<Edge>, w: u32, lot: Lot)
     put(edges, w, Edge::Given(lot));
 }
 
-// The lot of a node, with those of its children, which came up.
+// The lot of a node, from those of its children, which came up.
 fn lot_at(
     alloc: Global,
     case: &Case,
@@ -93,7 +93,7 @@ fn leaf_lot(worker: Worker) -> Lot
     lot
 }
 
-// The lot of a node with children: the parts that its worker lent last were those of one fork.
+// The lot of a node with children: the parts that its worker lent last came from one fork.
 fn inner_lot(
     alloc: Global,
     case: &Case,

@@ -5,7 +5,7 @@ ghost use Rattle.flu_net.specs.Facts.{EventsAreExact, PartsArePaired, OwnersCoun
 ghost use Rattle.flu_net.specs.LawsBelow.{LawsBelow};
 ghost use Rattle.flu_net.specs.Runs.{StepsLower, StartsAreBounded, RunsAreBounded, RunsKeepTheRule, RunsTellTheFold};
 
-/// Each step lowers the number of steps that are left, which is bounded at the start. So no more steps can be made than
+/// Each step lowers the number of steps that are left, and this number is bounded at the start. So no more steps can be made than
 /// items + events + 8 · nodes · (events + 1), however they are ordered.
 pub fn steps_are_bounded()
     ensures step { StepsLower }
@@ -16,9 +16,9 @@ pub fn steps_are_bounded()
     flu_deps::laws::plans_are_trees();
 }
 
-/// The rule of the net holds after every list of steps from the start, each made where it is enabled. So each partial state, on an edge
-/// or in a hand, is the one that its counts describe; what was put out are the outputs of the fold for the events counted by their
-/// owners, each event's once; and where the net is final, they are all outputs of the fold in some order.
+/// The rule of the net holds after every list of steps from the start, each enabled when it is made. So each partial state, on an edge or
+/// in a hand, is the one that its counts describe; the outputs emitted are those that the fold has for the events counted by their
+/// owners, each event's once; and if the net is final, they are all outputs of the fold in some order.
 pub fn runs_tell_the_fold()
     ensures rule { RunsKeepTheRule }
     ensures fold { RunsTellTheFold }
@@ -26,10 +26,10 @@ pub fn runs_tell_the_fold()
     laws_below();
 }
 
-/// What holds after every list of steps from the start, fact by fact. The counts of the lot in a worker's hand are exact for the event
-/// that the worker handles: of each itag on which the event depends, just the events before it are counted. The two parts of a
-/// worker's lot, wherever they are, are paired. And the owners of the itags have counted a prefix for dependent events: with an event
-/// each earlier one on which it depends.
+/// What holds after every list of steps from the start, fact by fact. When a worker handles an event, the counts of the lot in its hand
+/// are exact for it: of each itag on which the event depends, exactly the events before it are counted. The two parts of a worker's
+/// lot, wherever they are, are paired. And what the owners of the itags counted is a prefix for dependent events: with an event, each
+/// earlier one on which it depends.
 pub fn facts_of_runs()
     ensures exact { EventsAreExact }
     ensures paired { PartsArePaired }
@@ -38,8 +38,8 @@ pub fn facts_of_runs()
     laws_below();
 }
 
-/// Steps determine what may follow them: two nets of one case that the same steps came to have the same steps enabled, and one is
-/// final exactly where the other is.
+/// Steps determine what may follow them: two nets of one case that the same steps led to have the same steps enabled, and one is
+/// final exactly if the other is.
 pub fn steps_determine()
     ensures start { StartsAreAlike }
     ensures step { StepsKeepAlike }

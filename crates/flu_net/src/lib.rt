@@ -1,4 +1,4 @@
-//! The whole tree of workers in one hand: every list of its steps keeps the rule of the net (`docs/TREE.md`).
+//! The whole tree of workers as one value: every list of its steps keeps the rule of the net (`docs/TREE.md`).
 #![tactic(auto)]
 
 mod edges;

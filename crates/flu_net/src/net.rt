@@ -34,12 +34,12 @@ use flu_worker::{Side, Worker};
 use std::alloc::{AllocError, Global};
 use std::marker::Model;
 
-/// The whole tree of workers in one hand (`docs/TREE.md`).
+/// The whole tree of workers as one value (`docs/TREE.md`).
 ///
-/// It has a worker for each node of the plan, for each node but the root the edge above it, how many items of each itag are seen,
-/// and what was put out. Its calls are for the case that it was made with.
+/// It has a worker for each node of the plan, the edge above each node but the root, how many items of each itag are seen, and what
+/// was emitted. Its calls are for the case that it was made with.
 ///
-/// A step that wants memory and finds none leaves a net that is to be given up: nothing is enabled any more.
+/// A step that runs out of memory leaves a net that must be discarded: nothing is enabled any more.
 #[derive(Drop)]
 pub struct Net {
     case: CaseNote,
@@ -67,11 +67,11 @@ impl Model for Net {
 }
 
 impl Net {
-    /// The net at the start: no item is seen, and each worker and each edge is as at the start.
+    /// The net at the start: no item is seen, and each worker and each edge is in its first state.
     ///
     /// # Errors
     ///
-    /// Only where memory is wanting.
+    /// Only if memory runs out.
     pub fn new(alloc: Global, case: &Case) -> Result<Net, AllocError>
         ensures start { IfOk result (IsStart case.now) }
         ensures most { IfOk result (λ n. steps_left n ≤ most_steps case.now) }
@@ -91,7 +91,7 @@ impl Net {
         })
     }
 
-    /// What was put out: of each event that its owner counted the outputs in the fold, each event's once.
+    /// What was emitted: for each event that its owner counted, its outputs in the fold, each event's once.
     pub fn outputs(&self) -> &Outs
         ensures same { result.now ≡ self.now.outs }
         ensures once { self.now.gone ≡ false → Tells self.now.case self.now.workers self.now.outs }
@@ -107,8 +107,8 @@ impl Net {
         let _gone = &self.gone;
     }
 
-    /// The net never blocks: no step is enabled exactly where it is final, so where all items are seen, each worker has counted all
-    /// events of its own itags and of those above it, and each leaf has its lot. This call does nothing but go over the workers.
+    /// The net never blocks: no step is enabled exactly if it is final, that is, all items are seen, each worker has counted all events
+    /// of its own itags and of those above it, and each leaf has its lot. This call only goes over the workers.
     pub fn never_blocks(&self)
         ensures { self.now.gone ≡ false → (IsQuiet self.now ↔ IsFinal self.now) }
     {
@@ -135,13 +135,13 @@ impl Net {
         }
     }
 
-    /// Makes a step, where it is enabled. Fewer steps are left then, whichever it was: so a list of steps that are made is no longer than
-    /// the number of those that are left at the start.
+    /// Makes a step, if it is enabled. Afterwards fewer steps are left, whichever step it was: so a list of steps that are made is no longer
+    /// than the number of steps left at the start.
     ///
     /// # Errors
     ///
-    /// `NotEnabled` exactly where the step is not enabled: the net is as it was. `NoMemory` where memory is wanting: the net is to be
-    /// given up then.
+    /// `NotEnabled` exactly if the step is not enabled: the net is as it was. `NoMemory` if memory runs out: the net must then be
+    /// discarded.
     pub fn step(&mut self, alloc: Global, case: &Case, s: Step) -> Result<(), StepFault>
         requires { case.now ≡ self.old.case }
         ensures not_enabled { IsErrOf result StepFault.NotEnabled ↔ (is_enabled self.old s ≡ false) }
@@ -166,7 +166,7 @@ impl Net {
     // ---- the end
 
     /// Whether nothing is left to do: all items of each itag are seen, and each worker has counted all events of its node's own itags
-    /// and of those above it, and each leaf has its lot. A net that is to be given up is not final. It takes no memory.
+    /// and of those above it, and each leaf has its lot. A net that must be discarded is not final. It takes no memory.
     pub fn is_final(&self, case: &Case) -> bool
         requires { case.now ≡ self.now.case }
         ensures exact { self.now.gone ≡ false → ((result ≡ true) ↔ IsFinal self.now) }
@@ -187,7 +187,7 @@ impl Net {
     ///
     /// # Errors
     ///
-    /// Only where memory is wanting.
+    /// Only if memory runs out.
     pub fn joined(self, alloc: Global, case: &Case) -> Result<(State, Outs), AllocError>
         requires case { case.now ≡ self.case }
         requires gone { self.gone ≡ false }

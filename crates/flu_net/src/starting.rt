@@ -10,7 +10,7 @@ use flu_fork::{Case, Counts};
 use flu_worker::Worker;
 use std::alloc::{AllocError, Global};
 
-/// No event of any of so many itags.
+/// A count of 0 for each of this many itags.
 pub fn no_counts(alloc: Global, itags: u32) -> Result<Counts, AllocError>
     ensures { IfOk result (λ counts. counts ≡ map (λ i. 0) (range_with_len 0 itags)) }
 {

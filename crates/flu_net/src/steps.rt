@@ -3,7 +3,7 @@
 use flu_model::Itag;
 use flu_worker::Side;
 
-/// A step of the net. Nodes and itags are numbered from 0; one that is not there makes a step that is not enabled.
+/// A step of the net. Nodes and itags are numbered from 0; a step that names one that does not exist is not enabled.
 #[derive(Clone, Copy, PartialEq, Eq, Debug)]
 pub enum Step {
     /// One more item of the itag is seen.
@@ -27,6 +27,6 @@ pub enum Step {
 pub enum StepFault {
     /// It is not enabled. The net is as it was.
     NotEnabled,
-    /// Memory was wanting. The net is to be given up: nothing is enabled any more.
+    /// Memory ran out. The net must be discarded: nothing is enabled any more.
     NoMemory,
 }

@@ -1,4 +1,4 @@
--- Itags that depend on each other as a graph, and its components on some of them. An itag stands for its number.
+-- Dependencies between itags as a graph, and its components on some of them. An itag is given by its number.
 use Rattle.std.specs.Prelude.{◌≡◌, ◌≢◌, ℕ, Bool, true, nat_lt, ◌==◌, ◌&&◌, ◌||◌, List, [], ◌∷◌, Contains, slice_index, IsTrue}
 use Rattle.flu_lemmas.specs.Sorting.{in_order}
 use Rattle.flu_lemmas.specs.Totals.{total}
@@ -62,7 +62,7 @@ pub record IsComponent (g : Graph) (itags component : List ℕ) : Type 0 where
 
 -- ---- rates
 
--- the rate of an itag, where they stand by the itags' numbers
+-- the rate of an itag, from a list by the itags' numbers
 abbrev pub rate_of : List ℕ → ℕ → ℕ
 rate_of rates i = slice_index rates i
 
@@ -74,7 +74,7 @@ abbrev pub least : List ℕ → ℕ
 least [] = 0
 least (i ∷ rest) = i
 
--- the order of components: by falling total rate, and of equal totals the one with the least itag first
+-- the order of components: by falling total rate, and for equal totals the one with the least itag first
 abbrev pub comes_first : List ℕ → List ℕ → List ℕ → Bool
 comes_first rates a b =
     nat_lt (total_rate rates b) (total_rate rates a) || (total_rate rates a == total_rate rates b && nat_lt (least a) (least b))

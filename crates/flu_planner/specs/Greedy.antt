@@ -9,7 +9,7 @@ pub data Tree : Type 0 where
   Leaf : (own : List ℕ) → Tree
   Inner : (own : List ℕ) → (left right : Tree) → Tree
 
--- Itags are parted: the fewest in the order of removal are the node's own, and the components of the others are grouped for the two children.
+-- itags are divided: the fewest in the order of removal are the node's own, and the components of the others are grouped for the two children
 pub record IsParting (g : Graph) (rates itags own left right : List ℕ) : Type 0 where
   pub count : ℕ
   pub least_cut : IsLeastCut g rates itags count
@@ -23,7 +23,7 @@ pub record IsParting (g : Graph) (rates itags own left right : List ℕ) : Type 
 abbrev pub IsLeaf : Graph → List ℕ → ℕ → List ℕ → Type 0
 IsLeaf g rates depth itags = (depth ≡ 0) ⊎ ((length itags ≤ 1) ⊎ IsWhole g rates itags)
 
--- the tree is the greedy one of these itags, given by rising number, at this depth
+-- the tree is the greedy one for these itags, given by rising number, at this depth
 abbrev pub IsGreedy : Graph → List ℕ → ℕ → List ℕ → Tree → Type 0
 IsGreedy g rates depth itags (Leaf own) = (own ≡ itags) × IsLeaf g rates depth itags
 IsGreedy g rates zero itags (Inner own left right) = ⊥

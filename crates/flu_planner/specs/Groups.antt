@@ -1,8 +1,8 @@
--- How components are parted between two children.
+-- How components are divided between two children.
 use Rattle.std.specs.Prelude.{ℕ, Bool, nat_lt, nat_le, ◌==◌, ◌&&◌, ◌||◌, List, [], ◌∷◌, ◌++◌, length, if◌then◌else◌}
 use Rattle.flu_planner.specs.Graphs.{total_rate}
 
--- the next component goes to the group with the smaller total rate so far; of equal totals to the one with fewer itags, and of equal numbers to the left one
+-- the next component goes to the group with the smaller total rate so far; for equal totals to the one with fewer itags, and for equal numbers to the left one
 abbrev pub goes_left : List ℕ → List ℕ → List ℕ → Bool
 goes_left rates left right =
     nat_lt (total_rate rates left) (total_rate rates right)

@@ -1,4 +1,4 @@
--- What holds of every greedy plan.
+-- Laws about every greedy plan.
 use Rattle.std.specs.Prelude.{◌≡◌, ℕ, ◌≤◌, List, Ok, IsTrue}
 use Rattle.std.specs.List.{list_all}
 use Rattle.flu_model.specs.declared.jobs.Program.{Program}
@@ -24,7 +24,7 @@ abbrev pub GreedyHasText : Type 0
 GreedyHasText = (p : Program) (rates : List ℕ) (depth : ℕ) (nodes : List Node) → depth ≤ 6 → IsGreedyPlan p rates depth nodes → IsTrue
     (nodes_fit p nodes) × IsTrue (list_all (λ (node : Node). is_name node.name) nodes)
 
--- its text is read as this plan again
+-- its text is parsed as this plan again
 abbrev pub GreedyIsReadAgain : Type 0
 GreedyIsReadAgain = (p : Program) (rates : List ℕ) (depth : ℕ) (nodes : List Node) → depth ≤ 6 → IsGreedyPlan p rates depth nodes → plan_in p
     (printed p nodes) ≡ Ok nodes

@@ -7,16 +7,16 @@ use Rattle.flu_planner.specs.Greedy.{Tree, IsGreedy, IsParting}
 use Rattle.flu_planner.specs.Plans.{nodes_from}
 use Rattle.flu_lemmas.specs.Counting.{times}
 
--- what remains of itags in an order when so many are removed has at least two components, and with no fewer it has
+-- when this many itags in an order are removed, the rest has at least two components, and when fewer are removed, it does not
 pub record IsFirstApart (g : Graph) (order : List ℕ) (count : ℕ) : Type 0 where
   pub apart : IsApart g (rising (drop count order))
   pub least : (fewer : ℕ) → fewer < count → IsApart g (rising (drop fewer order)) → ⊥
 
--- with no number of removals it has
+-- for no number of removals does the rest have at least two components
 abbrev pub IsNeverApart : Graph → List ℕ → Type 0
 IsNeverApart g order = (count : ℕ) → IsApart g (rising (drop count order)) → ⊥
 
--- a parting in which each itag stands on one side, once
+-- a division in which each itag is on one side, once
 pub record IsPartingOnce (g : Graph) (rates itags own left right : List ℕ) : Type 0 where
   pub parting : IsParting g rates itags own left right
   pub once : (k : ℕ) → times k own + times k left + times k right ≡ times k itags

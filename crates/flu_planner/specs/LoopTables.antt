@@ -36,6 +36,6 @@ in_row (Some row) j = is_set (slice_get row j)
 abbrev pub read : List (List Bool) → ℕ → ℕ → Bool
 read table i j = in_row (slice_get table i) j
 
--- the graph that joins two itags where the row of the lesser says so
+-- the graph that joins two itags if the row of the lesser says so
 unfoldable pub graph_of : List (List Bool) → Graph
 graph_of table i j = if nat_lt i j then read table i j else read table j i

@@ -87,7 +87,7 @@ pub fn is_apart(alloc: Global, table: &[List<bool>], itags: &[u32]) -> Result<bo
     Ok(!found.rest.is_empty())
 }
 
-/// The components of the graph on the itags, by falling total rate, and of equal totals by their least itags.
+/// The components of the graph on the itags, by falling total rate, and for equal totals by their least itags.
 pub fn components(
     alloc: Global,
     table: &[List<bool>],
@@ -109,7 +109,7 @@ pub fn components(
     Ok(components)
 }
 
-// Adds a component behind those whose total rate is not less.
+// Adds a component after those whose total rate is not less.
 fn add_component(
     components: &mut Vec<List<u32>>,
     rates: &[u64],

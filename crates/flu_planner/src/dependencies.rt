@@ -1,4 +1,4 @@
-//! Which itags of a job depend on each other, in a table, since it is asked for each pair again and again.
+//! Which itags of a job depend on each other, in a table, since each pair is looked up again and again.
 
 ghost use Rattle.std.specs.Prelude.{◌≡◌, ◌<◌, IfOk, slice_get};
 ghost use Rattle.flu_model.specs.Itags.{count_of_itags, tag_of_itag};
@@ -8,7 +8,7 @@ use flu_deps::dep;
 use flu_model::{Itag, List, Program, Tag, itag_count, tag_of};
 use std::alloc::{AllocError, Global};
 
-/// The table: a row for each itag, with a place for each. A place is set where its itag depends on the row's and is not the lesser.
+/// The table: a row for each itag, with a place for each. A place is set if its itag depends on the row's and is not the lesser.
 #[tactic(auto, unfolding(crate::specs::LoopTables::table_of))]
 pub fn table(alloc: Global, p: &Program) -> Result<Vec<List<bool>>, AllocError>
     ensures { IfOk result (λ table. table.items ≡ table_of p.now) }
@@ -46,7 +46,7 @@ fn row(alloc: Global, p: &Program, tags: &[Tag], i: u32) -> Result<Vec<bool>, Al
     Ok(row)
 }
 
-// What stands at a place of the row of an itag: theirs are the two tags.
+// The entry at a place of the row of an itag; the two tags are those of the row and of the place.
 fn entry(p: &Program, i: u32, j: u32, tag: Tag, other: Tag) -> bool
     requires tag { tag ≡ tag_of_itag p.now (record { 0 = i }) }
     requires other { other ≡ tag_of_itag p.now (record { 0 = j }) }

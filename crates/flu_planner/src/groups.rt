@@ -1,4 +1,4 @@
-//! How itags are parted between a node and its two children.
+//! How itags are divided between a node and its two children.
 
 ghost use Rattle.std.specs.Prelude.{◌≡◌, [], IfOk, IsTrue, MatchOption};
 ghost use Rattle.flu_planner.specs.Graphs.{is_rising};
@@ -12,7 +12,7 @@ use crate::removal::{least_cut, removal_order, rising, total_rate};
 use flu_model::List;
 use std::alloc::{AllocError, Global};
 
-/// The itags of a node and those that its children plan, each by rising number.
+/// The itags that a node owns and those planned for its children, each by rising number.
 #[derive(Drop)]
 pub struct Parting {
     pub own: Vec<u32>,
@@ -52,7 +52,7 @@ fn grouped(alloc: Global, rates: &[u64], components: &[List<u32>]) -> Result<Gro
     Ok(Groups { left, right })
 }
 
-/// The parting of a node's itags; none where no removal leaves at least two components.
+/// How a node's itags are divided; none if no removal leaves at least two components.
 pub fn part(
     alloc: Global,
     table: &[List<bool>],

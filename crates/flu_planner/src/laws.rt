@@ -1,4 +1,4 @@
-//! What holds of every greedy plan. Each law is the contract of a function that does nothing.
+//! Laws about every greedy plan. Each law is the contract of a function that does nothing.
 
 ghost use Rattle.flu_planner.specs.Laws.{GreedyKeepsRules, GreedyIsValid, GreedyHasText, GreedyIsReadAgain, GreedyIsUnique};
 
@@ -25,7 +25,7 @@ pub fn greedy_plans_have_text()
     itags_have_tags();
 }
 
-/// A greedy plan's text is read as this plan again.
+/// A greedy plan's text is parsed as this plan again.
 pub fn greedy_plans_are_read_again()
     ensures { GreedyIsReadAgain }
 {

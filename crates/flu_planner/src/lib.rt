@@ -1,4 +1,4 @@
-//! The greedy plan of a job by the rates of its itags (`docs/TREE.md`).
+//! The greedy plan of a job for the rates of its itags (`docs/TREE.md`).
 #![tactic(auto)]
 
 ghost use Rattle.std.specs.Prelude.{◌≡◌, ◌≤◌, ◌^◌, Ok, IfOk, length, slice_index, EachIndex};
@@ -20,22 +20,21 @@ pub use flu_deps::{Checked, Valid};
 use flu_model::{List, Plan};
 use std::alloc::{AllocError, Global};
 
-/// The greedy plan of all itags of an accepted job, where the rates stand by the itags' numbers, of a depth of at most 6.
+/// The greedy plan of all itags of an accepted job, for rates listed by the itags' numbers, of a depth of at most 6.
 ///
-/// The graph on some itags joins those that depend on each other. Itags are removed, one by one, by rising rate and of equal rates
-/// by number, until what remains has at least two components; none is removed where this holds at once. A node is a leaf that
-/// owns all its itags where the depth is 0, where it has at most one itag, or where no such removal leaves two components. Else
-/// the removed itags are its own. The components are taken by falling total rate, of equal totals the one with the least itag
-/// first, and each goes to the group with the smaller total so far, of equal totals to the one with fewer itags, and of equal
-/// numbers to the left one. The left group is planned for the left child and the right group for the right child, with a depth
-/// that is one less.
+/// The graph on some itags joins those that depend on each other. Itags are removed, one by one, by rising rate and for equal rates
+/// by number, until the rest has at least two components; none is removed if this holds at once. A node is a leaf that owns all its
+/// itags if the depth is 0, if it has at most one itag, or if no such removal leaves two components. Otherwise the removed itags are
+/// its own. The components are taken by falling total rate, for equal totals the one with the least itag first, and each goes to the
+/// group with the smaller total so far, for equal totals to the one with fewer itags, and for equal numbers to the left one. The left
+/// group is planned for the left child and the right group for the right child, with a depth that is one less.
 ///
 /// The nodes are named `n0`, `n1` and so on in preorder. Each itag has a predicate of its own, by rising number. The text of the
-/// plan is read as this plan again.
+/// plan is parsed as this plan again.
 ///
 /// # Errors
 ///
-/// Only where memory is wanting.
+/// Only if memory runs out.
 pub fn plan(alloc: Global, c: &Checked, rates: &[u64], depth: u32) -> Result<Valid, AllocError>
     requires one_each { length rates.now ≡ count_of_itags (program_of c.now) }
     requires small { EachIndex rates.now (λ k. slice_index rates.now k ≤ 2 ^ 40) }

@@ -67,7 +67,7 @@ fn node_of(
     Ok(Node { name, preds, kids })
 }
 
-// The nodes of the greedy plan of some itags, by rising number, at a depth, where the first has this number.
+// The nodes of the greedy plan of some itags, by rising number, at a depth, with this number for the first node.
 fn subtree(
     alloc: Global,
     p: &Program,

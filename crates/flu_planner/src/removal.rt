@@ -1,4 +1,4 @@
-//! Which itags are removed so that the others fall apart, and the orders of itags.
+//! Which itags are removed so that the others fall into components, and the orders of itags.
 
 ghost use Rattle.std.specs.Prelude.{◌≡◌, ℕ, ◌≤◌, IfOk, MatchOption, position, length};
 ghost use Rattle.std.specs.List.{position_or_len};
@@ -21,7 +21,7 @@ fn rate_of(rates: &[u64], i: u32) -> u64
     }
 }
 
-/// The total rate of some itags. It has room for as many as there can be.
+/// The total rate of some itags. Its type has room for as many as there can be.
 pub fn total_rate(rates: &[u64], itags: &[u32]) -> u128
     ensures { result ≡ total_rate rates.now itags.now }
 {
@@ -40,7 +40,7 @@ fn is_removed_first(rates: &[u64], i: u32, j: u32) -> bool
     rate < other || (rate == other && i < j)
 }
 
-// The first of some itags that is removed behind this one.
+// The first of some itags that is removed after this one.
 fn first_behind(rates: &[u64], i: u32, others: &[u32]) -> Option<usize>
     ensures { result ≡ position (is_removed_first rates.now i) others.now }
 {
@@ -58,7 +58,7 @@ fn place_of(rates: &[u64], i: u32, others: &[u32]) -> usize
     }
 }
 
-/// The itags in the order of removal: by rising rate, and of equal rates by rising number.
+/// The itags in the order of removal: by rising rate, and for equal rates by rising number.
 pub fn removal_order(alloc: Global, rates: &[u64], itags: &[u32]) -> Result<Vec<u32>, AllocError>
     ensures { IfOk result (λ order. order.items ≡ removal_order rates.now itags.now) }
 {
@@ -81,8 +81,8 @@ pub fn rising(alloc: Global, itags: &[u32]) -> Result<Vec<u32>, AllocError>
     Ok(order)
 }
 
-/// How many of the itags, in the order of removal, have to be removed so that the others have at least two components; none
-/// where no number of them does.
+/// How many of the itags, in the order of removal, must be removed so that the others have at least two components; none
+/// if no number of them does.
 pub fn least_cut(
     alloc: Global,
     table: &[List<bool>],

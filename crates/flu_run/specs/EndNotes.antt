@@ -1,4 +1,4 @@
--- What contracts see of the end above a worker, and what a thread leaves as it is.
+-- What contracts see of the end above a worker, and what a thread leaves unchanged.
 use Rattle.std.specs.Prelude.{◌≡◌, ◌≤◌, false, [], None}
 use Rattle.atomic_table.specs.Seated.{TableId}
 use Rattle.flu_fork.specs.declared.content.Content.{Content}
@@ -13,7 +13,7 @@ use Rattle.flu_run.specs.declared.ends.End.TheVariants.{Linked, Top}
 abbrev pub no_link : TableId
 no_link = record { words = 0; slots = 0; views_name = 0; atom = 0; block = 0; offset = 0; slot_names = [] }
 
--- the end above the root, where there is none: it holds the opening lot, and is never asked
+-- the end above the root, which has no link: it holds the opening lot, and is never asked
 abbrev pub top_start : Content → LowerNote
 top_start k = record {
   link = no_link;
@@ -39,7 +39,7 @@ pub record IsSameEnd (old new : LowerNote) : Type 0 where
   pub case : new.case ≡ old.case
   pub lower : new.lower ≡ old.lower
 
--- what is said of lots is as before; the phase may be another, and the end may have stopped
+-- what is known about lots is as before; the phase may be another, and the end may have stopped
 pub record IsSameLoan (old new : LowerNote) : Type 0 where
   pub link : new.link ≡ old.link
   pub case : new.case ≡ old.case
@@ -48,17 +48,17 @@ pub record IsSameLoan (old new : LowerNote) : Type 0 where
   pub given : new.given ≡ old.given
   pub ask : new.ask ≡ old.ask
 
--- a look at the phase: while the end holds a lot, the upper end can only ask for it
+-- a check of the phase: while the end holds a lot, the upper end can only ask for it
 pub record LooksUp (old new : LowerNote) : Type 0 where
   pub same : IsSameLoan old new
   pub still : phase_held ≤ old.phase → old.phase ≤ phase_asked → (phase_held ≤ new.phase) × (new.phase ≤ phase_asked)
 
--- a stop, or a look whether to stop
+-- a stop, or a check whether to stop
 pub record LooksAside (old new : LowerNote) : Type 0 where
   pub same : IsSameLoan old new
   pub phase : new.phase ≡ old.phase
 
--- and the same of the end below
+-- and the same for the end below
 pub record LooksAsideBelow (old new : UpperNote) : Type 0 where
   pub link : new.link ≡ old.link
   pub case : new.case ≡ old.case

@@ -14,7 +14,7 @@ use Rattle.flu_run.specs.Starts.{StartsAt, EndStarts}
 use Rattle.flu_run.specs.Stays.{IsSameUpper}
 use Rattle.flu_run.specs.Ties.{Hangs, Lets, Tells}
 
--- the same worker and ends, of which the one above noted Held, with no event left
+-- the same worker and ends, where the end above noted Held, with no event left
 pub record Rests (n0 : WorkerNote) (l0 : LowerNote) (u0 v0 : UpperNote) (n : WorkerNote) (l : LowerNote) (u v : UpperNote) (outs : List Out) : Type 0 where
   pub case : n.case ≡ n0.case
   pub node : n.node ≡ n0.node

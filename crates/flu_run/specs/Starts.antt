@@ -15,7 +15,7 @@ pub record StartsAt (k : Content) (w : ℕ) (l : LowerNote) : Type 0 where
   pub link : TableId
   pub is : ((0 < w) × (l ≡ lower_start link k w)) ⊎ ((w ≡ 0) × (l ≡ top_start k))
 
--- what was asked when the end above was looked at
+-- what was asked when the end above was checked
 pub record IsAskedNow (n : WorkerNote) (l : LowerNote) (y : Ask) : Type 0 where
   pub noted : l.ask ≡ Some y
   pub tie : HangsFrom n (AskedFor y)

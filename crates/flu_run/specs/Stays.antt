@@ -1,4 +1,4 @@
--- What the steps at one end of a worker leave to its other ends.
+-- What the steps at one end of a worker leave unchanged for its other ends.
 use Rattle.std.specs.Prelude.{◌≡◌, ◌⊎◌, true, false, Some}
 use Rattle.flu_fork.specs.declared.lots.Ask.{Ask}
 use Rattle.flu_worker.specs.declared.hand.Side.{Side}
@@ -27,7 +27,7 @@ pub record StaysThere (s : Side) (old new : WorkerNote) : Type 0 where
   pub take : may_take (other s) old.hand ≡ true → may_take (other s) new.hand ≡ true
   pub kept : (a : Ask) → old.kept ≡ Some a → new.kept ≡ Some a
 
--- what steps at the ends below leave to the end above
+-- what steps at the ends below leave unchanged for the end above
 pub record StaysUnder (old new : WorkerNote) : Type 0 where
   pub place : IsSamePlace old new
   pub held : new.held ≡ old.held

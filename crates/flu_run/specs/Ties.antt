@@ -1,5 +1,5 @@
--- What a worker's thread keeps between any two calls: how the worker stands to the ends that it holds, and to its outputs. How a worker stands to an edge is said
--- by the ties of flu_worker; here stands what the ends of the links have noted.
+-- What a worker's thread maintains between any two calls: how the worker relates to the ends that it holds, and to its outputs. The ties of flu_worker say how
+-- a worker relates to an edge; this file says what the ends of the links have noted.
 use Rattle.std.specs.Prelude.{◌≡◌, ◌⊎◌, ℕ, ◌≤◌, true, false, Some, List}
 use Rattle.flu_model.specs.declared.events.Out.{Out}
 use Rattle.flu_fork.specs.declared.lots.Ask.{Ask}
@@ -11,7 +11,7 @@ use Rattle.flu_worker.specs.Notes.{WorkerNote, own_of}
 use Rattle.flu_worker.specs.Ties.{Here, AskedFor, AtHome, LentOut, Recalled, HangsFrom, LetsTo, IsLoan}
 use Rattle.flu_link.specs.Notes.{UpperNote, LowerNote, phase_held, phase_asked, phase_given}
 
--- the end noted Asked last, for an event that is asked of the worker
+-- the end noted Asked last, for an event for which the worker's lot is asked
 pub record IsAskedFor (n : WorkerNote) (l : LowerNote) : Type 0 where
   pub phase : l.phase ≡ phase_asked
   pub ask : Ask
@@ -26,7 +26,7 @@ pub record Hangs (n : WorkerNote) (l : LowerNote) : Type 0 where
   pub held : HangsFrom n Here → l.held ≡ n.held
   pub phase : HangsFrom n Here → (l.phase ≡ phase_held) ⊎ IsAskedFor n l
 
--- THE END BELOW, of a side: where the part is here, a lot may be lent; where it is out, it is lent or held below, or asked for, for the target that is kept
+-- THE END BELOW, of a side: if the part is here, a lot may be lent; if it is out, it is lent or held below, or asked for, for the target that is kept
 pub record Lets (s : Side) (n : WorkerNote) (u : UpperNote) : Type 0 where
   pub case : u.case ≡ n.case
   pub lower : (l r : ℕ) → kids n.case n.node ≡ Some (l, r) → u.lower ≡ at_side s l r

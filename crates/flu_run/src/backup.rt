@@ -1,4 +1,4 @@
-//! The run of a batch where a thread is refused.
+//! Running a batch if a thread is refused.
 
 ghost use Rattle.std.specs.Prelude.{◌≡◌, length, IfOk};
 ghost use Rattle.std.specs.List.Sorted.{IsPermutation};
@@ -13,12 +13,12 @@ use flu_model::{Outs, Streams};
 use flu_seq::Engine;
 use std::alloc::{AllocError, Global};
 
-/// Runs a batch on the backup, as `run_tree` does where a thread is refused: all events of the streams, which have one list for
-/// each itag of the job, from a state that holds values of the job's sorts. What it gives is as `Engine` promises.
+/// Runs a batch on the backup, as `run_tree` does if a thread is refused: all events of the streams, which have one list for
+/// each itag of the job, from a state that holds values of the job's sorts. The result is as `Engine` promises.
 ///
 /// # Errors
 ///
-/// Only where memory is wanting.
+/// Only if memory runs out.
 pub fn fall_back<B: Engine<R>, R>(
     rt: &R,
     alloc: Global,

@@ -13,7 +13,7 @@ use flu_worker::laws::hands_turn;
 use flu_worker::{Side, Worker};
 use std::alloc::{AllocError, Global};
 
-/// Lends the part for a side, where it is still to be lent, and says whether it did.
+/// Lends the part for a side, if it is still to be lent, and returns whether it did.
 pub fn lend(worker: &mut Worker, upper: &mut Upper, side: Side) -> bool
     requires inner { IsSome (kids worker.old.case worker.old.node) }
     requires lets { Lets side worker.old upper.old }
@@ -32,7 +32,7 @@ pub fn lend(worker: &mut Worker, upper: &mut Upper, side: Side) -> bool
     true
 }
 
-/// Asks for the part of a side, where it is out, and says whether it did.
+/// Asks for the part of a side, if it is out, and returns whether it did.
 pub fn ask(worker: &Worker, upper: &mut Upper, side: Side, target: Ask) -> bool
     requires kept { worker.now.kept ≡ Some target }
     requires askable { IsAskable worker.now target }
@@ -47,7 +47,7 @@ pub fn ask(worker: &Worker, upper: &mut Upper, side: Side, target: Ask) -> bool
     upper.try_ask(target)
 }
 
-/// Takes the part of a side, where it is there, and says whether it did.
+/// Takes the part of a side, if it is there, and returns whether it did.
 pub fn take(
     alloc: Global,
     case: &Case,

@@ -1,4 +1,4 @@
-//! The end above a worker: that of a link, or that of the root, above which there is nothing.
+//! The end above a worker: of a link, or of the root, which has nothing above it.
 
 ghost use Rattle.std.specs.Prelude.{◌≡◌, ◌≢◌, ◌<◌, IfSome, IfNone, IsSome, Some, slice_index};
 ghost use Rattle.flu_fork.specs.declared.lots.Ask.{Ask as AskNote};
@@ -10,7 +10,7 @@ ghost use Rattle.flu_run.specs.EndNotes.{end_note, LooksUp, LooksAside};
 use flu_fork::{Ask, CaseNote, Lot};
 use flu_link::Lower;
 
-/// The end above a worker. The root has one as well: it holds the opening lot, nothing is ever asked of it, and nobody stops it.
+/// The end above a worker. The root has one as well: it holds the opening lot, is never asked for anything, and is never stopped.
 #[derive(Drop)]
 pub enum End {
     Linked(Lower),
@@ -18,7 +18,7 @@ pub enum End {
 }
 
 impl End {
-    /// Takes the lot that was lent. `None` where none is lent yet.
+    /// Takes the lot that was lent. `None` if none is lent yet.
     pub fn try_hold(&mut self) -> Option<Lot>
         ensures note { IfSome result (λ lot. end_note self.new ≡ after_hold (end_note self.old) lot) }
         ensures fits { IfSome result (LotFits (end_note self.old).case (end_note self.old).lower) }
@@ -31,7 +31,7 @@ impl End {
         }
     }
 
-    /// The event for which a lot is asked. `None` where none is asked for yet.
+    /// The event for which a lot is asked. `None` if none is asked for yet.
     pub fn asked(&mut self) -> Option<Ask>
         ensures note { IfSome result (λ y. end_note self.new ≡ after_asked (end_note self.old) y) }
         ensures above { IfSome result (AsksAbove (end_note self.old).case (end_note self.old).lower) }

@@ -25,10 +25,10 @@ use std::sync::Wait;
 use std::thread::Threads;
 
 /// Runs batches on a tree of threads, for an accepted job and a plan that is valid for it, and on the backup, an engine of the same
-/// job, where a thread is refused.
+/// job, if a thread is refused.
 ///
-/// It keeps the promise of an [`Engine`] for any runtime that has threads. It is none, since what the block of an impl is given, as
-/// the gate's calls, may not be handed on to threads.
+/// It keeps the promise of an [`Engine`] for any runtime that has threads. It is not itself one, since what the block of an impl is
+/// given, such as the gate's calls, may not be passed on to threads.
 #[derive(Drop)]
 pub struct TreeEngine<'a, G: Gate, R, B: Engine<R>> {
     /// The job.
@@ -37,9 +37,9 @@ pub struct TreeEngine<'a, G: Gate, R, B: Engine<R>> {
     pub valid: &'a Valid,
     /// What each worker passes before and after each of its updates.
     pub gate: &'a G,
-    /// What runs a batch where a thread is refused.
+    /// What runs a batch if a thread is refused.
     pub backup: B,
-    // By what the backup runs.
+    // The runtime that the backup runs on.
     by: PhantomData<R>,
     pub ghost of_job: { IsValidFor (program_of checked.now) valid.now },
     pub ghost same_job: { B.program_of backup ≡ program_of checked.now } by { Prim.hlevel (codes, p.the_row.coded) },
@@ -74,7 +74,7 @@ impl<'a, G: Gate, R: Threads + Wait + Sync, B: Engine<R>> TreeEngine<'a, G, R, B
     ///
     /// # Errors
     ///
-    /// Only where memory is wanting.
+    /// Only if memory runs out.
     pub fn batch(
         &mut self,
         rt: &R,

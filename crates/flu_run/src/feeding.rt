@@ -1,4 +1,4 @@
-//! What feeds the items of a case to the workers.
+//! Feeding the items of a case to the workers.
 
 ghost use Rattle.std.specs.Prelude.{◌≡◌, ◌<◌, ◌≤◌, ◌-◌, ℕ, length, map, slice_index, slice_set, vec_len, IfOk};
 ghost use Rattle.flu_arrive.specs.Notes.{unseen, zeros};
@@ -14,7 +14,7 @@ use std::cmp::min;
 // How many items of an itag arrive at once.
 const PIECE: u64 = 64;
 
-/// For each itag of a case how many items it has.
+/// How many items each itag of a case has.
 pub fn limits(alloc: Global, case: &Case) -> Result<Vec<u64>, AllocError>
     ensures { IfOk result (λ limits. limits.items ≡ limits_of case.now) }
 {
@@ -37,7 +37,7 @@ pub fn words(alloc: Global, limits: &[u64]) -> Result<(Feeder, Watch), AllocErro
     Ok((feeder, watch))
 }
 
-/// Feeds all items, which are so many of each itag: of each itag in turn a piece, until all are fed.
+/// Feeds all items, this many of each itag: in turn a piece of each itag, until all are fed.
 pub fn feed_all(feeder: &mut Feeder, mut left: Vec<u64>, itags: u32)
     requires fresh { feeder.old.counts ≡ zeros feeder.old.limits }
     requires left { left.items ≡ feeder.old.limits }
@@ -52,7 +52,7 @@ pub fn feed_all(feeder: &mut Feeder, mut left: Vec<u64>, itags: u32)
     }
 }
 
-// A number that none is above.
+// A number such that none is above it.
 fn greatest(numbers: &[u64]) -> u64
     ensures { (i : ℕ) → slice_index numbers.now i ≤ result }
 {

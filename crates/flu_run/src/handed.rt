@@ -17,7 +17,7 @@ pub struct Done {
 /// Why a subtree stopped.
 #[derive(Clone, Copy, PartialEq, Eq, Debug)]
 pub enum Why {
-    /// Memory is wanting.
+    /// Memory ran out.
     NoMemory,
     /// A thread was refused.
     Refused,

@@ -1,4 +1,4 @@
-//! What has a case.
+//! A value that has a case.
 
 ghost use Rattle.std.specs.Prelude.{◌≡◌};
 ghost use Rattle.flu_fork.specs.declared.content.Content.{Content};
@@ -8,7 +8,7 @@ use flu_fork::Case;
 /// Has a case, which the threads of a tree share.
 ///
 /// A case borrows a job, a plan and streams, and so its type names a lifetime. The threads take what has it as a type parameter,
-/// since what the closure of a thread promises is lost where it captures a type that names a lifetime.
+/// since what the closure of a thread promises is lost if it captures a type that names a lifetime.
 pub trait HasCase {
     /// What contracts see of the case.
     ghost content: { Self → Content };

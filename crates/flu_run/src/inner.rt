@@ -32,7 +32,7 @@ use flu_worker::{Side, Worker};
 use std::alloc::{AllocError, Global};
 use std::sync::Wait;
 
-// Asks for the parts that are out, where there is a target, and takes those that are there. It says whether anything moved.
+// Asks for the parts that are out, if there is a target, and takes those that are there. Returns whether anything moved.
 fn reach(
     alloc: Global,
     case: &Case,
@@ -59,7 +59,7 @@ fn reach(
     Ok(any(sent, from_left, from_right))
 }
 
-// Asks for the parts that are out, where there is a target, and says whether it did.
+// Asks for the parts that are out, if there is a target; returns whether it did.
 fn request(
     case: &Case,
     worker: &mut Worker,
@@ -88,7 +88,7 @@ fn request(
     any(to_left, to_right, false)
 }
 
-// Lends the parts that are still to be lent, and says whether there were any.
+// Lends the parts that are still to be lent, and returns whether there were any.
 fn hand_down(worker: &mut Worker, left: &mut Upper, right: &mut Upper) -> bool
     requires inner { IsSome (kids worker.old.case worker.old.node) }
     requires left { Lets Left worker.old left.old }
@@ -104,7 +104,7 @@ fn hand_down(worker: &mut Worker, left: &mut Upper, right: &mut Upper) -> bool
     any(to_left, to_right, false)
 }
 
-// One turn: what goes down and comes up, and the worker's own event. It says whether anything moved.
+// One turn: what goes down and comes up, and the worker's own event. Returns whether anything moved.
 fn turn_inner<G: Gate>(
     alloc: Global,
     case: &Case,
@@ -164,7 +164,7 @@ fn are_stopped(worker: &Worker, end: &mut End, left: &mut Upper, right: &mut Upp
     any(above, at_left, at_right)
 }
 
-// Tells all around to stop.
+// Tells all the workers around it to stop.
 fn stop_all(end: &mut End, left: &mut Upper, right: &mut Upper) {
     end.stop();
     left.stop();
@@ -181,8 +181,8 @@ pub struct Rest {
     pub outs: Outs,
 }
 
-// Takes turns until the worker has no event left, or is stopped. It owns none of what it works on, so that it leaves nothing to
-// be let go on its ways out.
+// Takes turns until the worker has no event left, or is stopped. It owns none of what it works on, so there is nothing to drop on
+// its ways out.
 fn take_turns<G: Gate, R: Wait>(
     rt: &R,
     alloc: Global,
@@ -230,7 +230,7 @@ fn take_turns<G: Gate, R: Wait>(
     unreachable!()
 }
 
-// What is left after the turns, unless they were cut short.
+// What is left after the turns, unless they ended early.
 fn rest_of(turned: Result<(), Why>, rest: Rest) -> Result<Rest, Why>
     ensures { IfOk result (λ r. (r ≡ rest) × IsOk turned) }
 {
@@ -306,7 +306,7 @@ fn close_link(upper: Upper, end: End)
     };
 }
 
-// A lot and outputs behind an end, where there was memory for both. Else the end is told to stop.
+// Ends with a lot and outputs at an end, if there was memory for both. Otherwise the end is told to stop.
 fn ended(end: End, lot: Result<Lot, AllocError>, outs: Result<Outs, AllocError>) -> Ended
     requires { IfOk lot (λ l. IfOk outs (λ o. IsDone (end_note end) (end_note end) l o)) }
     ensures { Keeps (end_note end) result }
@@ -320,7 +320,7 @@ fn ended(end: End, lot: Result<Lot, AllocError>, outs: Result<Outs, AllocError>)
     Ended::Done(Done { end, lot, outs })
 }
 
-// Gives up for want of memory.
+// Gives up because memory ran out.
 fn give_up(end: End) -> Ended
     ensures { Keeps (end_note end) result }
 {
@@ -370,7 +370,7 @@ pub fn gather<H: HasCase>(
     ended(end, lot, in_turn(outs, left_outs, right_outs))
 }
 
-// The outputs of both behind the first.
+// The outputs, with those of the left and then of the right subtree appended.
 fn in_turn(outs: Outs, left: Outs, right: Outs) -> Result<Outs, AllocError>
     ensures { IfOk result (λ all. all ≡ (outs ++ left) ++ right) }
 {

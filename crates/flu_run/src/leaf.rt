@@ -29,7 +29,7 @@ use flu_worker::laws::hands_turn;
 use std::alloc::{AllocError, Global};
 use std::sync::Wait;
 
-/// One turn: gives the lot for the event that is asked for, takes one, and handles an event. It says whether anything moved.
+/// One turn: gives the lot for the event that is asked for, takes one, and handles an event. Returns whether anything moved.
 pub fn turn<G: Gate>(
     alloc: Global,
     case: &Case,
@@ -59,7 +59,7 @@ pub fn turn<G: Gate>(
     Ok(any(gave, received, acted))
 }
 
-/// The worker of a node of what has the case.
+/// The worker of a node, from what has the case.
 pub fn new_worker<H: HasCase>(alloc: Global, holder: &H, node: u32) -> Result<Worker, AllocError>
     requires { node < length (nodes (H.content holder.now)) }
     ensures { IfOk result (IsNew (H.content holder.now) node) }
@@ -83,8 +83,8 @@ fn finish(worker: Worker, end: End, outs: Outs) -> Ended
     Ended::Done(Done { end, lot, outs })
 }
 
-// Takes turns until the worker has no event left, or is stopped. It owns none of what it works on, so that it leaves nothing to
-// be let go on its ways out.
+// Takes turns until the worker has no event left, or is stopped. It owns none of what it works on, so there is nothing to drop on
+// its ways out.
 fn take_turns<G: Gate, R: Wait>(
     rt: &R,
     alloc: Global,
@@ -184,7 +184,7 @@ fn work<G: Gate, R: Wait>(
     settle(turned, worker, end, outs)
 }
 
-// Gives up for want of memory.
+// Gives up because memory ran out.
 fn give_up(end: End, watch: Watch) -> Ended
     ensures { Keeps (end_note end) result }
 {

@@ -1,4 +1,4 @@
-//! The run of a case on the tree of threads.
+//! Running a case on the tree of threads.
 
 ghost use Rattle.std.specs.Prelude.{◌≡◌, IfOk, vec_len};
 ghost use Rattle.std.specs.List.Sorted.{IsPermutation};
@@ -36,15 +36,15 @@ use std::thread::Threads;
 /// Runs the events of a case on a tree of threads, one for each worker of its plan, while the calling thread lets the items arrive
 /// (`docs/TREE.md`). The state is the fold's, which holds values of the job's sorts, and the outputs are the fold's in some order.
 ///
-/// Each worker passes the gate before and after each of its updates. It waits for lots, asks and items by looking again, a little
-/// later each time, and sleeps at last until a worker beside it wakes it, or for a moment.
+/// Each worker passes the gate before and after each of its updates. It waits for lots, asks and items by polling, a little later
+/// each time, and finally sleeps until a worker beside it wakes it, or for a moment.
 ///
-/// Where a thread is refused, all workers stop, and the backup, an engine of the same job, runs the batch from a copy of the opening
+/// If a thread is refused, all workers stop, and the backup, an engine of the same job, runs the batch from a copy of the opening
 /// state.
 ///
 /// # Errors
 ///
-/// Only where memory is wanting: a worker that finds none stops the others.
+/// Only if memory runs out: a worker that runs out of it stops the others.
 pub fn run_tree<H: HasCase + Sync, G: Gate, B: Engine<R>, R: Threads + Wait + Sync>(
     rt: &R,
     alloc: Global,
@@ -103,7 +103,7 @@ fn run_all<H: HasCase + Sync, G: Gate, R: Threads + Wait + Sync>(
     )
 }
 
-// Runs all workers in threads, below the end that is given, and feeds the items that are left meanwhile.
+// Runs all workers in threads, below the given end, and feeds the items that are left meanwhile.
 fn started<H: HasCase + Sync, G: Gate, R: Threads + Wait + Sync>(
     rt: &R,
     alloc: Global,

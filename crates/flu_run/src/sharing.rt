@@ -1,4 +1,4 @@
-//! That what a case borrows may be shared by the threads of a run.
+//! Threads of a run may share what a case borrows.
 
 ghost use Rattle.std.specs.Thread.{IsSync};
 ghost use Rattle.flu_deps.specs.contracts.checked.Checked as CheckedRow;

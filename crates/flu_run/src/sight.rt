@@ -10,7 +10,7 @@ use flu_fork::Case;
 use flu_model::Itag;
 use flu_worker::Worker;
 
-/// Looks at the arrival words where the worker is idle: what it has seen is enough for as long as something moves.
+/// Checks the arrival words if the worker is idle: while something moves, what it has seen is enough.
 pub fn observe_idle(idle: bool, case: &Case, node: u32, worker: &mut Worker, watch: &mut Watch)
     requires case { case.now ≡ worker.old.case }
     requires sees { Sees worker.old watch.old }
@@ -22,7 +22,7 @@ pub fn observe_idle(idle: bool, case: &Case, node: u32, worker: &mut Worker, wat
     }
 }
 
-// Looks once at the word of each itag that the node or a node above it owns.
+// Checks once the word of each itag that the node or a node above it owns.
 fn observe(case: &Case, node: u32, worker: &mut Worker, watch: &mut Watch)
     requires case { case.now ≡ worker.old.case }
     requires sees { Sees worker.old watch.old }
@@ -34,7 +34,7 @@ fn observe(case: &Case, node: u32, worker: &mut Worker, watch: &mut Watch)
     look_at_each(case, tables.above(node), worker, watch);
 }
 
-// Looks once at the word of each of some itags.
+// Checks once the word of each of some itags.
 fn look_at_each(case: &Case, itags: &[Itag], worker: &mut Worker, watch: &mut Watch)
     requires case { case.now ≡ worker.old.case }
     requires known { All (λ i. i.0 < count_of_itags (job case.now)) itags.now }
@@ -47,7 +47,7 @@ fn look_at_each(case: &Case, itags: &[Itag], worker: &mut Worker, watch: &mut Wa
     }
 }
 
-// Looks at the word of an itag.
+// Checks the word of an itag.
 fn look_at(case: &Case, worker: &mut Worker, watch: &mut Watch, i: Itag)
     requires case { case.now ≡ worker.old.case }
     requires known { i.0 < count_of_itags (job case.now) }

@@ -31,7 +31,7 @@ use std::sync::Wait;
 use std::thread;
 use std::thread::{PromisedHandle, Threads};
 
-// Of two reasons the one that is to be told.
+// Which of two reasons is reported.
 fn told(a: Why, b: Why) -> Why {
     match a {
         Why::Stopped => b,
@@ -46,7 +46,7 @@ fn why(ended: &Ended) -> Why {
     }
 }
 
-// What a worker with children and their subtrees hand on, where all came to their ends.
+// What a worker with children and their subtrees hand on, if all came to their ends.
 fn settle<H: HasCase>(
     alloc: Global,
     holder: &H,
@@ -71,7 +71,7 @@ fn settle<H: HasCase>(
     }
 }
 
-// The same once the worker came to its end.
+// The same, once the worker has come to its end.
 fn settle_left<H: HasCase>(
     alloc: Global,
     holder: &H,
@@ -98,7 +98,7 @@ fn settle_left<H: HasCase>(
     }
 }
 
-// The same once the worker and the left subtree came to their ends.
+// The same, once the worker and the left subtree have come to their ends.
 fn settle_right<H: HasCase>(
     alloc: Global,
     holder: &H,
@@ -209,7 +209,7 @@ fn reach_out<H: HasCase>(
     Ok((upper, End::Linked(lower), theirs))
 }
 
-// Makes the worker of a node with children, and the links to them. None where memory is wanting: then its end is told to stop.
+// Makes the worker of a node with children, and the links to them. None if memory runs out: then its end is told to stop.
 fn prepare<H: HasCase>(
     alloc: Global,
     holder: &H,

@@ -18,7 +18,7 @@ use flu_seq::Gate;
 use flu_worker::Worker;
 use std::alloc::{AllocError, Global};
 
-/// Takes the lot that was lent, where the hand is empty, and says whether it did.
+/// Takes the lot that was lent, if the hand is empty; returns whether it did.
 pub fn receive(
     alloc: Global,
     case: &Case,
@@ -46,7 +46,7 @@ pub fn receive(
     Ok(true)
 }
 
-/// The event that is asked for, where the worker is open. `None` where it is not open, or nothing is asked: then its lot is held.
+/// The event that is asked for, if the worker is open. `None` if it is not open, or nothing is asked: then its lot is held.
 pub fn look(worker: &Worker, end: &mut End) -> Option<Ask>
     requires { Hangs worker.now (end_note end.old) }
     ensures hangs { Hangs worker.now (end_note end.new) }
@@ -60,7 +60,7 @@ pub fn look(worker: &Worker, end: &mut End) -> Option<Ask>
     end.asked()
 }
 
-/// Gives the lot for the event that is asked for, where the worker may, and says whether it did.
+/// Gives the lot for the event that is asked for, if the worker may; returns whether it did.
 pub fn reply(
     case: &Case,
     worker: &mut Worker,
@@ -89,7 +89,7 @@ pub fn reply(
     true
 }
 
-/// Handles the worker's next event, where there is one, and passes the gate before and after it. It says whether there was one.
+/// Handles the worker's next event, if there is one, and passes the gate before and after it. Returns whether there was one.
 pub fn act<G: Gate>(
     alloc: Global,
     case: &Case,

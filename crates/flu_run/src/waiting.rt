@@ -1,4 +1,4 @@
-//! How a worker waits, and how the workers beside it wake it.
+//! How a worker waits, and how its neighbours wake it.
 
 ghost use Rattle.std.specs.Prelude.{◌<◌, length};
 ghost use Rattle.flu_deps.specs.Validated.{plan_of};
@@ -10,13 +10,13 @@ use std::sync::Wait;
 use std::thread::Parker;
 use std::time::Duration;
 
-// So often a worker looks again before it sleeps: where windows are short, what it waits for comes in this time.
+// How often a worker checks again before it sleeps: if windows are short, what it waits for comes in this time.
 const LOOKS: u32 = 200;
 
-// A worker that nobody wakes looks again after so many microseconds.
+// A worker that nobody wakes checks again after this many microseconds.
 const MOMENT: u64 = 1000;
 
-/// How long a worker has waited: how often it has looked again since something moved.
+/// How long a worker has waited: how often it has checked since something moved.
 #[derive(Drop)]
 pub struct Pause {
     backoff: Backoff,
@@ -43,7 +43,7 @@ struct Place {
 
 /// Where the workers of a plan sleep while nothing moves, and who wakes whom.
 ///
-/// No promise rests on it: a worker that nobody wakes looks again by itself.
+/// No promise depends on it: a worker that nobody wakes checks again by itself.
 #[derive(Drop)]
 pub struct Parkers {
     places: Vec<Place>,
@@ -59,7 +59,7 @@ impl Parkers {
         Ok(Parkers { places })
     }
 
-    /// Wakes the worker above a node, where there is one.
+    /// Wakes the worker above a node, if there is one.
     pub fn wake_above(&self, node: u32) {
         if let Some(place) = self.places.get(node as usize) {
             if let Some(above) = place.above {
@@ -68,7 +68,7 @@ impl Parkers {
         }
     }
 
-    /// Wakes the workers of a node's children, where it has any.
+    /// Wakes the workers of a node's children, if it has any.
     pub fn wake_below(&self, node: u32) {
         if let Some(place) = self.places.get(node as usize) {
             if let Some((left, right)) = place.below {
@@ -78,7 +78,7 @@ impl Parkers {
         }
     }
 
-    // Wakes the worker of a node. One that does not sleep does not fall asleep when it next would.
+    // Wakes the worker of a node. If it is not asleep, it does not fall asleep the next time it would.
     fn wake(&self, node: u32) {
         if let Some(place) = self.places.get(node as usize) {
             place.parker.unpark();
@@ -92,7 +92,7 @@ impl Parkers {
         }
     }
 
-    /// Waits a little longer each time, until something moves again; at last the worker sleeps until it is woken, for a moment at
+    /// Waits a little longer each time, until something moves again; finally the worker sleeps until it is woken, for a moment at
     /// most.
     pub fn wait<R: Wait>(&self, rt: &R, node: u32, pause: &mut Pause, moved: bool) {
         if moved {

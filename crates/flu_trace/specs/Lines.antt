@@ -1,4 +1,4 @@
--- THE LINES OF A TRACE: how a step is written, by its word, by the number of its itag or worker and, of a step over an edge, by the side of the child.
+-- THE LINES OF A TRACE: how a step is written, by its word, by the number of its itag or worker and, for a step over an edge, by the side of the child.
 use Rattle.std.specs.Prelude.{◌≡◌, ℕ, ◌<◌, List, ◌++◌, codes}
 use Rattle.std.specs.Fmt.{decimal}
 use Rattle.flu_worker.specs.declared.hand.Side.{Side}
@@ -29,7 +29,7 @@ line_of (Give w) = codes "give " ++ decimal w
 line_of (Hold w) = codes "hold " ++ decimal w
 line_of (Lend w s) = codes "lend " ++ (decimal w ++ side_text s)
 
--- a good line: that of a step whose number has at most three digits. No such line has more than 24 bytes.
+-- a good line: the line of a step whose number has at most three digits. No such line has more than 24 bytes.
 pub record IsLineOf (s : Step) (line : List ℕ) : Type 0 where
   pub number : number_of s < 1000
   pub is : line ≡ line_of s

@@ -1,4 +1,4 @@
--- What is still to come of a replay on its way.
+-- What is still to come in a replay in progress.
 use Rattle.std.specs.Prelude.{◌≡◌, ℕ, ◌+◌, List, [], ◌∷◌, ◌++◌, Option, MatchOption, ⊤}
 use Rattle.flu_lemmas.specs.Named.{Contents, bytes_left}
 use Rattle.flu_lemmas.specs.Lines.{lines_of}
@@ -14,11 +14,11 @@ use Rattle.flu_trace.specs.declared.replaying.Replaying.{Replaying}
 use Rattle.flu_trace.specs.Lines.{IsLineOf}
 use Rattle.flu_trace.specs.Replaying.{Ending, Ends, IsReplayed}
 
--- how a replay ends that stands so, where this is left of the files
+-- how a replay in this state ends, if this is left of the files
 abbrev pub EndsFrom : List ℕ → Replaying → Contents → Ending → Type 0
 EndsFrom name r left ending = Ends r.lines (lines_of (r.held ++ bytes_left left name)) r.net ending
 
--- however the later one ends, the earlier one ends so too
+-- however the later replay ends, the earlier one ends in the same way
 abbrev pub GoesOn : List ℕ → Replaying → Replaying → Contents → Contents → Type 0
 GoesOn name old new before now = (ending : Ending) → EndsFrom name new now ending → EndsFrom name old before ending
 
@@ -30,7 +30,7 @@ IsReplayedBy k name r before now = (ending : Ending) → EndsFrom name r now end
 abbrev pub Says : Option Step → List ℕ → Type 0
 Says said line = MatchOption said ((s : Step) → ¬ IsLineOf s line) (λ s. IsLineOf s line)
 
--- a line stands in front, which says the step or none; behind a good one stands what is held then, and what comes
+-- the bytes begin with a line, which says the step or none; after a good line follow the bytes held then, and those still to come
 pub record BeginsWith (said : Option Step) (held rest coming : List ℕ) : Type 0 where
   pub line : List ℕ
   pub lines : List (List ℕ)
@@ -38,11 +38,11 @@ pub record BeginsWith (said : Option Step) (held rest coming : List ℕ) : Type 
   pub says : Says said line
   pub behind : (s : Step) → IsLineOf s line → lines ≡ lines_of (rest ++ coming)
 
--- what comes behind the bytes that are held is nothing, where these are the last
+-- nothing comes after the bytes that are held, if these are the last
 abbrev pub MayCome : Found → List ℕ → Type 0
 MayCome found coming = found ≡ Last → coming ≡ []
 
--- a fault of the end: the net is not final, or memory was wanting
+-- a fault at the end: the net is not final, or memory ran out
 abbrev pub IsEndFault : Replaying → ReplayFault → Type 0
 IsEndFault r (Bad line) = ⊥
 IsEndFault r (NotEnabled line) = ⊥

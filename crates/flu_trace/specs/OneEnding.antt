@@ -1,4 +1,4 @@
--- ONE ENDING A TRACE: what workers look at of a job, a plan and streams, and the bytes of a trace, determine how its replay ends.
+-- ONE ENDING A TRACE: what workers use of a job, a plan and streams, and the bytes of a trace, determine how its replay ends.
 use Rattle.std.specs.Prelude.{◌≡◌, ℕ, List}
 use Rattle.flu_fork.specs.declared.content.Content.{Content}
 use Rattle.flu_net.specs.Alike.{view_in}

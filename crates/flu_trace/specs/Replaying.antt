@@ -1,4 +1,4 @@
--- REPLAY: what the lines of a trace come to, in order from the start of the net.
+-- REPLAY: what the lines of a trace lead to, in order from the start of the net.
 use Rattle.std.specs.Prelude.{◌≡◌, ℕ, ◌+◌, false, List, [], ◌∷◌, Option, Some, None}
 use Rattle.flu_lemmas.specs.Lines.{lines_of}
 use Rattle.flu_fork.specs.declared.content.Content.{Content}
@@ -20,8 +20,8 @@ pub data Ending : Type 0 where
   NotEnabled : ℕ → Ending
   Incomplete : ℕ → Ending
 
--- how these lines end from a net, before which this many lines stand: the first line that is that of no step is bad, the first whose step is not enabled
--- stops the replay, and where there are no more lines it is complete exactly where the net is final. Each ending is that of a net that keeps its rule
+-- how these lines end from a net, with this many lines before them: the first line that is not the line of a step is bad, the first whose step is not enabled
+-- stops the replay, and if there are no more lines, it is complete exactly if the net is final. Each ending is reached in a net that keeps its rule
 pub data Ends : ℕ → List (List ℕ) → NetNote → Ending → Type 0 where
   complete : {before : ℕ} {n : NetNote} → IsWell n → IsFinal n → Ends before [] n Complete
   incomplete : {before : ℕ} {n : NetNote} → IsWell n → ¬ IsFinal n → Ends before [] n (Incomplete (before + 1))
@@ -38,7 +38,7 @@ pub record IsReplayed (k : Content) (bytes : List ℕ) (ending : Ending) : Type 
   pub start : IsStart k net
   pub ends : Ends 0 (lines_of bytes) net ending
 
--- the ending that a fault tells; a read that failed and want of memory tell none
+-- the ending that a fault reports; a failed read and running out of memory report none
 abbrev pub ending_of : ReplayFault → Option Ending
 ending_of (faults.Bad line) = Some (Bad line)
 ending_of (faults.NotEnabled line) = Some (NotEnabled line)

@@ -3,10 +3,10 @@
 ghost use Rattle.std.specs.Prelude.{◌≡◌, ◌≢◌, ◌<◌, ℕ, IfSome, IfNone};
 ghost use Rattle.std.specs.Fmt.{decimal};
 
-/// The most digits that a number is written with.
+/// The most digits with which a number is written.
 const MOST_DIGITS: usize = 3;
 
-/// The number below 1,000 that digits write, of which a zero is the first only where it is the only one.
+/// The number below 1,000 that digits write; the first digit is zero only if it is the only one.
 pub(crate) fn number_in(digits: &[u8]) -> Option<u32>
     ensures some { IfSome result (λ n. (n < 1000) × (digits.now ≡ decimal n)) }
     ensures none { IfNone result ((n : ℕ) → n < 1000 → digits.now ≢ decimal n) }

@@ -1,4 +1,4 @@
-//! A line of a trace, read.
+//! Reading a line of a trace.
 
 ghost use Rattle.std.specs.Prelude.{◌≡◌, ◌≢◌, ℕ, ◌<◌, ◌++◌, Some, IfSome, IfNone};
 ghost use Rattle.std.specs.Fmt.{decimal};
@@ -11,12 +11,12 @@ use flu_model::Itag;
 use flu_net::Step;
 use flu_worker::Side;
 
-/// The step that a line of a trace says, without its line feed; none exactly where the line is that of no step whose number is below
+/// The step that a line of a trace says, without its line feed; none exactly if the line is not that of a step whose number is below
 /// 1,000. It takes no memory.
 pub fn read_step(line: &[u8]) -> Option<Step>
     ensures is { IfSome result (λ s. IsLineOf s line.now) }
     ensures none { IfNone result ((s : Step) → ¬ IsLineOf s line.now) }
-    // What is written of a step is read as this step.
+    // What is written for a step is read as this step.
     ensures back { (s : Step) → IsLineOf s line.now → result ≡ Some s }
 {
     if let Some(i) = number_behind(line, b"arrive ") {
@@ -43,7 +43,7 @@ pub fn read_step(line: &[u8]) -> Option<Step>
     None
 }
 
-// The number that is all that stands behind a word.
+// The number after a word, if nothing else follows it.
 fn number_behind(line: &[u8], word: &[u8]) -> Option<u32>
     ensures some { IfSome result (λ n. (n < 1000) × (line.now ≡ word.now ++ decimal n)) }
     ensures none { IfNone result ((n : ℕ) → n < 1000 → line.now ≢ word.now ++ decimal n) }
@@ -52,7 +52,7 @@ fn number_behind(line: &[u8], word: &[u8]) -> Option<u32>
     number_in(number)
 }
 
-// The number and the side that are all that stands behind a word.
+// The number and the side after a word, if nothing else follows it.
 fn edge_behind(line: &[u8], word: &[u8]) -> Option<(u32, Side)>
     ensures some { IfSome result (λ e. (e.0 < 1000) × (line.now ≡ word.now ++ (decimal e.0 ++ side_text e.1))) }
     ensures none { IfNone result ((n : ℕ) (s : Side) → n < 1000 → line.now ≢ word.now ++ (decimal n ++ side_text s)) }

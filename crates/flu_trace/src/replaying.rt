@@ -26,19 +26,19 @@ use flu_net::{Net, Step, StepFault};
 use flu_outside::{Files, Found, LineBuffer, TakeFault};
 use std::alloc::{AllocError, Global};
 
-// The most bytes of a good line, without its line feed; a longer one is bad as soon as that is known.
+// The most bytes of a good line, without its line feed; a longer line is bad as soon as its length is known.
 const LONGEST_LINE: usize = 24;
 
 /// Replays a trace: makes the steps of its lines in order from the start of the net (`docs/TREE.md`, "Traces"). The trace is what
 /// is left under a name, and is read in pieces, so that no more of it is held than one line and one piece.
 ///
-/// Where the lines come to a final net, the state is the fold's, which holds values of the job's sorts, and the outputs are the
+/// If the lines lead to a final net, the state is the fold's, which holds values of the job's sorts, and the outputs are the
 /// fold's in some order.
 ///
 /// # Errors
 ///
-/// `Bad`, `NotEnabled` and `Incomplete` exactly where the first line that stops the replay does so in this way, with its number;
-/// `ReadFault` only where a take failed; `NoMemory` where memory is wanting.
+/// `Bad`, `NotEnabled` and `Incomplete` exactly if the first line that stops the replay does so in this way, with its number;
+/// `ReadFault` only if a take failed; `NoMemory` if memory runs out.
 pub fn replay<F: Files>(
     alloc: Global,
     case: &Case,
@@ -52,8 +52,8 @@ pub fn replay<F: Files>(
     ensures sorts { IfOk result (λ r. IsStateOf (job case.now).families (held r.0)) }
     ensures outputs { IfOk result (λ r. IsPermutation (final_outputs (job case.now) (held case.now.opening) (listed case.now.streams)) r.1) }
 
-    // A complete replay read the trace to its end. Bytes are taken from its front alone, and none are put; and a read fault has its
-    // cause there: no other answer comes after a take that failed.
+    // A complete replay read the trace to its end. Bytes are taken only from the front of the trace, and none are put; and a read fault has
+    // its cause there: no other answer comes after a take that failed.
     ensures end { OnOk result (IsReadOut name.now (F.left files.new)) }
     ensures taken { WhereTold (F.left files.old) (F.left files.new) (TakesFrom name.now) }
     ensures counts { CountsOf (F.left files.old) name.now (F.faults files.old) (F.faults files.new) }
@@ -75,7 +75,7 @@ pub fn replay<F: Files>(
     }
 }
 
-// A replay on its way: the net, the bytes that were taken and are still to be read, and how many lines were read.
+// A replay in progress: the net, the bytes that were taken and are still to be read, and how many lines were read.
 #[derive(Drop)]
 struct Replaying {
     net: Net,
@@ -98,7 +98,7 @@ impl Replaying {
         })
     }
 
-    // Reads a line and makes its step; whether there was a line.
+    // Reads a line and makes its step; returns whether there was a line.
     fn turn<F: Files>(
         &mut self,
         alloc: Global,
@@ -146,7 +146,7 @@ impl Replaying {
         Ok(true)
     }
 
-    // What the replay came to, once there is no line more.
+    // What the replay led to, once there are no more lines.
     fn end(self, alloc: Global, case: &Case) -> Result<(State, Outs), ReplayFault>
         requires case { case.now ≡ self.net.case }
         requires gone { self.net.gone ≡ false }
@@ -171,7 +171,7 @@ impl Replaying {
     }
 }
 
-// Takes the line that was found off the front; the step that it says, where it is good.
+// Takes the line that was found off the front; returns the step that it says, if it is good.
 fn take_step(found: Found, held: &mut LineBuffer) -> Option<Step>
     requires found { IsFound 24 held.old found }
     requires some { found ≢ Found.End }

@@ -1,4 +1,4 @@
-//! A line of a trace, written.
+//! Writing a line of a trace.
 
 ghost use Rattle.std.specs.Prelude.{◌≡◌, ◌<◌, IfOk};
 ghost use Rattle.flu_trace.specs.Lines.{line_of, number_of, side_text};
@@ -12,7 +12,7 @@ use std::alloc::{AllocError, Global};
 ///
 /// # Errors
 ///
-/// Only where memory is wanting.
+/// Only if memory runs out.
 pub fn step_line(alloc: Global, s: Step) -> Result<Text, AllocError>
     requires { number_of s < 1000 }
     ensures { IfOk result (λ line. line ≡ line_of s) }

@@ -1,4 +1,4 @@
--- How the counts of a worker's lot stand to what it counted, held, lent and took, and when an event is its target.
+-- How the counts of a worker's lot relate to what it counted, held, lent and took, and when an event is its target.
 use Rattle.std.specs.Prelude.{◌≡◌, ◌⊎◌, ℕ, ◌<◌, ◌≤◌, true, false, Some, List, ◌∷◌, ◌++◌, length, slice_index, IsSome}
 use Rattle.flu_model.specs.declared.events.Event.{Event}
 use Rattle.flu_model.specs.Itags.{count_of_itags}
@@ -14,8 +14,8 @@ use Rattle.flu_fork.specs.Classes.{Itags, own, below, above}
 use Rattle.flu_fork.specs.Lots.{job, nodes, kids, setting_of}
 use Rattle.flu_fork.specs.Serving.{LotCounts, GrownFrom}
 
--- COUNTS AGREE: the counts of the lot that a worker has, or of the one that it forked last, are of its own itags and of those above it what it counted, outside
--- its subtree what it held, and inside at least that
+-- COUNTS AGREE: the counts of the lot that a worker has, or of the one that it forked last, are what it counted for its own itags and those above it, what it
+-- held for the itags outside its subtree, and at least that for those inside
 pub record Agrees (k : Content) (w : ℕ) (counts held upto : List ℕ) : Type 0 where
   pub mine : (i : ℕ) → own (job k) (nodes k) w i ≡ true → slice_index counts i ≡ slice_index upto i
   pub over : (i : ℕ) → above (job k) (nodes k) w i ≡ true → slice_index counts i ≡ slice_index upto i
@@ -23,18 +23,18 @@ pub record Agrees (k : Content) (w : ℕ) (counts held upto : List ℕ) : Type 0
   pub inside : (i : ℕ) → below (job k) (nodes k) w i ≡ true → slice_index held i ≤ slice_index upto i
   pub most : AreAtMost counts upto
 
--- LOANS GROW: a loan with these counts goes on, for each child, from what was taken from it last
+-- LOANS GROW: a loan with these counts continues, for each child, from what was taken from it last
 pub record Grows (k : Content) (w : ℕ) (taken_left taken_right upto : List ℕ) : Type 0 where
   pub left : (l r : ℕ) → kids k w ≡ Some (l, r) → GrownFrom k l taken_left upto
   pub right : (l r : ℕ) → kids k w ≡ Some (l, r) → GrownFrom k r taken_right upto
 
--- FIRST: no event of a set of itags that is not below the counts, seen or not, is before x, whether they are dependent or not
+-- FIRST: no event of a set of itags that is not below the counts, seen or not, is before x, whether the two are dependent or not
 abbrev pub IsFirstOf : Setting → Itags → List ℕ → Event → Type 0
 IsFirstOf k set upto x = (j l : ℕ) (y : Event) → set j ≡ true → slice_index upto j ≤ l → IsEventAt k j l y → is_before y x ≡ false
 
--- A TARGET: the next event by these counts, of an itag of the node or of one above it. It is before each event that is not counted and on which it depends, of
--- the node's other itags, and if it is the node's own, of those above it. An inner worker aims at events in event order: no event of these itags that is
--- not counted is before its target
+-- A TARGET: the next event by these counts, of an itag of the node or of one above it. It is before each uncounted event on which it depends, among those of
+-- the node's other itags and, if it is the node's own, of the itags above it. An inner worker aims at events in event order: no uncounted event of these
+-- itags is before its target
 pub record IsTarget (k : Content) (w : ℕ) (counts upto : List ℕ) (y : Ask) : Type 0 where
   pub known : y.itag.0 < count_of_itags (job k)
   pub next : y.index ≡ slice_index upto y.itag.0
@@ -46,7 +46,7 @@ pub record IsTarget (k : Content) (w : ℕ) (counts upto : List ℕ) (y : Ask) :
   pub first_own : IsSome (kids k w) → IsFirstOf (setting_of k) (own (job k) (nodes k) w) counts event
   pub first_above : IsSome (kids k w) → own (job k) (nodes k) w y.itag.0 ≡ true → IsFirstOf (setting_of k) (above (job k) (nodes k) w) counts event
 
--- A FORK: the counts of the lot that a worker forked last agree, and its parts begin where it held
+-- A FORK: the counts of the lot that a worker forked last agree, and its parts begin from what the worker held
 pub record IsForkedAt (k : Content) (w : ℕ) (counts : List ℕ) (held : LotCounts) (upto : List ℕ) : Type 0 where
   pub inner : IsSome (kids k w)
   pub agrees : Agrees k w counts held.upto upto
@@ -60,7 +60,7 @@ left_loan held upto = record { since = held.since; upto = upto }
 abbrev pub right_loan : List ℕ → LotCounts
 right_loan upto = record { since = upto; upto = upto }
 
--- THE EVENT HANDLED: the node's next one of its itag, for which the counts are exact
+-- THE EVENT HANDLED: the next event of its itag, owned by the node, for which the counts are exact
 pub record IsExactFor (k : Content) (w : ℕ) (upto : List ℕ) (x : Ask) (event : Event) : Type 0 where
   pub known : x.itag.0 < count_of_itags (job k)
   pub is : IsEventAt (setting_of k) x.itag.0 x.index event

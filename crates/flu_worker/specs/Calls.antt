@@ -52,7 +52,7 @@ pub record IsNew (k : Content) (w : ℕ) (n : WorkerNote) : Type 0 where
   pub lent_left : n.lent_left ≡ none_counted k
   pub lent_right : n.lent_right ≡ none_counted k
 
--- the counts of a lot that a worker hands on are, of the worker's own itags and of those above it, what the worker counted
+-- the counts of a lot that a worker hands on are what the worker counted, for its own itags and for those above it
 abbrev pub IsTied : WorkerNote → Lot → Type 0
 IsTied n lot = (i : ℕ) → (own_of n i ≡ true) ⊎ (above_of n i ≡ true) → slice_index lot.upto i ≡ slice_index n.counts i
 
@@ -91,7 +91,7 @@ pub record HandlesEvent (x : Ask) (old new : WorkerNote) : Type 0 where
   pub given : new.given ≡ old.given
   pub owned : own_of old x.itag.0 ≡ true
 
--- the event that x names is the next of its itag, it is counted, and its outputs in the fold come at the end
+-- the event that x names is the next of its itag, it is counted, and its outputs in the fold are appended
 pub record CountsEvent (k : Content) (x : Ask) (old new : List ℕ) (before after : List Out) : Type 0 where
   pub front : List Moment
   pub back : List Moment
@@ -117,7 +117,7 @@ pub record LendsPart (s : Side) (part : Lot) (old new : WorkerNote) : Type 0 whe
   pub taken_right : new.taken_right ≡ old.taken_right
   pub tied : IsTied old part
 
--- what is lent to a child fits it, and its counts go on from those of the lot taken last from this child
+-- what is lent to a child fits it, and its counts continue from those of the lot taken last from this child
 pub record IsFitPart (s : Side) (part : Lot) (n : WorkerNote) : Type 0 where
   pub fits : (l r : ℕ) → kids n.case n.node ≡ Some (l, r) → LotFits n.case (at_side s l r) part
   pub grown : (l r : ℕ) → kids n.case n.node ≡ Some (l, r) → GrownFrom n.case (at_side s l r) (taken_from s n) part.upto
@@ -135,13 +135,13 @@ pub record TakesPart (s : Side) (part : Lot) (old new : WorkerNote) : Type 0 whe
   pub taken_left : new.taken_left ≡ at_side s part.upto old.taken_left
   pub taken_right : new.taken_right ≡ at_side s old.taken_right part.upto
 
--- ---- ask_of: the target, where there is one, is kept; one that was kept before stays
+-- ---- ask_of: the target, if there is one, is kept; one that was kept before stays
 pub record KeepsTarget (found : Option Ask) (old new : WorkerNote) : Type 0 where
   pub rest : new ≡ record old { kept = new.kept }
   pub some : (a : Ask) → found ≡ Some a → new.kept ≡ Some a
   pub same : (a : Ask) → old.kept ≡ Some a → new.kept ≡ Some a
 
--- the target names an event that is above each child, by the counts of the part lent to it last
+-- for each child, the target names the next event of an itag above that child, by the counts of the part lent to it last
 abbrev pub IsAskable : WorkerNote → Ask → Type 0
 IsAskable n a = (l r : ℕ) → kids n.case n.node ≡ Some (l, r) → (s : Side)
     → AsksAbove n.case (at_side s l r) a × (a.index ≡ slice_index (lent_to s n).upto a.itag.0)
@@ -152,7 +152,7 @@ IsAskable n a = (l r : ℕ) → kids n.case n.node ≡ Some (l, r) → (s : Side
 abbrev pub SeesAll : WorkerNote → (ℕ → Type 0) → Type 0
 SeesAll n set = (i : ℕ) → set i → slice_index n.seen i ≡ length (slice_index_or (listed n.case.streams) i [])
 
--- the lot is whole or both its parts are out, and of the node's own itags and of those above it all items are seen and all events counted
+-- the lot is whole or both its parts are out, and for the node's own itags and those above it all items are seen and all events counted
 pub record HasDoneAll (n : WorkerNote) : Type 0 where
   pub hand : (n.hand ≡ Whole) ⊎ (n.hand ≡ Down)
   pub seen_own : SeesAll n (λ i. own_of n i ≡ true)
@@ -160,7 +160,7 @@ pub record HasDoneAll (n : WorkerNote) : Type 0 where
   pub own : IsComplete (setting_of n.case) (own_of n) n.counts
   pub above : IsComplete (setting_of n.case) (above_of n) n.counts
 
--- the parts that were lent last are those of one fork of the lot that is counted so
+-- the parts that were lent last come from one fork of the lot with these counts
 pub record IsForked (n : WorkerNote) : Type 0 where
   pub left_since : n.lent_left.since ≡ n.held.since
   pub right_since : n.lent_right.since ≡ n.lent_left.upto
@@ -170,7 +170,7 @@ pub record IsForked (n : WorkerNote) : Type 0 where
   pub own : (i : ℕ) → own_of n i ≡ true → slice_index n.lent_left.upto i ≡ slice_index n.counts i
   pub outside : (i : ℕ) → below_of n i ≡ false → slice_index n.lent_left.upto i ≡ slice_index n.held.upto i
 
--- the worker has no event left, its own or an ancestor's: a leaf has its lot, and the parts of an inner worker's are out
+-- the worker has no event left, its own or an ancestor's: a leaf has its lot, and the parts of an inner worker's lot are out
 pub record IsFinished (n : WorkerNote) : Type 0 where
   pub own : IsComplete (setting_of n.case) (own_of n) n.counts
   pub above : IsComplete (setting_of n.case) (above_of n) n.held.upto
@@ -182,8 +182,8 @@ pub record IsFinished (n : WorkerNote) : Type 0 where
 
 -- ---- held, into_lot: the lot of a whole hand
 
--- counts with which a state fits the node: it has the effects of the events since the lot held last, the node's own events are those that are counted, and
--- outside the subtree no event came since
+-- counts with which a state fits the node: it has the effects of the events since the lot held last, of the node's own events it has those that are counted,
+-- and no event from outside the subtree was added since
 pub record AreWholeCounts (n : WorkerNote) (s : State) (upto : List ℕ) : Type 0 where
   pub fits : Fits (setting_of n.case) n.node (held s) n.held.since upto
   pub own : (i : ℕ) → own_of n i ≡ true → slice_index upto i ≡ slice_index n.counts i

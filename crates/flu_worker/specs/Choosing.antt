@@ -1,4 +1,4 @@
--- Which event a worker takes next, at which one it aims, and when it may give its lot. These are functions of what contracts see of it.
+-- Which event a worker takes next, which one it aims at, and when it may give its lot. These are functions of what contracts see of it.
 use Rattle.std.specs.Prelude.{ℕ, Bool, false, ◌==◌, ◌&&◌, Option, Some, None, List, slice_get, slice_index, if◌then◌else◌, is_none}
 use Rattle.std.specs.List.{fold}
 use Rattle.flu_model.specs.declared.events.Event.{Event}
@@ -49,7 +49,7 @@ next_at s i = next_event (seen_items (listed s.case.streams) s.seen i.0) (slice_
 abbrev pub takes : Sight → Event → Bool
 takes s x = is_ready (job s.case) (nodes s.case) (listed s.case.streams) s.node s.seen s.counts x
 
--- an event, where there is one and the worker may take it
+-- an event, if there is one and the worker may take it
 abbrev pub if_ready : Sight → Option Event → Option Event
 if_ready s None = None
 if_ready s (Some x) = if takes s x then Some x else None
@@ -63,13 +63,13 @@ abbrev pub serves : Sight → Option Event → Bool
 serves s None = false
 serves s (Some x) = is_ready_to_serve (job s.case) (nodes s.case) (listed s.case.streams) s.node s.seen s.counts x
 
--- the earlier of two events in event order, of those that are there
+-- the earlier of two events in event order, of those that are present
 abbrev pub earlier : Option Event → Option Event → Option Event
 earlier None b = b
 earlier (Some x) None = Some x
 earlier (Some x) (Some y) = if is_before y x then Some y else Some x
 
--- the earliest of the events of some itags, of those that are there
+-- the earliest of the events of some itags, of those that are present
 abbrev pub earliest : (Itag → Option Event) → List Itag → Option Event
 earliest f itags = fold (λ found i. earlier found (f i)) None itags
 
@@ -88,12 +88,12 @@ abbrev pub ask_for : Sight → Option Event → Option Ask
 ask_for s None = None
 ask_for s (Some x) = Some (record { itag = x.itag; index = slice_index s.counts x.itag.0 })
 
--- the kept target, where it is the worker's own
+-- the kept target, if it is the worker's own
 abbrev pub if_own : Sight → Option Ask → Option Ask
 if_own s None = None
 if_own s (Some y) = if owns (job s.case) (nodes s.case) s.node y.itag then Some y else None
 
--- what is asked, where the worker may serve it
+-- what is asked, if the worker may serve it
 abbrev pub if_serves : Sight → Option Ask → Option Ask
 if_serves s None = None
 if_serves s (Some y) = if serves s (event_of s.case y) then Some y else None
@@ -108,15 +108,15 @@ first_some (Some y) b = Some y
 
 -- ---- what the worker does, by what it has seen, its hand and its kept target
 
--- HANDLE: the event that it takes next, where its hand is whole: at a leaf the least own next event that it may take, at an inner worker its target, where that
--- is its own. As a relation that determines it: laws::next_events_are_least
+-- HANDLE: the event that it takes next, if its hand is whole: at a leaf the least own next event that it may take, at an inner worker its target, if that is
+-- its own. As a relation that determines it: laws::next_events_are_least
 abbrev pub next_by : Sight → Hand → Option Ask → Option Ask
 next_by s hand kept = if is_whole hand then (if is_none (kids s.case s.node) then ask_for s (least_ready s) else if_own s kept) else None
 
 abbrev pub next_of : WorkerNote → Option Ask
 next_of n = next_by (sight n) n.hand n.kept
 
--- TARGET: the kept one; or where both parts are lent the least next event of its own, if it may take that, or what is asked of it, if it may serve that
+-- TARGET: the kept one; or if both parts are lent, the least next event of its own, if it may take that, or what is asked of it, if it may serve that
 abbrev pub new_target : Sight → Option Ask → Option Ask
 new_target s asked = first_some (ask_for s (if_ready s (least_next s))) (if_serves s asked)
 
@@ -130,6 +130,6 @@ target_of n asked = target_by (sight n) n.hand n.kept asked
 abbrev pub gives_by : Sight → Hand → Option Ask → Ask → Bool
 gives_by s hand kept y = is_whole hand && (if is_none (kids s.case s.node) then serves s (event_of s.case y) else is_same_ask y kept)
 
--- where it is the next event of an itag above the worker
+-- if it is the next event of an itag above the worker
 abbrev pub may_give : WorkerNote → Ask → Bool
 may_give n y = above_of n y.itag.0 && (y.index == slice_index n.held.upto y.itag.0) && gives_by (sight n) n.hand n.kept y

@@ -1,4 +1,4 @@
--- What an update puts out, and what it does to the lot in a hand.
+-- What an update emits, and what it does to the lot in a hand.
 use Rattle.std.specs.Prelude.{◌≡◌, ℕ, ◌+◌, List, ◌∷◌, ◌++◌, slice_index, slice_set}
 use Rattle.flu_model.specs.declared.events.Out.{Out}
 use Rattle.flu_laws.specs.Spans.{Moment}
@@ -12,7 +12,7 @@ use Rattle.flu_worker.specs.declared.holding.Holding.{Holding}
 use Rattle.flu_worker.specs.Holding.{IsHeldAs}
 use Rattle.flu_worker.specs.Moving.{IsWholeOf}
 
--- the outputs of the event in the fold come at the end
+-- the outputs of the event in the fold are appended
 abbrev pub PutsOut : Content → Ask → List Out → List Out → Type 0
 PutsOut k x old new =
     (before after : List Moment) (m : Moment) → moments (setting_of k) ≡ before ++ m ∷ after → m.event.itag ≡ x.itag → m.index ≡ x.index

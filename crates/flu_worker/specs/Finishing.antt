@@ -17,6 +17,6 @@ is_over lists seen counts i =
 abbrev pub all_over : Sight → List Itag → Bool
 all_over s itags = list_all (λ (i : Itag). is_over (listed s.case.streams) s.seen s.counts i.0) itags
 
--- so it is with each itag of the node and of those above it, and the lot is whole or both its parts are lent
+-- this holds for each itag of the node and those above it, and the lot is whole or both its parts are lent
 abbrev pub has_done_all : Sight → Hand → Bool
 has_done_all s hand = (is_whole hand || is_down hand) && all_over s (own_itags s.case s.node) && all_over s (above_itags s.case s.node)

@@ -1,4 +1,4 @@
--- What a worker has in its hand, by its shape, and how the steps change that.
+-- The shape of what a worker has in its hand, and how the steps change it.
 use Rattle.std.specs.Prelude.{ℕ, Bool, true, false, not, ◌&&◌, Option, Some, None, if◌then◌else◌}
 use Rattle.flu_worker.specs.declared.hand.Hand.{Hand}
 use Rattle.flu_worker.specs.declared.hand.Hand.TheVariants.{Empty, Whole, Lending, Down, Taking}
@@ -31,7 +31,7 @@ is_down (Lending l r) = false
 is_down Down = true
 is_down (Taking l r) = false
 
--- memory was wanting, and the lot is lost
+-- memory ran out, and the lot is lost
 abbrev pub is_lost : Hand → Bool
 is_lost Empty = false
 is_lost Whole = false
@@ -63,7 +63,7 @@ is_out s (Lending l r) = not (at_side s l r)
 is_out s Down = true
 is_out s (Taking l r) = not (at_side s l r)
 
--- once a whole lot is there anew: an inner worker forks it
+-- just after the lot becomes whole: an inner worker forks it
 abbrev pub first_hand : Option (ℕ × ℕ) → Hand
 first_hand None = Whole
 first_hand (Some kids) = Lending true true

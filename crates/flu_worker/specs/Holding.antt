@@ -1,4 +1,4 @@
--- What a worker has in its hand, and what becomes of a lot that is whole anew.
+-- What a worker has in its hand, and what happens to a lot once it is whole.
 use Rattle.std.specs.Prelude.{◌≡◌, ℕ, true, false, None, Some, IsSome}
 use Rattle.flu_fork.specs.declared.content.Content.{Content}
 use Rattle.flu_fork.specs.declared.lots.Lot.{Lot}
@@ -9,7 +9,7 @@ use Rattle.flu_worker.specs.declared.holding.Holding.{Holding}
 use Rattle.flu_worker.specs.declared.holding.Holding.TheVariants.{Empty as NoLot, Whole as WholeLot, LendingBoth, LendingLeft}
 use Rattle.flu_worker.specs.declared.holding.Holding.TheVariants.{LendingRight, Down as BothOut, TakingLeft, TakingRight, Gone}
 
--- its shape. A worker for which memory was wanting looks like none that goes on
+-- its shape. A worker that ran out of memory does not look like one that continues
 abbrev pub hand_of : Holding → Hand
 hand_of NoLot = Empty
 hand_of (WholeLot lot) = Whole

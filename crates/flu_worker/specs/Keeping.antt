@@ -1,4 +1,4 @@
--- What a worker's rule says of what contracts see of it, in each hand.
+-- What a worker's rule says about what contracts see of it, in each hand.
 use Rattle.std.specs.Prelude.{◌≡◌, ◌⊎◌, ◌||◌, ℕ, ◌<◌, ◌≤◌, Bool, true, false, Some, None, List, length, slice_index, IsSome, ⊤}
 use Rattle.flu_model.specs.Itags.{count_of_itags}
 use Rattle.flu_fork.specs.declared.lots.Ask.{Ask}
@@ -63,19 +63,19 @@ pub record HasRule (n : WorkerNote) : Type 0 where
   pub long : length n.counts ≡ count_of_itags (job n.case)
   pub shape : n.hand ≡ hand_of n.holding
   pub lots : LotsFit n n.holding
-  -- what its rule says of what it has in its hand
+  -- what its rule says about what it has in its hand
   pub holds : Holds n n.holding
   pub counted : (i : ℕ) → slice_index n.counts i ≤ length (events_at (setting_of n.case) i)
   pub keeps : KeepsIn n.hand n
-  -- while the lot is here or parts of it are out, the events of the itags above are counted as in the lot that was held, and in a part that is out those of the
-  -- node's own itags and of the itags above are counted as the worker counts them
+  -- while the lot is here or parts of it are out, the events of the itags above are counted as in the lot that was held, and in a part that is out those of
+  -- the node's own itags and of the itags above are counted as the worker counts them
   pub held : (i : ℕ) → is_open n.hand ≡ true → is_lost n.hand ≡ false → i < count_of_itags (job n.case) → above_of n i ≡ true
       → slice_index n.counts i ≡ slice_index n.held.upto i
   pub lent : (s : Side) (i : ℕ) → is_out s n.hand ≡ true → (own_of n i ≡ true) ⊎ (above_of n i ≡ true)
       → slice_index n.counts i ≡ slice_index (lent_to s n).upto i
-  -- a kept target is one by what is counted
+  -- a kept target is a target by the worker's counts
   pub target : (y : Ask) → n.kept ≡ Some y → IsTarget n.case n.node n.counts n.counts y
 
--- SEEING KEEPS IT: no more is said of a worker by what it has seen
+-- SEEING KEEPS IT: the rule says nothing about what the worker has seen
 abbrev pub SeeingKeepsTheRule : Type 0
 SeeingKeepsTheRule = (n : WorkerNote) (seen : List ℕ) → HasRule n → HasRule (record n { seen = seen })

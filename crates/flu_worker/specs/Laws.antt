@@ -1,4 +1,4 @@
--- What holds of the choices of a worker.
+-- Laws about the choices of a worker.
 use Rattle.std.specs.Prelude.{◌≡◌, ◌⊎◌, ℕ, ◌≤◌, true, false, Option, Some, None, slice_index, IsSome}
 use Rattle.flu_model.specs.declared.events.Event.{Event}
 use Rattle.flu_model.specs.Listed.{listed}
@@ -42,20 +42,20 @@ pub record HasReady (s : Sight) : Type 0 where
   pub ready : takes s least ≡ true
   pub found : least_ready s ≡ Some least
 
--- ASKED WORKERS GO ON: where an event of an itag above is asked for, and no event of these itags that is not counted is before it, the worker may take its
--- least next event, or serve what is asked
+-- ASKED WORKERS GO ON: if an event of an itag above is asked for, and no uncounted event of these itags is before it, the worker may take its least next event,
+-- or serve what is asked
 abbrev pub AskedGoOn : Type 0
 AskedGoOn =
     (s : Sight) (y : Ask) (x : Event) → AllSeen s → AsksAbove s.case s.node y → IsEventAt (setting_of s.case) y.itag.0 y.index x
     → IsFirstOf (setting_of s.case) (above_by s) s.counts x → HasReady s ⊎ (serves s (event_of s.case y) ≡ true)
 
--- WORKERS GO ON: where all events of the itags above are counted, and one of its own is not, the worker may take its least next event
+-- WORKERS GO ON: if all events of the itags above are counted, and one of its own is not, the worker may take its least next event
 abbrev pub OwnGoOn : Type 0
 OwnGoOn =
     (s : Sight) (j l : ℕ) (y : Event) → AllSeen s → own_by s j ≡ true → slice_index s.counts j ≤ l → IsEventAt (setting_of s.case) j l y
     → IsComplete (setting_of s.case) (above_by s) s.counts → HasReady s
 
--- NOTHING IS NEXT where all events of the own itags are counted
+-- NOTHING IS NEXT if all events of the own itags are counted
 pub record HasNoNext (s : Sight) : Type 0 where
   pub next : least_next s ≡ None
   pub ready : least_ready s ≡ None

@@ -1,4 +1,4 @@
--- The laws of lots, of whose itags are whose, and of waiting, on which a worker's rule rests.
+-- The laws of lots, of who owns which itags, and of waiting, on which a worker's rule rests.
 use Rattle.flu_fork.specs.Kin.{ItagsAreOfNodes, ItagsAreOfKids}
 use Rattle.flu_fork.specs.Laws.{CentralLaw}
 use Rattle.flu_fork.specs.Places.{EventsHaveMoments, EventsAreKnown}

@@ -1,4 +1,4 @@
--- How a part leaves the hand, and how one comes into it.
+-- How a part leaves the hand, and how one enters it.
 use Rattle.std.specs.Prelude.{◌≡◌, ⊤, ℕ, Some}
 use Rattle.flu_fork.specs.declared.content.Content.{Content}
 use Rattle.flu_fork.specs.declared.lots.Lot.{Lot}

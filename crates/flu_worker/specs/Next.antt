@@ -28,7 +28,7 @@ pub record IsLeastReady (s : Sight) (x : Event) : Type 0 where
   pub is : IsReadyOwn s x
   pub least : (y : Event) → IsReadyOwn s y → is_before y x ≡ false
 
--- the name of an event that comes next of its itag by what is counted
+-- the name of an event that is the next one of its itag by the counts
 abbrev pub name_of : Sight → Event → Ask
 name_of s x = record { itag = x.itag; index = slice_index s.counts x.itag.0 }
 
@@ -47,16 +47,16 @@ LeastIsOne = (s : Sight) (x y : Event) → IsLeastReady s x → IsLeastReady s y
 abbrev pub LeavesTakeTheLeast : Type 0
 LeavesTakeTheLeast = (n : WorkerNote) (a : Ask) → n.hand ≡ Whole → kids n.case n.node ≡ None → (next_of n ≡ Some a) ↔ IsLeast (sight n) a
 
--- and nothing where no own event is ready
+-- and nothing if no own event is ready
 abbrev pub LeavesTakeNothing : Type 0
 LeavesTakeNothing = (n : WorkerNote) → n.hand ≡ Whole → kids n.case n.node ≡ None → (next_of n ≡ None) ↔ ((x : Event) → IsReadyOwn (sight n) x → ⊥)
 
--- AN INNER WORKER that has its lot takes the target that it keeps, where that is its own
+-- AN INNER WORKER that has its lot takes the target that it keeps, if that is its own
 abbrev pub OthersTakeTheTarget : Type 0
 OthersTakeTheTarget =
     (n : WorkerNote) (a : Ask) → n.hand ≡ Whole → IsSome (kids n.case n.node) → (next_of n ≡ Some a) ↔ ((n.kept ≡ Some a) × (own_of n a.itag.0 ≡ true))
 
--- and none of its own events that are not counted, nor of those of the itags above, seen or not, is before that
+-- and no uncounted event of its own itags or of the itags above, seen or not, is before that
 pub record IsFirst (n : WorkerNote) (a : Ask) : Type 0 where
   pub event : Event
   pub is : IsEventAt (setting_of n.case) a.itag.0 a.index event
@@ -72,7 +72,7 @@ NothingWithoutTheLot = (n : WorkerNote) → is_whole n.hand ≡ false → next_o
 
 -- ---- what is taken next is counted with an exact place
 
--- the lot in the worker's hand has, of each itag on which the event depends, just the events before it
+-- the lot in the worker's hand has, for each itag on which the event depends, exactly the events before it
 pub record IsExactInHand (n : WorkerNote) (a : Ask) : Type 0 where
   pub lot : Lot
   pub here : n.holding ≡ WholeLot lot

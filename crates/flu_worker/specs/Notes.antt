@@ -14,11 +14,11 @@ pub record WorkerNote : Type 0 where
   -- the case that it works on, and its node of the plan
   pub case : Content
   pub node : ℕ
-  -- what it has in its hand: the shape of that, and the lots; and its target, where it keeps one
+  -- what it has in its hand: its shape and the lots; and its target, if it keeps one
   pub hand : Hand
   pub holding : Holding
   pub kept : Option Ask
-  -- how many items of each itag it has seen, and how many events counted
+  -- how many items of each itag it has seen, and how many events it has counted
   pub seen : List ℕ
   pub counts : List ℕ
   -- the counts of the lot held last, and the upto of the lot given last

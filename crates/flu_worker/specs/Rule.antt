@@ -1,13 +1,13 @@
--- THE RULE of a worker: what holds of it between its calls, by what it has in its hand.
+-- THE RULE of a worker: what holds for it between its calls, by what it has in its hand.
 --
--- Empty: the lot is with the worker above. What the worker counted of its own itags is what it gave.
--- Whole: the lot fits the node. A leaf keeps no target. At an inner worker the lot came together for a target, for which it is served.
+-- Empty: the lot is with the worker above. What the worker counted for its own itags is what it gave.
+-- Whole: the lot fits the node. A leaf keeps no target. An inner worker's lot was joined for a target, and is served for it.
 -- Lending: the lot was forked, and a part of it is still here. It fits the child that it is for.
--- Down: both parts are lent, and they are those of one fork. A target may be kept: the event for which the parts are asked back.
--- Taking: one part is back. It fits its child, and is served for the target; the other one is out.
+-- Down: both parts are lent, and they come from one fork. A target may be kept: the event for which the parts are asked back.
+-- Taking: one part is back. It fits its child, and is served for the target; the other part is out.
 --
--- In each hand the counts of the lot, or of the fork, agree with what the worker counted, held and took, so that the next loan to each child goes on from what
--- this child gave last.
+-- In each hand the counts of the lot, or of the fork, agree with what the worker counted, held and took, so that the next loan to each child continues from
+-- what this child gave last.
 use Rattle.std.specs.Prelude.{◌≡◌, ℕ, ◌<◌, true, Some, None, List, length, slice_index, IsSome}
 use Rattle.flu_model.specs.Listed.{listed}
 use Rattle.flu_laws.specs.Spans.{AreAtMost}
@@ -43,14 +43,14 @@ pub record HoldsWhole (n : WorkerNote) (lot : Lot) : Type 0 where
   pub leaf : kids n.case n.node ≡ None → n.kept ≡ None
   pub inner : IsSome (kids n.case n.node) → IsSome n.kept
   pub target : (y : Ask) → n.kept ≡ Some y → IsTarget n.case n.node n.counts lot.upto y
-  -- it could be asked for by the parts lent last
+  -- it could be asked for, by the counts of the parts lent last
   pub lent : (y : Ask) → n.kept ≡ Some y → (y.index ≡ slice_index n.lent_left.upto y.itag.0) × (y.index ≡ slice_index n.lent_right.upto y.itag.0)
   -- the lot is served for it
   pub served : (y : Ask) → n.kept ≡ Some y → Served n.case n.node n.held y lot
 
 -- ---- Lending
 
--- a part that is to be lent to the child v: it fits, it has the counts of the loan, and these go on from what was taken last
+-- a part that is to be lent to the child v: it fits, it has the counts of the loan, and these continue from what was taken last
 pub record IsPart (k : Content) (v : ℕ) (loan : LotCounts) (taken : List ℕ) (lot : Lot) : Type 0 where
   pub fits : LotFits k v lot
   pub loaned : counts_of lot ≡ loan
@@ -102,7 +102,7 @@ pub record TakesRight (n : WorkerNote) (right : Lot) : Type 0 where
   pub taken : n.taken_right ≡ right.upto
   pub served : (y : Ask) (l r : ℕ) → n.kept ≡ Some y → kids n.case n.node ≡ Some (l, r) → Served n.case r n.lent_right y right
 
--- ---- each hand. Of a worker for which memory was wanting only this is said, that it keeps no target: it is to be given up
+-- ---- each hand. If memory ran out, the rule says only that the worker keeps no target: it must be discarded
 abbrev pub Holds : WorkerNote → Holding → Type 0
 Holds n NoLot = HoldsNone n
 Holds n (WholeLot lot) = HoldsWhole n lot

@@ -1,4 +1,4 @@
--- A mailbox that is that of a node of a case, and tests on what was found in it.
+-- A mailbox of a node of a case, and tests on what was found in it.
 use Rattle.std.specs.Prelude.{◌≡◌, ℕ, Bool, true, Option, Some, None, ◌<◌, ◌==◌, ◌&&◌, ◌||◌, nat_lt, if◌then◌else◌, length}
 use Rattle.std.specs.List.{fold}
 use Rattle.flu_model.specs.declared.events.Event.{Event}
@@ -17,7 +17,7 @@ pub record IsMailFor (k : Content) (w : ℕ) (mail : Mailbox) : Type 0 where
   pub at_node : IsAt (job k) (nodes k) mail
   pub over : IsOver (listed k.streams) mail
 
--- it is before the one that was found, where there is one
+-- it is before the one that was found, if there is one
 abbrev pub comes_first : Event → Option Event → Bool
 comes_first x None = true
 comes_first x (Some y) = is_before x y
@@ -36,6 +36,6 @@ earlier_due None b = due_of b
 earlier_due (Some d) None = Some d
 earlier_due (Some d) (Some y) = if comes_before y d then due_of (Some y) else Some d
 
--- those of the least next event of the node's own itags
+-- the same for the least next event of the node's own itags
 abbrev pub first_due : Sight → Option Due
 first_due s = fold (λ found i. earlier_due found (next_at s i)) None (own_itags s.case s.node)

@@ -1,4 +1,4 @@
--- What a worker has at the start: the root the opening lot, and every other one nothing.
+-- What a worker has at the start: the root has the opening lot, and the others have nothing.
 use Rattle.std.specs.Prelude.{◌≡◌, ℕ, zero, suc}
 use Rattle.flu_fork.specs.declared.content.Content.{Content}
 use Rattle.flu_fork.specs.declared.lots.Lot.{Lot}

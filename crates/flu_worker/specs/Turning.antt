@@ -34,7 +34,7 @@ pub record TurnsAtTake (s : Side) (h : Hand) : Type 0 where
 abbrev pub TakeTurns : Type 0
 TakeTurns = (s : Side) (h : Hand) → may_take s h ≡ true → TurnsAtTake s h
 
--- of a whole lot that is there anew, and at the start, no part is out
+-- just after a lot becomes whole, and at the start, no part is out
 abbrev pub FirstIsHere : Type 0
 FirstIsHere = (kids : Option (ℕ × ℕ)) (s : Side) → is_out s (first_hand kids) ≡ false
 

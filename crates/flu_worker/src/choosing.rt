@@ -1,4 +1,4 @@
-//! Which event a worker takes next, at which one it aims, and when it may give its lot.
+//! Which event a worker takes next, which one it aims at, and when it may give its lot.
 
 ghost use Rattle.std.specs.Prelude.{◌≡◌, ◌<◌, true, IfSome, slice_index};
 ghost use Rattle.std.specs.List.{AllByRecursion};
@@ -77,7 +77,7 @@ fn due_of(next: Option<Event>) -> Option<Due>
     }
 }
 
-// What was found so far, or the time and the itag of a next event, where this one is earlier.
+// What was found so far, or the time and the itag of a next event, if this one is earlier.
 fn earlier_due(found: Option<Due>, next: Option<Event>) -> Option<Due>
     ensures { result ≡ earlier_due found next }
 {
@@ -96,7 +96,7 @@ fn earlier_due(found: Option<Due>, next: Option<Event>) -> Option<Due>
     }
 }
 
-// The time and the itag of the least next event of the node's own itags. Whole events would go through memory at each step.
+// The time and the itag of the least next event of the node's own itags. Whole events would be copied through memory at each step.
 fn first_due(case: &Case, node: u32, mail: &Mailbox) -> Option<Due>
     requires mail { IsMailFor case.now node mail.now }
     ensures { result ≡ first_due (sight_at case.now node mail.now) }
@@ -146,8 +146,8 @@ fn comes_first(x: &Event, found: &Option<Event>) -> bool
     }
 }
 
-// The earlier one of what was found so far and of the next event of an itag, where the node may take that. What the node may
-// take is looked up last, since this takes longest.
+// The earlier of what was found so far and the next event of an itag, if the node may take that. Whether the node may take it is
+// checked last, since that takes longest.
 fn earlier_ready(
     case: &Case,
     node: u32,
@@ -171,7 +171,7 @@ fn earlier_ready(
     }
 }
 
-// The least one of the next events that the node may take.
+// The least of the next events that the node may take.
 fn search_ready(case: &Case, node: u32, mail: &Mailbox) -> Option<Event>
     requires mail { IsMailFor case.now node mail.now }
     ensures { result ≡ least_ready (sight_at case.now node mail.now) }
@@ -183,7 +183,7 @@ fn search_ready(case: &Case, node: u32, mail: &Mailbox) -> Option<Event>
     found
 }
 
-// The least one of the next events that the node may take. The least next event is tried first, and mostly is the one.
+// The least of the next events that the node may take. The least next event is tried first, and usually is the one.
 fn least_ready(case: &Case, node: u32, mail: &Mailbox) -> Option<Event>
     requires mail { IsMailFor case.now node mail.now }
     ensures { result ≡ least_ready (sight_at case.now node mail.now) }
@@ -226,7 +226,7 @@ fn serves(case: &Case, node: u32, mail: &Mailbox, y: Ask) -> bool
     }
 }
 
-// What is asked, where the node may serve it.
+// What is asked, if the node may serve it.
 fn if_serves(case: &Case, node: u32, mail: &Mailbox, asked: Option<Ask>) -> Option<Ask>
     requires mail { IsMailFor case.now node mail.now }
     requires known { IfSome asked (λ y. y.itag.0 < count_of_itags (job case.now)) }
@@ -245,7 +245,7 @@ fn if_serves(case: &Case, node: u32, mail: &Mailbox, asked: Option<Ask>) -> Opti
     }
 }
 
-// The first of two asks that is there.
+// The first of two asks that is present.
 fn first_some(a: Option<Ask>, b: Option<Ask>) -> Option<Ask>
     ensures { result ≡ first_some a b }
 {
@@ -288,7 +288,7 @@ fn owns(case: &Case, node: u32, i: Itag) -> bool
     case.valid().owner(i) == node
 }
 
-// The kept target, where the node owns it.
+// The kept target, if the node owns it.
 fn if_own(case: &Case, node: u32, mail: &Mailbox, kept: Option<Ask>) -> Option<Ask>
     requires known { IfSome kept (λ y. y.itag.0 < count_of_itags (job case.now)) }
     ensures { result ≡ if_own (sight_at case.now node mail.now) kept }

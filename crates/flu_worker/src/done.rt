@@ -1,4 +1,4 @@
-//! An event is done and counted.
+//! Updating a lot with an event, and counting the event.
 
 ghost use Rattle.std.specs.Prelude.{◌≡◌, ◌<◌, ◌+◌, true, None, length, slice_index, slice_set, OnOk, OnErr};
 ghost use Rattle.flu_fork.specs.declared.lots.Lot.{Lot as LotNote};
@@ -18,10 +18,10 @@ use flu_model::{Event, Outs};
 use flu_step::update;
 use std::alloc::{AllocError, Global};
 
-/// The lot of a whole hand, updated with the event that x names, which is exact for it, and this event counted. An inner worker forks
-/// it then.
+/// The lot of a whole hand, updated with the event that x names, for which its counts are exact, with this event counted. An inner
+/// worker then forks it.
 ///
-/// A leaf's lot stays where it is, since moving it takes longer than most updates. Where memory is wanting, nothing is left of a lot.
+/// A leaf's lot stays in place, since moving it takes longer than most updates. If memory runs out, nothing is left of the lot.
 pub fn done_in(
     alloc: Global,
     case: &Case,
@@ -48,7 +48,7 @@ pub fn done_in(
     Ok(())
 }
 
-// The lot of a leaf is updated and the event counted.
+// Updates the lot of a leaf and counts the event.
 fn done_at_leaf(
     alloc: Global,
     case: &Case,
@@ -76,7 +76,7 @@ fn done_at_leaf(
     told
 }
 
-// The lot of a node is updated and the event counted.
+// Updates the lot of a node and counts the event.
 fn done(
     alloc: Global,
     case: &Case,
@@ -94,7 +94,7 @@ fn done(
     ensures outs { OnOk result (PutsOut case.now x outs.old outs.new) }
 {
     laws_below();
-    // There are as many items as events at least, so that one more can be counted.
+    // There are at least as many items as events, so one more event can be counted.
     if x.index >= case.streams().items(x.itag).len() as u64 {
         unreachable!();
     }

@@ -28,7 +28,7 @@ fn is_over(case: &Case, mail: &Mailbox, i: Itag) -> bool
     mail.seen(i) == s.items(i).len() as u64 && mail.pending(s, i).is_none()
 }
 
-// Whether so it is with each of some itags.
+// Whether this holds for each of some itags.
 fn are_over(case: &Case, mail: &Mailbox, itags: &[Itag]) -> bool
     requires over { IsOver (listed case.now.streams) mail.now }
     requires known { AllByRecursion (λ (i : ItagNote). i.0 < count_of_itags (job case.now)) itags.now }

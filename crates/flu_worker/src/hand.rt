@@ -1,4 +1,4 @@
-//! What a worker has in its hand, by its shape.
+//! The shape of what a worker has in its hand.
 
 /// A child of a node.
 #[derive(Clone, Copy, PartialEq, Eq, Debug)]
@@ -14,11 +14,11 @@ pub enum Hand {
     Empty,
     /// Its lot.
     Whole,
-    /// Parts of its forked lot: true where the part is still to be lent. At least one is.
+    /// Parts of its forked lot: true if the part is still to be lent. At least one is.
     Lending { left: bool, right: bool },
     /// Nothing: both parts of its lot are lent.
     Down,
-    /// Parts that came back: true where the part was taken, one of the two. Both are true only after memory was wanting: such a
-    /// worker is to be given up.
+    /// Parts that came back: true if the part was taken, one of the two. Both are true only after memory ran out: such a
+    /// worker must be discarded.
     Taking { left: bool, right: bool },
 }

@@ -10,7 +10,7 @@ use crate::hand::Hand;
 use flu_fork::{Case, Lot, fork};
 use std::alloc::{AllocError, Global};
 
-/// What a worker has: its lot, or the parts of it that are to be lent or that came back.
+/// What a worker has: its lot, or the parts of it that are still to be lent or that came back.
 #[derive(Drop)]
 pub enum Holding {
     Empty,
@@ -21,7 +21,7 @@ pub enum Holding {
     Down,
     TakingLeft(Lot),
     TakingRight(Lot),
-    /// What is left where memory was wanting: the lot is lost, and the worker is to be given up.
+    /// What is left if memory ran out: the lot is lost, and the worker must be discarded.
     Gone,
 }
 
@@ -54,7 +54,7 @@ fn taking(left: bool, right: bool) -> Hand
     Hand::Taking { left, right }
 }
 
-/// What a worker has once its lot is whole anew: an inner worker forks it.
+/// What a worker has once its lot is whole again: an inner worker forks it.
 pub fn held_as(alloc: Global, case: &Case, node: u32, lot: Lot) -> Result<Holding, AllocError>
     requires node { node < length (nodes case.now) }
     requires fits { LotFits case.now node lot }
@@ -67,7 +67,7 @@ pub fn held_as(alloc: Global, case: &Case, node: u32, lot: Lot) -> Result<Holdin
     Ok(Holding::LendingBoth(left, right))
 }
 
-/// What the worker has, which has nothing from then on.
+/// Takes what the worker has; it has nothing afterwards.
 pub fn taken(holding: &mut Holding) -> Holding
     ensures was { result ≡ holding.old }
     ensures gone { holding.new ≡ Gone }

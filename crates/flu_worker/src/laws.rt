@@ -1,4 +1,4 @@
-//! What holds of the choices of a worker, and the laws on which its rule rests. Each law is the contract of a function that does
+//! Laws about the choices of a worker, and the laws on which its rule rests. Each law is the contract of a function that does
 //! nothing.
 
 ghost use Rattle.flu_worker.specs.Keeping.{SeeingKeepsTheRule};
@@ -8,8 +8,8 @@ ghost use Rattle.flu_worker.specs.Next.{LeastIsOne, LeavesTakeTheLeast, LeavesTa
 ghost use Rattle.flu_worker.specs.Next.{NothingWithoutTheLot, NextIsExact};
 ghost use Rattle.flu_worker.specs.Turning.{LendTurns, TakeTurns, FirstIsHere, StartIsHere, StartIsShut};
 
-/// Of an inner worker's two possible targets only one is there: where it may take its least next event, it may not serve the next
-/// event of an itag above it, since its own one is before that and holds it up.
+/// Of an inner worker's two possible targets at most one exists: if it may take its least next event, it may not serve the next
+/// event of an itag above it, since its own event is before that one and blocks it.
 pub fn targets_are_one()
     ensures { TargetsAreOne }
 {
@@ -23,9 +23,9 @@ pub fn targets_are_own_or_asked()
     laws_below();
 }
 
-/// When all is seen, a worker waits for none but those above it and below it. Where no event of an itag above is before what is
-/// asked, it may take its least next event or serve what is asked; where nothing is left above, it may take its least next event;
-/// and where all events of its own itags are counted, it has none.
+/// When all is seen, a worker waits only for those above it and below it. If no event of an itag above is before what is asked, it
+/// may take its least next event or serve what is asked; if nothing is left above, it may take its least next event; and if all
+/// events of its own itags are counted, it has none.
 pub fn waiting_ends()
     ensures asked { AskedGoOn }
     ensures own { OwnGoOn }
@@ -34,9 +34,9 @@ pub fn waiting_ends()
     laws_below();
 }
 
-/// Which event a worker takes next (`next_of`). A leaf that has its lot takes the least own event that is ready, of which there is one
-/// at most, and nothing where no own event is ready. An inner worker takes its target where that is its own, and none of its own
-/// events that are not counted, nor of those of the itags above, is before it. Without its whole lot a worker takes nothing.
+/// Which event a worker takes next (`next_of`). A leaf that has its lot takes the least own event that is ready, of which there is at
+/// most one, and nothing if no own event is ready. An inner worker takes its target if that is its own, and no uncounted event of its
+/// own itags or of the itags above is before it. Without its whole lot a worker takes nothing.
 pub fn next_events_are_least()
     ensures leaf { LeavesTakeTheLeast }
     ensures none { LeavesTakeNothing }
@@ -48,21 +48,21 @@ pub fn next_events_are_least()
     laws_below();
 }
 
-/// Each event that a worker takes next has an exact place for the counts of the lot in its hand: of each itag on which the event
-/// depends, just the events before it are counted.
+/// For each event that a worker takes next, the counts of the lot in its hand are exact: of each itag on which the event depends,
+/// exactly the events before it are counted.
 pub fn next_events_are_exact()
     ensures { NextIsExact }
 {
     laws_below();
 }
 
-/// What a worker's rule says does not rest on how many items it has seen.
+/// What a worker's rule says does not depend on how many items it has seen.
 pub fn seeing_keeps_the_rule()
     ensures { SeeingKeepsTheRule }
 {}
 
-/// What a step does to the shape of a hand: a part that is lent was here and is out, one that is taken was out and is here, and the
-/// other side stays as it was. At the start no part is out, and only the root has a lot.
+/// What a step does to the shape of a hand: a part that is lent was here and is then out, one that is taken was out and is then here,
+/// and the other side stays as it was. At the start no part is out, and only the root has a lot.
 pub fn hands_turn()
     ensures lend { LendTurns }
     ensures take { TakeTurns }
@@ -71,7 +71,7 @@ pub fn hands_turn()
     ensures shut { StartIsShut }
 {}
 
-/// The laws of lots, of whose itags are whose, and of waiting.
+/// The laws of lots, of who owns which itags, and of waiting.
 pub(crate) fn laws_below()
     ensures { LawsBelow }
 {

@@ -1,4 +1,4 @@
-//! One worker of the tree: what it has seen, counted, holds and lends, and what it does next (`docs/TREE.md`).
+//! One worker of the tree: what it has seen and counted, what it holds and lends, and what it does next (`docs/TREE.md`).
 #![tactic(auto)]
 
 mod choosing;

@@ -1,4 +1,4 @@
-//! Parts that leave the hand and come into it.
+//! Parts that leave the hand and enter it.
 
 ghost use Rattle.std.specs.Prelude.{◌≡◌, ◌<◌, ℕ, true, false, Some, length, IsSome, IfOk};
 ghost use Rattle.flu_fork.specs.Lots.{nodes, kids, LotFits};

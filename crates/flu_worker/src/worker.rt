@@ -34,13 +34,13 @@ use std::snapshot::Snapshot;
 /// The worker of a node of a plan: it takes the node's own events one by one, in event order, and hands its lot to its children
 /// and back to the worker above (`docs/TREE.md`).
 ///
-/// It has a mailbox, which tells what it has seen and counted, a hand, and perhaps a target: the event for which an inner worker
+/// It has a mailbox, which records what it has seen and counted, a hand, and perhaps a target: the event for which an inner worker
 /// asks the parts of its lot back. Its calls are for the case that it was made with. Nodes and itags are numbered from 0.
 ///
-/// The last lots that it held, gave, lent and took are seen by contracts alone, by their counts, and take no room.
+/// Only contracts see the lots that it held, gave, lent and took last, by their counts; they take no room.
 ///
-/// A call that wants memory and finds none leaves the worker without its lot. Such a worker is to be given up: its hand is
-/// `Taking` with both parts, and it does nothing more.
+/// A call that runs out of memory leaves the worker without its lot. Such a worker must be discarded: its hand is `Taking` with both
+/// parts, and it does nothing more.
 #[derive(Drop)]
 pub struct Worker {
     case: CaseNote,
@@ -110,12 +110,12 @@ impl Model for Worker {
 }
 
 impl Worker {
-    /// The worker of a node at the start: the root's has the opening lot, and forks it where it has children; every other hand is
+    /// The worker of a node at the start: the root's has the opening lot, and forks it if it has children; every other hand is
     /// empty.
     ///
     /// # Errors
     ///
-    /// Only where memory is wanting.
+    /// Only if memory runs out.
     pub fn new(alloc: Global, case: &Case, node: u32) -> Result<Worker, AllocError>
         requires { node < length (nodes case.now) }
         ensures { IfOk result (IsNew case.now node) }
@@ -141,7 +141,7 @@ impl Worker {
         })
     }
 
-    /// So many items of an itag are seen now, from its first one on: at least those that were seen, and no more than there are. It
+    /// This many items of an itag are seen now, from its first one on: at least those that were seen, and no more than there are. It
     /// takes no memory.
     pub fn see(&mut self, case: &Case, i: Itag, count: u64)
         requires case { case.now ≡ self.old.case }
@@ -153,7 +153,7 @@ impl Worker {
         self.mail.see(i, count);
     }
 
-    /// The rule of the worker, by what contracts see of it. This call does nothing.
+    /// The rule of the worker, in terms of what contracts see of it. This call does nothing.
     pub fn rule(&self)
         ensures { HasRule self.now }
     {
@@ -161,14 +161,14 @@ impl Worker {
         let _node = &self.node;
     }
 
-    /// What it has in its hand, by its shape.
+    /// The shape of what it has in its hand.
     pub fn hand(&self) -> Hand
         ensures { result ≡ self.now.hand }
     {
         hand_of(&self.holding)
     }
 
-    /// The state of the lot of a whole hand; none where the hand is another.
+    /// The state of the lot of a whole hand; none if the hand is not whole.
     pub fn held(&self) -> Option<&State>
         ensures some { is_some result ≡ is_whole self.now.hand }
         ensures state { IfSome result (λ s. IsWholeState self.now s.now) }
@@ -179,7 +179,7 @@ impl Worker {
         }
     }
 
-    /// The lot of a whole hand; none where the hand is another.
+    /// The lot of a whole hand; none if the hand is not whole.
     pub fn into_lot(self) -> Option<Lot>
         ensures some { is_some result ≡ is_whole self.hand }
         ensures lot { IfSome result (IsWholeLot self) }
@@ -191,14 +191,14 @@ impl Worker {
         }
     }
 
-    /// Takes in a lot that came down to it: a leaf has it whole, and an inner worker forks it, with both parts to lend. The events of
+    /// Takes in a lot that came down to it: a leaf keeps it whole, and an inner worker forks it, with both parts to lend. The events of
     /// the itags above are counted as in the lot.
     ///
-    /// The hand is empty, and the lot's counts go on from those of the lot given last.
+    /// The hand is empty, and the lot's counts continue from those of the lot given last.
     ///
     /// # Errors
     ///
-    /// Only where memory is wanting; the worker is to be given up then.
+    /// Only if memory runs out; the worker must then be discarded.
     pub fn hold(&mut self, alloc: Global, case: &Case, lot: Lot) -> Result<(), AllocError>
         requires case { case.now ≡ self.old.case }
         requires empty { is_open self.old.hand ≡ false }
@@ -218,12 +218,12 @@ impl Worker {
         Ok(())
     }
 
-    /// The event that it takes next, by what it has seen and counted: at a leaf that has its lot the least next event of the node's
-    /// own that is ready, at an inner worker that has its lot its target, where that is its own. That this is what `next_of` says, and
-    /// that there is no other, is `laws::next_events_are_least`. It takes no memory.
+    /// The event that it takes next, by what it has seen and counted: at a leaf that has its lot, the least next event of the node's own
+    /// itags that is ready; at an inner worker that has its lot, its target, if that is its own. `laws::next_events_are_least` says that
+    /// this is what `next_of` gives, and that there is no other. It takes no memory.
     ///
-    /// At a leaf it looks once at each of the node's own itags, and then once at each itag for which the least event waits; where this
-    /// one is not ready, the others are tried.
+    /// At a leaf it checks each of the node's own itags once, and then once each itag for which the least event waits; if this one is
+    /// not ready, the others are tried.
     pub fn can_handle(&self, case: &Case) -> Option<Ask>
         requires { case.now ≡ self.now.case }
         ensures { result ≡ next_of self.now }
@@ -231,12 +231,12 @@ impl Worker {
         next_ask(case, self.node, &self.mail, self.hand(), self.kept)
     }
 
-    /// Handles the event that comes next: updates its lot with it, puts its outputs at the end, and counts it. An inner worker forks
-    /// its lot then, with both parts to lend.
+    /// Handles the event that comes next: updates its lot with it, appends its outputs, and counts it. An inner worker then forks its
+    /// lot, with both parts to lend.
     ///
     /// # Errors
     ///
-    /// Only where memory is wanting; the worker is to be given up then.
+    /// Only if memory runs out; the worker must then be discarded.
     pub fn handle(
         &mut self,
         alloc: Global,
@@ -271,8 +271,8 @@ impl Worker {
         gives(case, self.node, &self.mail, self.hand(), self.kept, y)
     }
 
-    /// Gives up its lot for an ancestor's event, where it may. The lot fits the node, and has all events of its subtree that are
-    /// before this one and on which it depends, and none of those behind it. It takes no memory.
+    /// Gives up its lot for an ancestor's event, if it may. The lot fits the node, and has all events of its subtree that are before
+    /// this one and on which it depends, and none of those after it. It takes no memory.
     pub fn give(&mut self, case: &Case, y: Ask) -> Lot
         requires case { case.now ≡ self.old.case }
         requires may { may_give self.old y ≡ true }
@@ -326,8 +326,8 @@ impl Worker {
         lot
     }
 
-    /// Its target: the one that it keeps; or where both parts of its lot are lent, the least next event of the node's own, if that
-    /// is ready, or else what is asked of it, if it is ready to serve that. None is kept by this call. It takes no memory.
+    /// Its target: the one that it keeps; or if both parts of its lot are lent, the least next event of the node's own, if that is
+    /// ready, or else what is asked of it, if it is ready to serve that. This call does not keep it. It takes no memory.
     ///
     /// What is asked names the next event of an itag above the node.
     pub fn target(&self, case: &Case, asked: Option<Ask>) -> Option<Ask>
@@ -362,7 +362,7 @@ impl Worker {
     ///
     /// # Errors
     ///
-    /// Only where memory is wanting; the worker is to be given up then.
+    /// Only if memory runs out; the worker must then be discarded.
     pub fn take_reply(
         &mut self,
         alloc: Global,
@@ -426,7 +426,7 @@ impl Worker {
         Ok(())
     }
 
-    /// Whether nothing is left for it: the lot is whole or both parts are lent, and all items of the node's own itags and of those
+    /// Whether it has nothing left to do: the lot is whole or both parts are lent, and all items of the node's own itags and of those
     /// above it are seen, and all their events counted. It takes no memory.
     ///
     /// Then a leaf has its lot, and an inner worker keeps no target, with the parts of one fork lent.
