@@ -1,4 +1,4 @@
-//! A small job that is accepted, and what is refused of it where one thing is changed.
+//! A small job that is accepted, and what is refused of it if one thing is changed.
 
 use flu_model::{
     Act, Action, At, CellRef, Depend, Expr, Family, Keys, Kind, List, Name, Piece, Sort, Source,
@@ -33,7 +33,7 @@ struct Case {
 
 /// What is changed of the small job: the version, the family's name, how many families there are, the sort, whether the family and the
 /// kinds are keyed and how these name its cell, the height of what is added, a literal in place of the value, the pieces of the
-/// template, the rate, the slack, or, where family and kinds are keyed, the tags of the source.
+/// template, the rate, the slack, or, if family and kinds are keyed, the tags of the source.
 #[derive(Clone, Copy)]
 enum Change {
     Nothing,
@@ -212,7 +212,7 @@ fn templates_rates_and_slacks(rt: HostRuntime) -> Result<(), Fail> {
     Ok(())
 }
 
-/// The tags of a kind, where it is keyed.
+/// The tags of a kind, if it is keyed.
 const fn tags_of(kind: u32, keys: Keys) -> TagRef {
     TagRef { kind, keys }
 }

@@ -26,7 +26,7 @@ impl Draws {
         Draws { last: seed }
     }
 
-    /// A number below another one; 0 where that is 0.
+    /// A number below another one; 0 if that is 0.
     pub fn below(&mut self, most: u32) -> u32 {
         self.last = next_draw(self.last);
         draw_of(self.last).checked_rem(most).unwrap_or(0)

@@ -18,7 +18,7 @@ use flu_seq::{Engine, fold};
 use std::alloc::{AllocError, Global};
 use std::process::Abort;
 
-/// What a run is to come to: the report, and, where they are given, how many steps of each kind it has, in the order in which they are
+/// What a run is to come to: the report, and, if they are given, how many steps of each kind it has, in the order in which they are
 /// declared, and its mark with the bound on its steps.
 #[derive(Clone, Copy)]
 pub struct Wanted<'a> {
@@ -73,7 +73,7 @@ pub fn folded(rt: &impl Abort, alloc: Global, stage: &Stage) -> String {
     ended(rt, alloc, stage.checked, &state, outs)
 }
 
-/// The report of some outputs, and behind it what a state holds in the first cell of its first two families, each in a line.
+/// The report of some outputs, and after it what a state holds in the first cell of its first two families, each in a line.
 pub fn ended(
     rt: &impl Abort,
     alloc: Global,

@@ -13,8 +13,9 @@ use std::process::Abort;
 /// More steps than a net of these tests makes.
 const MANY: u32 = 1000;
 
-/// A walk over a net: the steps of a list, before each of which all of others are tried and refused, and then whatever is enabled, which there is
-/// just until the net is final. Whether each step of the list is made, whether the net is final behind them, and what the run comes to.
+/// A walk over a net: the steps of a list, before each of which all of others are tried and refused, and then whatever is enabled, which
+/// there is exactly until the net is final. Whether each step of the list is made, whether the net is final after them, and what the run
+/// comes to.
 #[derive(Clone, Copy)]
 pub struct Walk<'a> {
     pub steps: &'a [Step],
@@ -74,7 +75,7 @@ fn all_made(
     Ok((all, none))
 }
 
-/// Makes enabled steps until there is none; whether there is none just where the net is final.
+/// Makes enabled steps until there is none; whether there is none exactly if the net is final.
 fn run_out(alloc: Global, case: &Case, net: &mut Net) -> Result<bool, AllocError>
     requires { case.now ≡ net.old.case }
     ensures { OnOk result (net.new.case ≡ net.old.case) }

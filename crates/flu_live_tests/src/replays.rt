@@ -19,9 +19,9 @@ use std::process::Abort;
 /// What is done to one line of a trace.
 #[derive(Clone, Copy)]
 enum Edit {
-    /// Another line stands in its place.
+    /// Another line is in its place.
     Changed,
-    /// It stands twice.
+    /// It is there twice.
     Doubled,
     /// It is not there.
     Dropped,
@@ -43,7 +43,7 @@ const ODD: [&str; 8] = [
     "take 0 middle",
 ];
 
-/// How edited traces end: so many at a bad line, at a step that is not enabled, before the net is final, and in a final net.
+/// How edited traces end: how many at a bad line, at a step that is not enabled, before the net is final, and in a final net.
 #[derive(Clone, Copy)]
 struct Tally {
     bad: u32,
@@ -121,7 +121,7 @@ fn stepped(rt: &impl Abort, alloc: Global, case: &Case, text: &str) -> String {
     }
 }
 
-/// The trace of some lines, one of which is edited; where it is changed, another line stands there.
+/// The trace of some lines, one of which is edited; if it is changed, another line is in its place.
 fn edited(
     rt: &impl Abort,
     alloc: Global,

@@ -1,5 +1,5 @@
-//! Jobs that are accepted, each with a plan that is valid for it and the streams of its sources, and what is tried on them. Whatever does not go as a
-//! test says ends it, so that no function here has a way out while it owns a job or a net.
+//! Jobs that are accepted, each with a plan that is valid for it and the streams of its sources, and what is tried on them. Whatever does
+//! not go as a test says ends it, so that no function here has a way out while it owns a job or a net.
 
 ghost use Rattle.std.specs.Prelude.{◌≡◌, ◌^◌, ◌<◌, length};
 ghost use Rattle.flu_model.specs.Itags.{count_of_itags};
@@ -25,7 +25,7 @@ use flu_valid::validate;
 use std::alloc::{AllocError, Global};
 use std::process::Abort;
 
-/// What a test says that ends where memory is wanting.
+/// What a test says if it ends because memory ran out.
 pub const MEMORY: &str = "there is memory";
 
 /// The files of a job's sources, each with its name.
@@ -55,7 +55,7 @@ pub enum Task<'a> {
     Run(Wanted<'a>),
     /// A walk over the net goes as it says.
     Walk(Walk<'a>),
-    /// The replay of the trace of a run comes to what the fold comes to: where it is given, to this, and from so many lines.
+    /// The replay of the trace of a run comes to what the fold comes to: if it is given, to this, and from this many lines.
     Retell(Option<(usize, &'a str)>),
     /// The replay of a trace, the first text, comes to the second one.
     Replay(&'a str, &'a str),
@@ -157,7 +157,7 @@ fn on_job(rt: &impl Abort, alloc: Global, checked: &Checked, input: Input, seed:
     on_stage(rt, alloc, &stage, seed, task);
 }
 
-/// Tries what a test asks on a job with its plan over its sources' rows; the seed is that of the run, and of the rows where these are drawn.
+/// Tries what a test asks on a job with its plan over its sources' rows; the seed is that of the run, and of the rows if these are drawn.
 pub fn tries(rt: &impl Abort, alloc: Global, input: Input, seed: u32, task: Task)
     requires { seed < 2 ^ 31 }
 {

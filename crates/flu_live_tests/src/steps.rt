@@ -11,7 +11,7 @@ use flu_worker::Side;
 const VALUES_TOLD: &str = "4,r2,q 7\n5,z,z none 7\n10,r,p 9\nSome(Last(9))\nSome(Last(7))\n";
 
 /// A whole run of the job with two last values, in which the later one of the events at the root is seen before all others. It has to wait:
-/// the earlier one may come yet, and no part is asked for before it did.
+/// the earlier one may still come, and no part is asked for before it has.
 const LATER_ONE_FIRST: [Step; 33] = [
     Step::Arrive(Itag(0)),
     Step::Lend(0, Side::Left),

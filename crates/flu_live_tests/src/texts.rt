@@ -2,7 +2,7 @@
 
 use crate::stages::Sources;
 
-/// A count to which two sources add and that a third puts out and clears.
+/// A count to which two sources add and that a third emits and clears.
 pub const COUNT: &str =
     "cell count sum\ntag inc int\ntag read none\ndepends inc read\ndepends read read\non inc: add count value\non read: emit \"count {count}\"; clear count\nsource a \"a\" rate 1000: inc\nsource b \"b\" rate 1000: inc\nsource c \"c\" rate 1: read\n";
 
@@ -14,11 +14,11 @@ pub const READS_FIRST: &str =
 pub const FOUR: &str =
     "cell count sum\ntag inc int\ntag read none\ndepends inc read\ndepends read read\non inc: add count value\non read: emit \"count {count}\"; clear count\nsource a \"a\" rate 1000: inc\nsource b \"b\" rate 1000: inc\nsource c \"c\" rate 1: read\nsource d \"d\" rate 1: read\n";
 
-/// Two last values, each set by a source of its own, and a source that puts out both.
+/// Two last values, each set by a source of its own, and a source that emits both.
 pub const LAST: &str =
     "cell p last\ncell q last\ntag r int\ntag r2 int\ntag z none\ndepends r r\ndepends r2 r2\ndepends z z\ndepends r z\ndepends r2 z\non r: set p value; emit \"p {p}\"\non r2: set q value; emit \"q {q}\"\non z: emit \"z {p} {q}\"\nsource s1 \"a\" rate 1: r\nsource s2 \"b\" rate 1: r2\nsource s3 \"c\" rate 10: z\n";
 
-/// Trades that read a price, which quotes set, and add up to a volume that a third kind puts out and clears.
+/// Trades that read a price, which quotes set, and add up to a volume that a third kind emits and clears.
 pub const SHARED: &str =
     "version 2\ncell price last\ncell vol sum\ntag quote int\ntag trade int\ntag shut none\ndepends quote quote\ndepends quote trade\ndepends trade shut\ndepends shut shut\non quote: set price value\non trade: add vol value * price; emit \"at {price}\"\non shut: emit \"vol {vol}\"; clear vol\nsource q \"q\" rate 1: quote\nsource t1 \"t1\" rate 100: trade\nsource t2 \"t2\" rate 100: trade\nsource s \"s\" rate 1: shut\n";
 
@@ -32,7 +32,7 @@ pub const SHARED_PLAN: &str =
 /// One node.
 pub const ONE: &str = "node one: inc, read\n";
 
-/// Both values at the root, what puts them out at a leaf, and a leaf that owns nothing.
+/// Both values at the root, what emits them at a leaf, and a leaf that owns nothing.
 pub const ABOVE: &str = "node root: r, r2 -> l e\nnode l: z\nnode e:\n";
 
 /// Reads of each source at a node of their own, one below the other, and a leaf that owns nothing.

@@ -1,4 +1,4 @@
-//! Traces of runs: what is written of them and run again gives the report of the fold.
+//! Traces of runs: what is written of them, run again, gives the report of the fold.
 
 ghost use Rattle.std.specs.Prelude.{◌≡◌, ◌^◌, ◌<◌};
 ghost use Rattle.flu_trace.specs.Lines.{number_of};
@@ -66,21 +66,21 @@ pub fn lines_of(rt: &impl Abort, alloc: Global, case: &Case, seed: u32) -> Vec<T
     lines
 }
 
-/// Puts a line behind a text.
+/// Appends a line to a text.
 pub fn push_line(rt: &impl Abort, text: &mut String, line: &str) {
     text.push_str(line).expect(rt, MEMORY);
     text.push_str("\n").expect(rt, MEMORY);
 }
 
-/// Puts lines behind a text.
+/// Appends lines to a text.
 pub fn push_lines(rt: &impl Abort, text: &mut String, lines: &[Text]) {
     for line in lines {
         push_line(rt, text, line.as_str());
     }
 }
 
-/// What the replay of a trace comes to: the report and what the state holds, or the fault. The first take gives at most so many bytes, and
-/// each later one a single byte.
+/// What the replay of a trace comes to: the report and what the state holds, or the fault. The first take gives at most this many bytes,
+/// and each later one a single byte.
 pub fn replayed(rt: &impl Abort, alloc: Global, case: &Case, text: &str, most: usize) -> String
     requires { 0 < most }
 {

@@ -18,7 +18,7 @@ const TWO_READS_TOLD: &str = "3,read,count 12\n5,read,count 2\nNone\nNone\n";
 
 const ONE_TIME_TOLD: &str = "3,read,count 1\nNone\nNone\n";
 
-/// The last of these steps is refused before each of those before it, and enabled behind them.
+/// The last of these steps is refused before each of those before it, and enabled after them.
 fn awaits(rt: &impl Abort, alloc: Global, files: Sources, report: &str, whole: &[Step]) {
     let rows = Rows::Written(files);
     let input = Input {

@@ -52,7 +52,7 @@ fn saves(rt: HostRuntime) -> Result<(), Fail> {
     Ok(())
 }
 
-/// Fronts of texts, to each of which the end is put, with what is read of them.
+/// Prefixes of texts, to each of which the end is appended, with what is read of them.
 const FRONTS: &str =
     "{\"border\":2,\"cells\":[[\"count\",0,\"12\"],[\"top\",0,\"0\"],[\"place\",3,\"-4\"]] => 2 true
 {\"border\": 9223372036854775807, \"cells\": [] => 9223372036854775807 false

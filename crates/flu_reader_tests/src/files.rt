@@ -5,7 +5,7 @@ ghost use Rattle.std.specs.Prelude.{◌<◌};
 use flu_outside::MemFiles;
 use std::alloc::{AllocError, Global};
 
-/// Files with these bytes, of which a take gives at most so many.
+/// Files with these bytes, of which a take gives at most this many.
 pub fn files_of(alloc: Global, named: &[(&str, &[u8])], most: usize) -> Result<MemFiles, AllocError>
     requires { 0 < most }
 {

@@ -53,7 +53,7 @@ pub fn told(alloc: Global, fault: GatherFault) -> Result<String, AllocError> {
     }
 }
 
-/// What gathering the job's sources gives, in short, where these bytes are in their files.
+/// What gathering the job's sources gives, in short, with these bytes in their files.
 fn gathered(alloc: Global, p: &Program, a: &str, b: &str) -> Result<String, AllocError> {
     let mut files = files_of(alloc, &[("a", a.as_bytes()), ("b", b.as_bytes())], 5)?;
     match gather(alloc, p, &mut files) {
@@ -62,8 +62,8 @@ fn gathered(alloc: Global, p: &Program, a: &str, b: &str) -> Result<String, Allo
     }
 }
 
-/// Whether gathering gives this, for the bytes of each two files, which stand on both sides of a sign. In them a stroke stands for a line feed, and a
-/// percent sign for a carriage return.
+/// Whether gathering gives this, for the bytes of each two files, which are on both sides of an `&`. In them a slash stands for a line
+/// feed, and a percent sign for a carriage return.
 fn expect_all(rt: &impl Abort, alloc: Global, table: &str) -> Result<(), Fail> {
     let p = read_job(alloc, JOB.as_bytes())?;
     for line in table.split('\n') {
@@ -111,7 +111,7 @@ fn tells_a_read_fault(rt: HostRuntime) -> Result<(), Fail> {
     Ok(())
 }
 
-// A defect of the first source is told before the second one is read.
+// A defect of the first source is reported before the second one is read.
 #[test]
 fn tells_a_defect_before_a_read_fault(rt: HostRuntime) -> Result<(), Fail> {
     let p = read_job(rt.alloc(), JOB.as_bytes())?;

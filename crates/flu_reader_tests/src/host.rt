@@ -8,7 +8,7 @@ use std::test::Fail;
 #[test]
 fn takes_from_files(rt: HostRuntime) -> Result<(), Fail> {
     let mut files = HostFiles::new(&rt);
-    // a name, and how many bytes come, none where it fails
+    // a name, and how many bytes come, none if it fails
     let cases = [
         ("there/is/no/such/file", None),
         ("/dev/null", Some(0)),

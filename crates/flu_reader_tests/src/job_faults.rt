@@ -1,4 +1,4 @@
-//! The first fault of a job text, where it has one.
+//! The first fault of a job text, if it has one.
 
 use crate::tables::case_of;
 use flu_model::What;
@@ -13,9 +13,9 @@ fn said(alloc: Global, text: &str) -> Result<String, AllocError> {
     }
 }
 
-/// Texts with their first faults: where the text is cut into words and read; what its declarations name, as its version, which is looked at when all
-/// names are; its expressions, of which the height is found at the first token, behind what is wrong there; and its texts, in which a field of no form is no
-/// faulty brace, so that the fields behind it are looked at.
+/// Texts with their first faults: when the text is cut into words and read; in what its declarations name, as well as its version, which
+/// is checked once all names are; in its expressions, whose height is examined at the first token, after what is wrong there; and in its
+/// texts, in which a field of no form is not a faulty brace, so that the fields after it are checked.
 const FAULTS: &str = " => ok
 cell count sum $ => BadToken { at: 15 }
 cell count => Unexpected { at: 10 }

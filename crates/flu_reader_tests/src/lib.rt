@@ -1,4 +1,4 @@
-//! Tests of all that is read, and of what is made of it: the texts of jobs and plans, their printed forms and the places where they pass
+//! Tests of all that is read, and of what is made of it: the texts of jobs and plans, their printed forms and the places where they exceed
 //! limits, the words of commands, files and sinks, rows, the gathering of sources, merged lists, folds, reports, checkpoints and demos.
 #![tactic(auto)]
 

@@ -1,10 +1,10 @@
-//! The places at which texts pass limits.
+//! The places at which texts exceed limits.
 
 use flu_hints::limit_place;
 use std::alloc::{AllocError, Global};
 use std::test::Fail;
 
-// A front, and so many times a piece behind it.
+// A prefix, and after it a piece this many times.
 fn text_of(alloc: Global, front: &str, times: u32, piece: &str) -> Result<String, AllocError> {
     let mut text = String::from_str(alloc, front)?;
     for _ in 0..times {
@@ -15,7 +15,7 @@ fn text_of(alloc: Global, front: &str, times: u32, piece: &str) -> Result<String
 
 #[test]
 fn limits_are_passed_at_places(rt: HostRuntime) -> Result<(), Fail> {
-    // what stands before the place, as a front and a piece so many times; what stands at it; the line of the answer
+    // what is before the place, as a prefix and a piece this many times; what is at it; the line of the answer
     let cases = [
         (
             "",

@@ -8,7 +8,7 @@ use std::alloc::Global;
 use std::process::Abort;
 use std::test::Fail;
 
-/// Takes from names in turn, at most four bytes at once, and compares what comes: `None` where it fails.
+/// Takes from names in turn, at most four bytes at once, and compares what comes: `None` if it fails.
 fn take_each<F: Files>(rt: &impl Abort, files: &mut F, cases: &[(&str, Option<&[u8]>)]) {
     for (name, wanted) in cases {
         let mut buffer = [0u8; 4];
@@ -23,7 +23,7 @@ fn take_each<F: Files>(rt: &impl Abort, files: &mut F, cases: &[(&str, Option<&[
     }
 }
 
-/// Puts bytes at names in turn, and takes from each behind it: what is put, the answer, and what the take gives.
+/// Puts bytes at names in turn, and takes from each after it: what is put, the answer, and what the take gives.
 fn put_each<F: Files>(
     rt: &impl Abort,
     alloc: Global,
@@ -37,7 +37,7 @@ fn put_each<F: Files>(
     Ok(())
 }
 
-/// Writes texts in turn, and compares how many bytes are taken: `None` where it fails.
+/// Writes texts in turn, and compares how many bytes are taken: `None` if it fails.
 fn write_each<K: Sink>(rt: &impl Abort, sink: &mut K, cases: &[(&[u8], Option<usize>)]) {
     for (bytes, wanted) in cases {
         if !bytes.is_empty() {
@@ -163,7 +163,7 @@ fn reads_whole_names(rt: HostRuntime) -> Result<(), Fail> {
         3,
     )?;
     files.fail_at(7)?;
-    // the name, the limit, and what is read, or none where a take fails
+    // the name, the limit, and what is read, or none if a take fails
     let cases: [(&str, usize, Option<&[u8]>); 5] = [
         ("job", 8, Some(b"abcdefgh")),
         ("job", 8, Some(b"")),

@@ -48,7 +48,7 @@ fn said(alloc: Global, p: &Program, text: &str) -> Result<String, AllocError> {
     }
 }
 
-/// Whether each text of a table is read as its plan, or its fault is told, where this is the job. A stroke stands for the end of a line.
+/// Whether each text of a table is read as its plan, or its fault is reported, if this is the job. A slash stands for the end of a line.
 fn expect_all(rt: &impl Abort, alloc: Global, job: &str, table: &str) -> Result<(), Fail> {
     let p = read_job(alloc, job.as_bytes())?;
     for line in table.split('\n') {
@@ -61,7 +61,7 @@ fn expect_all(rt: &impl Abort, alloc: Global, job: &str, table: &str) -> Result<
     Ok(())
 }
 
-/// What is read over the job of a count: words that cannot stand there, nodes that are no tree, and plans, which are printed.
+/// What is read over the job of a count: words that cannot occur there, nodes that are not a tree, and plans, which are printed.
 const OF_COUNT: &str = " => unexpected at 0
   # nothing/ => unexpected at 12
 node a: foo => unknown name at 8
@@ -147,7 +147,7 @@ fn lines_of(alloc: Global, p: &Program, text: &str) -> Result<String, AllocError
     }
 }
 
-/// Whether a text is a plan of the job, or passes this limit.
+/// Whether a text is a plan of the job, or exceeds this limit.
 fn expect_limit(rt: &impl Abort, alloc: Global, text: &str, wanted: &str) -> Result<(), Fail> {
     let p = read_job(alloc, JOB_J.as_bytes())?;
     assert_eq!(rt; lines_of(alloc, &p, text)?.as_str(), wanted);
@@ -195,7 +195,7 @@ fn matched_by(alloc: Global, p: &Program, pred: &Pred) -> Result<String, AllocEr
     Ok(text)
 }
 
-/// The numbers of the itags that each predicate of a plan's nodes matches, with a slash behind each.
+/// The numbers of the itags that each predicate of a plan's nodes matches, with a slash after each.
 fn matched(alloc: Global, p: &Program, text: &str) -> Result<String, AllocError> {
     let mut all = String::new(alloc);
     if let Ok(plan) = read_plan(alloc, p, text.as_bytes()) {

@@ -21,9 +21,9 @@ fn expect_printed(rt: &impl Abort, alloc: Global, text: &str, expected: &str) ->
     Ok(())
 }
 
-/// Texts of jobs, each with its normal form behind an arrow where that is another one: a count, views, last values; a version and slacks, of which only
-/// a version other than 1 and a slack other than 0 are printed; a guard, which gets parentheses; lines that are put in order; expressions; and the fields of
-/// texts.
+/// Texts of jobs, each with its normal form after an arrow if that is another one: a count, views, last values; a version and slacks, of
+/// which only a version other than 1 and a slack other than 0 are printed; a guard, which gets parentheses; lines that are put in order;
+/// expressions; and the fields of texts.
 const JOBS: &str = "cell count sum
 tag inc int
 tag read none

@@ -12,7 +12,7 @@ use std::process::Abort;
 use std::test::Fail;
 
 /// What is read of the file `f`, in short: `LINE: TIME NAME KEY VALUE`, `LINE: beat TIME`, `LINE: end`, and then how
-/// the reading ended. Each take gives at most so many bytes.
+/// the reading ended. Each take gives at most this many bytes.
 fn read_all(alloc: Global, bytes: &[u8], piece: usize) -> Result<String, Fail>
     requires { 0 < piece }
 {
@@ -64,8 +64,8 @@ fn shown(alloc: Global, next: &Next) -> Result<String, AllocError> {
     }
 }
 
-/// Whether the file of each line of a table is read so, however many bytes a take gives. In the file a stroke stands for a line feed, and a percent sign
-/// for a carriage return.
+/// Whether the file of each line of a table is read as the line says, however many bytes a take gives. In the file a slash stands for a
+/// line feed, and a percent sign for a carriage return.
 fn expect_all(rt: &impl Abort, alloc: Global, table: &str) -> Result<(), Fail> {
     for line in table.split('\n') {
         let (text, wanted) = case_of(line);
@@ -117,7 +117,7 @@ fn reads_rows(rt: HostRuntime) -> Result<(), Fail> {
     expect_all(&rt, rt.alloc(), FILES)
 }
 
-/// A line of so many bytes that is a row, with a line feed or without one.
+/// A line of this many bytes that is a row, with a line feed or without one.
 fn long_line(alloc: Global, len: u16, fed: bool) -> Result<Vec<u8>, AllocError> {
     let mut line = Vec::new(alloc);
     for _ in 6..len {

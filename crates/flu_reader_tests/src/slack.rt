@@ -17,7 +17,7 @@ fn job(alloc: Global, slack: &str) -> Result<String, AllocError> {
     )
 }
 
-/// The report of the job where these rows are in the file of the first source, or the fault of its sources.
+/// The report of the job if these rows are in the file of the first source, or the fault of its sources.
 fn outcome(alloc: Global, p: &Program, rows: &str) -> Result<String, AllocError> {
     let named: [(&str, &[u8]); 3] = [
         ("a.csv", rows.as_bytes()),
@@ -31,7 +31,7 @@ fn outcome(alloc: Global, p: &Program, rows: &str) -> Result<String, AllocError>
     }
 }
 
-/// The same on one line, with a stroke for each line feed, of rows and of what is told.
+/// The same on one line, with a slash for each line feed, in the rows and in the answer.
 fn told_of(alloc: Global, slack: &str, rows: &str) -> Result<String, Fail> {
     let p = read_job(alloc, job(alloc, slack)?.as_bytes())?;
     let rows = rows.replace(alloc, "/", "\n")?;
@@ -40,8 +40,8 @@ fn told_of(alloc: Global, slack: &str, rows: &str) -> Result<String, Fail> {
     Ok(told)
 }
 
-/// A slack, the rows of the source that has it, with a stroke for each line feed, and the report or the fault. A late row is told from all times above the
-/// settled one, and not from the last alone; and there are late heartbeats, and what is settled by one.
+/// A slack, the rows of the source that has it, with a slash for each line feed, and the report or the fault. A late row is compared
+/// with all times above the settled one, and not only with the last; and there are late heartbeats, and what is settled by one.
 const CASES: &str = "4: 4,inc,2/1,inc,5/end/ => 3,read,count 12/5,read,count 2/
 3: 4,inc,2/1,inc,5/end/ => 0 2 Disordered { last: 4, got: 1 }
 4: 4,inc,2/4,inc,5/end/ => 0 2 Disordered { last: 4, got: 4 }
@@ -66,7 +66,7 @@ fn late_rows_are_sorted(rt: HostRuntime) -> Result<(), Fail> {
 /// A job whose report has a line for each row of its source.
 const SHOWN: &str = "tag inc int on inc: emit \"{value}\" source a \"a.csv\" slack 60: inc";
 
-/// Rows whose times fall within each of some blocks of so many, and rise from block to block, and then others.
+/// Rows whose times fall within each of some blocks of this many, and rise from block to block, and then others.
 fn falling(alloc: Global, blocks: u32, size: u32, then: &str) -> Result<String, AllocError> {
     let mut rows = String::new(alloc);
     let mut end: u32 = 0;

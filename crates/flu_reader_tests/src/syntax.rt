@@ -6,7 +6,7 @@ use flu_text::tokens;
 use std::alloc::{AllocError, Global};
 use std::test::Fail;
 
-/// What a text is read as: how many declarations it has, or why it is no job.
+/// What a text is read as: how many declarations it has, or why it is not a job.
 fn said(alloc: Global, text: &str) -> Result<String, AllocError> {
     let Ok(found) = tokens(alloc, text) else {
         return String::from_str(alloc, "no tokens");
@@ -74,7 +74,7 @@ fn declarations_are_found(rt: HostRuntime) -> Result<(), Fail> {
     Ok(())
 }
 
-/// An action whose amount begins with a text so many times.
+/// An action whose amount begins with a text this many times.
 fn nested(alloc: Global, open: &str, count: u8, close: &str) -> Result<String, AllocError> {
     let mut text = String::from_str(alloc, "on t: add x ")?;
     for _ in 0..count {
@@ -87,7 +87,7 @@ fn nested(alloc: Global, open: &str, count: u8, close: &str) -> Result<String, A
     Ok(text)
 }
 
-/// What an action is read as whose amount begins with a text so many times.
+/// What an action is read as whose amount begins with a text this many times.
 fn depth(alloc: Global, open: &str, count: u8, close: &str) -> Result<String, AllocError> {
     let text = nested(alloc, open, count, close)?;
     said(alloc, text.as_str())

@@ -1,4 +1,4 @@
-//! A job whose parts are looked at one by one when it is read.
+//! A job whose parts are examined one by one once it is read.
 
 use flu_model::{Depend, Keys, Sort, TagRef};
 use flu_parse::read_job;

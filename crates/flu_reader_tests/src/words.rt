@@ -6,7 +6,7 @@ use std::alloc::{AllocError, Global};
 use std::process::Abort;
 use std::test::Fail;
 
-/// The words of a line, with a bar between them; none where it is empty.
+/// The words of a line, with a bar between them; none if it is empty.
 fn words_of(alloc: Global, line: &str) -> Result<Vec<String>, AllocError> {
     let mut owned = Vec::new(alloc);
     if line.is_empty() {
@@ -18,7 +18,7 @@ fn words_of(alloc: Global, line: &str) -> Result<Vec<String>, AllocError> {
     Ok(owned)
 }
 
-/// A command as a line of its words, with a depth where none was given, and a dash for what is left out of a run.
+/// A command as a line of its words, with a depth if none was given, and a dash for what is left out of a run.
 fn told(alloc: Global, command: Command) -> Result<String, AllocError> {
     match command {
         Command::Fold { job } => format!(in alloc; "fold {job}"),

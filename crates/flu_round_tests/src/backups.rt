@@ -45,7 +45,7 @@ fn streams(alloc: Global, p: &Program) -> Result<Streams, Fail>
     Ok(gather(alloc, p, &mut files_of(alloc, input)?)?)
 }
 
-/// The count is the 9 behind the last read, and the report tells both reads.
+/// The count is the 9 after the last read, and the report has both reads.
 fn is_told(rt: &impl Abort, alloc: Global, p: &Program, state: &State, outs: Outs) {
     assert_eq!(rt; state.get(COUNT), Some(Worth::Sum(9)));
     let report = report_text(alloc, p, outs).expect(rt, MEMORY);

@@ -1,4 +1,4 @@
-//! Batches that are run by their own counts: on the tree of threads where it pays, and else by the backup.
+//! Batches that are run by their own counts: on the tree of threads if it pays, and else by the backup.
 
 ghost use Rattle.std.specs.Prelude.{◌≡◌, ◌<◌, ◌^◌, length, IfOk};
 ghost use Rattle.flu_model.specs.Itags.{count_of_itags};
@@ -24,7 +24,7 @@ use std::thread::{Threads, available_parallelism};
 /// How many actions an event of `inc` has, each of which adds its value.
 const ACTIONS: u32 = 32;
 
-/// A count to which two sources add, by many actions, and that a third puts out.
+/// A count to which two sources add, by many actions, and that a third emits.
 fn long_job(alloc: Global) -> Result<String, AllocError> {
     let mut text = String::from_str(
         alloc,
@@ -40,7 +40,7 @@ fn long_job(alloc: Global) -> Result<String, AllocError> {
     Ok(text)
 }
 
-/// So many rows that add one each.
+/// This many rows that add one each.
 fn rows(alloc: Global, events: u32) -> Result<String, AllocError> {
     let mut text = String::new(alloc);
     for time in 1..=events {
@@ -63,7 +63,7 @@ impl Gate for Counter {
     }
 }
 
-/// The streams of so many rows of the first two sources, and of a read behind them.
+/// The streams of this many rows of the first two sources, and of a read after them.
 fn streams(alloc: Global, p: &Program, events: u32) -> Result<Streams, Fail>
     ensures { IfOk result (λ s. length (listed s) ≡ count_of_itags p.now) }
 {
@@ -77,7 +77,7 @@ fn streams(alloc: Global, p: &Program, events: u32) -> Result<Streams, Fail>
     Ok(gather(alloc, p, &mut files_of(alloc, input)?)?)
 }
 
-/// How often workers pass where these streams are run by their own counts; the report is the one that is wanted.
+/// How often workers pass if these streams are run by their own counts; the report is the one that is wanted.
 fn passes<R: Abort + Threads + Wait + Sync>(
     rt: &R,
     alloc: Global,
@@ -119,7 +119,7 @@ fn the_tree_runs_what_it_pays_for(rt: HostRuntime) -> Result<(), Fail> {
     let passed = passes(&rt, alloc, &checked, &few, "9999999,read,count 128\n")?;
     assert_eq!(&rt; passed, 0);
 
-    // Many long ones are, where there are processors for both sources: then each event passes twice.
+    // Many long ones are, if there are processors for both sources: then each event passes twice.
     let many = streams(alloc, checked.program(), 3000)?;
     let passed = passes(&rt, alloc, &checked, &many, "9999999,read,count 192000\n")?;
     let processors = available_parallelism(&rt).map_or(1, |count| count.get());

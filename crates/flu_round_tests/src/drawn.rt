@@ -18,7 +18,7 @@ use std::sync::Wait;
 use std::test::Fail;
 use std::thread::Threads;
 
-/// The numbers behind a seed.
+/// The numbers that follow a seed.
 #[derive(Drop)]
 struct Draws {
     number: u32,
@@ -26,7 +26,7 @@ struct Draws {
 }
 
 impl Draws {
-    // A number below another one, and 0 where that is 0.
+    // A number below another one, and 0 if that is 0.
     fn below(&mut self, most: u32) -> u32 {
         self.number = next_draw(self.number);
         draw_of(self.number).checked_rem(most).unwrap_or(0)
@@ -56,7 +56,7 @@ fn draw_input(alloc: Global, seed: u32) -> Result<Drawn, AllocError>
     })
 }
 
-/// The rows of a source, in stretches of which each goes back in time, no further than the slack lets it.
+/// The rows of a source, in stretches each of which goes back in time, no further than the slack allows.
 fn rows(alloc: Global, draws: &mut Draws, slack: u32, reads: bool) -> Result<String, AllocError> {
     let mut text = String::new(alloc);
     let mut time = 0u32;

@@ -16,7 +16,7 @@ use std::test::Fail;
 /// The reads at the root, and each source that adds at a leaf.
 const PLAN: &str = "node root: read -> l r\nnode l: inc@a\nnode r: inc@b\n";
 
-/// A count to which two sources add and that a third puts out and clears, each with the slack that is given.
+/// A count to which two sources add and that a third emits and clears, each with the slack that is given.
 pub fn job(alloc: Global, slacks: [u64; 3]) -> Result<String, AllocError> {
     let [a, b, c] = slacks;
     format!(in alloc;
@@ -24,12 +24,12 @@ pub fn job(alloc: Global, slacks: [u64; 3]) -> Result<String, AllocError> {
     )
 }
 
-/// A job that is accepted; none where it is not.
+/// A job that is accepted; none if it is not.
 pub fn accepted(alloc: Global, job: &str) -> Result<Option<Checked>, Fail> {
     Ok(check(read_job(alloc, job.as_bytes())?).ok())
 }
 
-/// The plan for an accepted job, which is valid for it; none where it is not.
+/// The plan for an accepted job, which is valid for it; none if it is not.
 pub fn planned(alloc: Global, checked: &Checked) -> Result<Option<Valid>, Fail>
     ensures { IfOk result (λ valid. IfSome valid (IsValidFor (program_of checked.now))) }
 {

@@ -1,4 +1,4 @@
-//! Plans that follow the counts of what was run: which one is in force behind each round.
+//! Plans that follow the counts of what was run: which one is in force after each round.
 
 ghost use Rattle.std.specs.Prelude.{◌≤◌};
 
@@ -17,7 +17,7 @@ const LEAF: &str = "node n0: inc@a, inc@b, read@c\n";
 /// Two sources in parallel, below the reads.
 const TREE: &str = "node n0: read@c -> n1 n2\nnode n1: inc@a\nnode n2: inc@b\n";
 
-/// Compares the texts with what the rounds write and the plans behind them.
+/// Compares the texts with what the rounds write and the plans after them.
 fn check<R: Abort + Threads + Wait + Sync>(
     rt: &R,
     alloc: Global,
@@ -52,7 +52,7 @@ fn check<R: Abort + Threads + Wait + Sync>(
 fn plans_follow_the_counts(rt: HostRuntime) -> Result<(), Fail> {
     let alloc = rt.alloc();
 
-    // Behind the rounds the counts of the three itags are 1 0 0, 1 1 0, 1 1 1, 2 1 1 and, twice, 2 1 2.
+    // After the rounds the counts of the three itags are 1 0 0, 1 1 0, 1 1 1, 2 1 1 and, twice, 2 1 2.
     let by_round = format!(in alloc;
         "at 1\n{LEAF}at 2\n{TREE}3,read,count 12\nat 3\n{LEAF}at 4\n{LEAF}5,read,count 2\nat 5\n{LEAF}closed\n{LEAF}"
     )?;

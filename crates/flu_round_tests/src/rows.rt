@@ -25,7 +25,7 @@ const IN_FIVE: &str = "at 1\nat 2\n3,read,count 12\nat 3\nat 4\n5,read,count 2\n
 
 const IN_ONE: &str = "3,read,count 12\n5,read,count 2\nclosed\n";
 
-/// Compares what the rounds write with the texts, where the first source has this slack.
+/// Compares what the rounds write with the texts, if the first source has this slack.
 fn check<R: Abort + Threads + Wait + Sync>(
     rt: &R,
     alloc: Global,
@@ -146,7 +146,7 @@ fn a_run_is_resumed_from_a_border(rt: HostRuntime) -> Result<(), Fail> {
         b: B,
         c: C,
     };
-    // The state behind so many rounds, which is {count: 12} behind two of them, and from which border the run goes on.
+    // The state after this many rounds, which is {count: 12} after two of them, and from which border the run continues.
     let cases = [
         (
             2,

@@ -22,18 +22,18 @@ use std::thread::Threads;
 /// More rounds than any run of these tests has.
 const MOST: u32 = 1000;
 
-/// What is written of a run's rounds behind their reports.
+/// What is written of a run's rounds after their reports.
 #[derive(Clone, Copy)]
 pub enum Marks {
     /// What each round answered, in a line.
     Each,
     /// What the last one answered.
     Last,
-    /// What each round answered, and the plan that is in force behind it.
+    /// What each round answered, and the plan that is in force after it.
     Plans,
 }
 
-/// Writes what a round answered, where it is to be told.
+/// Writes what a round answered, if that is to be written.
 fn mark(
     alloc: Global,
     out: &mut MemSink,
@@ -73,7 +73,7 @@ pub fn run_on<R, N: Engine<R>>(
     go_on(rt, alloc, engine, &mut rounds, files, out, marks)
 }
 
-/// Runs so many rounds on an engine, or fewer where one is the last or fails, and tells the state behind them.
+/// Runs this many rounds on an engine, or fewer if one is the last or fails, and answers the state after them.
 pub fn state_behind<R, N: Engine<R>>(
     rt: &R,
     alloc: Global,
@@ -117,7 +117,7 @@ pub fn resume_on<R, N: Engine<R>>(
     go_on(rt, alloc, engine, &mut rounds, files, out, Marks::Each)
 }
 
-// Runs the rounds on an engine, from where they stand, until one is the last, or fails.
+// Runs the rounds on an engine, from where they are, until one is the last, or fails.
 fn go_on<R, N: Engine<R>>(
     rt: &R,
     alloc: Global,

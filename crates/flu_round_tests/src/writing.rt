@@ -43,7 +43,7 @@ fn folds(
     Ok(())
 }
 
-/// Compares what the fold writes above a border, a row at a time, from the state behind so many rounds from the first row on.
+/// Compares what the fold writes above a border, a row at a time, from the state after this many rounds from the first row on.
 pub fn resumes(
     rt: &impl Abort,
     alloc: Global,

@@ -44,7 +44,7 @@ pub record HasShape (k : Content) : Type 0 where
   pub reads : owner_of (job k) (nodes k) (itag 2) ≡ Some 0
   pub apart : are_related (nodes k) 2 1 ≡ false
 
--- the three streams have so many items
+-- the three streams have at least this many items
 pub record AreThere (k : Content) (a b c : ℕ) : Type 0 where
   pub first : a ≤ length (slice_index_or (listed k.streams) 0 [])
   pub second : b ≤ length (slice_index_or (listed k.streams) 1 [])
@@ -78,7 +78,7 @@ pub record IsServed (k : Content) (lot : Lot) : Type 0 where
   pub fits : LotFits k 1 lot
   pub served : Served k 1 no_events first_read lot
 
--- the upper end of the left leaf's link, where nothing was asked for yet
+-- the upper end of the left leaf's link, when nothing was asked for yet
 pub record IsIdle (k : Content) (u : UpperNote) : Type 0 where
   pub case : u.case ≡ k
   pub lower : u.lower ≡ 1
@@ -86,7 +86,7 @@ pub record IsIdle (k : Content) (u : UpperNote) : Type 0 where
   pub received : u.received ≡ no_counts (job k)
   pub taken : u.taken ≡ true
 
--- its lower end, where nothing was given yet
+-- its lower end, when nothing was given yet
 pub record IsNew (k : Content) (l : LowerNote) : Type 0 where
   pub case : l.case ≡ k
   pub lower : l.lower ≡ 1

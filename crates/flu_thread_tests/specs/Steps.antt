@@ -1,10 +1,10 @@
--- What a worker has seen, and what stays where it handles events.
+-- What a worker has seen, and what stays the same when it handles events.
 use Rattle.std.specs.Prelude.{◌≡◌, ℕ, List}
 use Rattle.flu_fork.specs.declared.content.Content.{Content}
 use Rattle.flu_worker.specs.Calls.{IsNew, IsSamePlace, IsSameBelow}
 use Rattle.flu_worker.specs.Notes.{WorkerNote}
 
--- a new worker that has seen so many items of each itag
+-- a new worker that has seen this many items of each itag
 pub record IsBegun (k : Content) (w : ℕ) (seen : List ℕ) (n : WorkerNote) : Type 0 where
   pub old : WorkerNote
   pub new : IsNew k w old

@@ -8,7 +8,7 @@ use Rattle.flu_fork.specs.declared.lots.Lot.{Lot}
 use Rattle.flu_fork.specs.Lots.{job, nodes, setting_of, LotFits}
 use Rattle.flu_fork.specs.Streams.{IsEventAt, IsStreamExact}
 
--- the event comes next by the lot's counts: of the itags on which it depends just the events before it are counted
+-- the event comes next by the lot's counts: of the itags on which it depends exactly the events before it are counted
 pub record ComesNext (k : Content) (lot : Lot) (x : Event) : Type 0 where
   pub each : length lot.upto ≡ count_of_itags (job k)
   pub known : x.itag.0 < count_of_itags (job k)

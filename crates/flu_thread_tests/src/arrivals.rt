@@ -50,7 +50,7 @@ const FED: u64 = 20_000;
 /// How many there are.
 const LIMITS: [u64; 2] = [30_000, 30_000];
 
-/// One more look at both numbers, behind a look that saw the last ones. Of the second itag an item arrives only behind one of the
+/// One more look at both numbers, after a look that saw the last ones. Of the second itag an item arrives only after one of the
 /// first, so that a look at the second number and then at the first one finds no less there.
 fn look(rt: &impl Abort, watch: &mut Watch, last: (u64, u64)) -> (u64, u64)
     requires { length watch.old.limits ≡ 2 }
@@ -79,7 +79,7 @@ fn watch_all<R: Wait + Abort>(rt: &R, watch: &mut Watch)
     unreachable!()
 }
 
-/// Of the two itags an item each, in turn.
+/// An item of each of the two itags, in turn.
 fn feed_all(feeder: &mut Feeder)
     requires limits { feeder.old.limits ≡ 30000 ∷ 30000 ∷ [] }
     requires counts { feeder.old.counts ≡ 0 ∷ 0 ∷ [] }

@@ -4,7 +4,7 @@ use crate::jobs::{COUNT, TREE, checked, counted, has_shape, opened, valid};
 use crate::links::{one_end_stops, there_and_back};
 use crate::passing::to_and_fro;
 
-/// One case for all of them: to make it is dear to prove.
+/// One case for all of them, since the proof of making one is costly.
 #[test]
 fn lots_and_links_on_a_count(rt: HostRuntime) {
     let alloc = rt.alloc();

@@ -19,10 +19,10 @@ use flu_valid::validate;
 use std::alloc::Global;
 use std::process::Abort;
 
-/// What a test says where memory is wanting.
+/// What a test says if memory runs out.
 pub const MEMORY: &str = "memory";
 
-/// A count to which two sources add and that a third puts out and clears.
+/// A count to which two sources add and that a third emits and clears.
 pub const COUNT: &str =
     "cell count sum\ntag inc int\ntag read none\ndepends inc read\ndepends read read\non inc: add count value\non read: emit \"count {count}\"; clear count\nsource a \"a.csv\" rate 1000: inc\nsource b \"b.csv\" rate 1000: inc\nsource c \"c.csv\" rate 1: read\n";
 

@@ -1,4 +1,5 @@
-//! Tests of lots, of mailboxes, of the links between workers, of the arrival words and of workers, in one thread and in several. It has no code of its own.
+//! Tests of lots, of mailboxes, of the links between workers, of the arrival words and of workers, in one thread and in several. It has no
+//! code of its own.
 #![tactic(auto)]
 
 #[cfg(test)]

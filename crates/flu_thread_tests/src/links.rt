@@ -1,4 +1,4 @@
-//! A lot goes down a link and comes back, and an end that stops is heard by the other one.
+//! A lot goes down a link and comes back, and an end that stops is noticed by the other one.
 
 ghost use Rattle.std.specs.Prelude.{◌≡◌, true};
 ghost use Rattle.flu_fork.specs.Lots.{LotFits};
@@ -123,7 +123,7 @@ fn takes_one(rt: &impl Abort, up: &mut Upper) -> Lot
     lot
 }
 
-/// A lot goes down the link of the left leaf and comes back with an event. Then the lower end stops, which the upper one hears.
+/// A lot goes down the link of the left leaf and comes back with an event. Then the lower end stops, which the upper one notices.
 pub fn there_and_back(rt: &impl Abort, alloc: Global, case: &Case)
     requires { IsRow case.now }
 {
@@ -146,7 +146,7 @@ pub fn there_and_back(rt: &impl Abort, alloc: Global, case: &Case)
     assert!(rt; close(up, low).is_none());
 }
 
-/// The upper end stops, which the lower one hears, and the lot that it has lent comes out when the link is closed.
+/// The upper end stops, which the lower one notices, and the lot that it has lent comes out when the link is closed.
 #[tactic(auto, using(crate::proofs::PassLemmas::free_first, crate::proofs::PassLemmas::goes_first))]
 pub fn one_end_stops(rt: &impl Abort, alloc: Global, case: &Case)
     requires { IsRow case.now }

@@ -36,7 +36,7 @@ pub fn counts_are(lot: &Lot, since: &[u64], upto: &[u64]) -> bool
     lot.since.items() == since && lot.upto.items() == upto
 }
 
-/// The lot of an event's owner takes it, where it comes next.
+/// The lot of an event's owner takes it, if it comes next.
 pub fn takes(
     alloc: Global,
     case: &Case,

@@ -1,4 +1,4 @@
-//! One lot that two threads pass to and fro over a link.
+//! One lot that two threads pass back and forth over a link.
 
 ghost use Rattle.std.specs.Prelude.{◌≡◌, Some};
 ghost use Rattle.flu_fork.specs.Lots.{LotFits};
@@ -211,7 +211,7 @@ fn passes_up<R: Wait + Abort>(rt: &R, low: &mut Lower, first: Lot) -> i128
 
 // ---- both
 
-/// The upper end behind its rounds, with its sum.
+/// The upper end after its rounds, with its sum.
 fn above<R: Wait + Abort>(rt: &R, up: Upper, lot: Lot) -> (Upper, i128)
     requires free { IsFree up }
     requires goes { MayGo up lot }
@@ -222,7 +222,7 @@ fn above<R: Wait + Abort>(rt: &R, up: Upper, lot: Lot) -> (Upper, i128)
     (up, sum)
 }
 
-/// The lower end behind its rounds, with its sum.
+/// The lower end after its rounds, with its sum.
 fn below<R: Wait + Abort>(rt: &R, low: Lower, first: Lot) -> (Lower, i128)
     requires at { IsBelow low }
     requires served { IsServed low.case first }
@@ -262,7 +262,7 @@ fn passed<R: Threads + Wait + Sync + Abort>(
     (down, back)
 }
 
-/// Two threads pass a lot to and fro.
+/// Two threads pass a lot back and forth.
 #[tactic(auto, using(crate::proofs::PassLemmas::free_first, crate::proofs::PassLemmas::below_first, crate::proofs::PassLemmas::goes_first))]
 pub fn to_and_fro<R: Threads + Wait + Sync + Abort>(rt: &R, alloc: Global, case: &Case)
     requires { IsRow case.now }

@@ -27,7 +27,7 @@ pub fn outs_are(outs: &Outs, expected: &[(u64, &str)]) -> bool {
     items.len() == expected.len()
 }
 
-/// A worker that has seen so many items of each itag.
+/// A worker that has seen this many items of each itag.
 pub fn begun(
     alloc: Global,
     case: &Case,

@@ -1,4 +1,4 @@
-//! A worker on a count to which two sources add and that a third puts out and clears.
+//! A worker on a count to which two sources add and that a third emits and clears.
 
 ghost use Rattle.std.specs.Prelude.{◌≡◌};
 ghost use Rattle.flu_model.specs.Listed.{listed};
@@ -12,7 +12,7 @@ use flu_model::{Itag, Outs};
 use std::alloc::Global;
 use std::process::Abort;
 
-// The events, by what they add or put out.
+// The events, by what they add or emit.
 const INC_5: Ask = Ask {
     itag: Itag(0),
     index: 0,

@@ -54,7 +54,7 @@ abbrev pub status_after : Result (Option Said) Refusal → ℕ
 status_after (Ok said) = 0
 status_after (Err refusal) = status_of refusal
 
--- what err got of a call that was done or refused: nothing, the line of what it says, or that of the refusal
+-- what err got from a call that was done or refused: nothing, the line of what it says, or the line of the refusal
 abbrev pub IsHeard : Result (Option Said) Refusal → Option (List ℕ) → Option (List ℕ) → ℕ → ℕ → Type 0
 IsHeard (Ok None) old new before now = new ≡ old
 IsHeard (Ok (Some said)) old new before now = IsSaid (line_of_said said) old new before now
@@ -80,12 +80,12 @@ refusal_of_plan (plans.NotATree name) = refusals.PlanDefect (defects.Text (plans
 refusal_of_plan (plans.OverLimit what count) = refusals.PlanDefect (defects.Text (plans.OverLimit what count))
 refusal_of_plan plans.NoMemory = refusals.NoMemory
 
--- the refusal where a name could not be read
+-- the refusal if a name could not be read
 abbrev pub refusal_of_take : TakeFault → Refusal
 refusal_of_take takes.Failed = refusals.ReadFault
 refusal_of_take takes.NoMemory = refusals.NoMemory
 
--- the refusal where a checkpoint could not be put
+-- the refusal if a checkpoint could not be put
 abbrev pub refusal_of_put : PutFault → Refusal
 refusal_of_put puts.Failed = refusals.PutFault
 refusal_of_put puts.NoMemory = refusals.NoMemory

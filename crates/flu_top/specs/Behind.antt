@@ -1,4 +1,4 @@
--- What a job's text, a plan's and the sources are, where the files tell what they have left when a call begins.
+-- What a job's text, a plan's text and the sources are, if it is known what the files have left when a call begins.
 use Rattle.std.specs.Prelude.{◌≡◌, ℕ, List, [], ◌∷◌, Option}
 use Rattle.flu_outside.specs.Outside.{Contents}
 use Rattle.flu_model.specs.declared.events.Item.{Item}
@@ -30,19 +30,19 @@ abbrev pub job_files : WantedJob → List (List ℕ)
 job_files (Named name) = name ∷ []
 job_files (Fixed job) = []
 
--- the first fault of the program's sources, which are read behind some texts
+-- the first fault of the program's sources, which are read after some texts
 unfoldable pub fault_behind : List (List ℕ) → Contents → Program → Option SourceFault
 fault_behind texts left p = first_fault p (emptied_each texts left)
 
--- for each itag of the program the items of its source, which is read behind some texts
+-- for each itag of the program the items of its source, which is read after some texts
 unfoldable pub lists_behind : List (List ℕ) → Contents → Program → List (List Item)
 lists_behind texts left p = lists_of p (emptied_each texts left)
 
--- the report of the fold of all events of the program's sources, which are read behind some texts, from the empty state
+-- the report of the fold of all events of the program's sources, which are read after some texts, from the empty state
 unfoldable pub report_behind : List (List ℕ) → Contents → Program → List ℕ
 report_behind texts left p = reports.report p (final_outputs p nothing_held (lists_of p (emptied_each texts left)))
 
--- the bytes under a plan's name, which are read behind the job's
+-- the bytes under a plan's name, which are read after the job's
 unfoldable pub plan_behind : WantedJob → List ℕ → Contents → List ℕ
 plan_behind job plan left = bytes_left (emptied_each (job_files job) left) plan
 

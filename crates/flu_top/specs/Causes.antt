@@ -1,5 +1,5 @@
--- What refuses a command, in order: a fault of its job's text, a conflict of that job, a defect of its plan, what keeps a run from its
--- start, a defect of a source, a fault of its trace.
+-- What refuses a command, in order: a fault of its job's text, a conflict of that job, a defect of its plan, what keeps a run from
+-- starting, a defect of a source, a fault of its trace.
 use Rattle.std.specs.Prelude.{◌≡◌, ◌≢◌, ◌<◌, ℕ, List, [], length, Option, Some, ◌⊎◌, IsTrue}
 use Rattle.flu_outside.specs.Outside.{Contents, WhereTold}
 use Rattle.flu_model.specs.declared.jobs.Program.{Program}
@@ -72,13 +72,13 @@ pub record HasPlanFault (command : Command) (old new : Option Contents) (fault :
   pub first : WhereTold old new (λ left _. HasJob (job_wanted command) left program
       × IsFirstTextFault program (plan_behind (job_wanted command) plan left) fault)
 
--- the plan is not valid for the job, and this is the first thing that keeps it from that
+-- the plan is not valid for the job, and this is the first reason why
 pub record IsInvalid (p : Program) (nodes : List Node) (why : Invalid) : Type 0 where
   pub refused : ¬ IsValid p nodes
   pub first : IsFirstPlanFault p nodes why
 
 -- the command names a plan, its job is this program, which is accepted, and the bytes under the plan's name are the text of these
--- nodes, which are not valid for it: this is the first thing that keeps them from that
+-- nodes, which are not valid for it: this is the first reason why
 pub record HasInvalidPlan (command : Command) (old new : Option Contents) (p : Program) (nodes : List Node) (why : Invalid) : Type 0 where
   pub plan : List ℕ
   pub asked : plan_named command ≡ Some plan
@@ -100,15 +100,15 @@ pub record HasStartDefect (command : Command) (old new : Option Contents) (p : P
   pub accepted : IsTrue (asks_accepted command) → IsAccepted p
   pub first : WhereTold old new (λ left _. HasJob (job_wanted command) left p × HasPlanAsked command left p × Is left)
 
--- what keeps a run from its start: a name that it saves to or is resumed from is that of a source's file; or the checkpoint that it is
--- resumed from has this first fault
+-- what keeps a run from starting: a name that it saves to or is resumed from is the name of a source's file; or the checkpoint that it
+-- is resumed from has this first fault
 abbrev pub HasSaveDefect : Command → Option Contents → Option Contents → SaveDefect → Type 0
 HasSaveDefect command old new (saves.SameName checked number) = HasStartDefect command old new (program_of checked)
     (λ left. IsSameName command (program_of checked) number)
 HasSaveDefect command old new (saves.Checkpoint fault) = (p : Program) × HasStartDefect command old new p (λ left. HasBadCheckpoint command left p fault)
 
 -- ---- the sources
--- the round that comes next meets a defect, once this was written; what was put before it is left
+-- the next round meets a defect, once this was written; what was put before it is left
 pub record IsMetInRounds (command : Command) (left now : Contents) (p : Program) (text : List ℕ) (fault : SourceFault) : Type 0 where
   pub opening : Opening
   pub starts : StartsFrom command left p opening
@@ -116,14 +116,14 @@ pub record IsMetInRounds (command : Command) (left now : Contents) (p : Program)
   pub met : MeetsDefect p opening (lines_behind (texts_named command) left p) text put fault
   pub leaves : Leaves command put left now
 
--- a defect refuses the sources that are read behind the command's texts, once this was written: of all sources it is the first one, and
--- in rounds that of the earliest round that meets any
+-- a defect refuses the sources that are read after the command's texts, once this was written: it is the first defect of all sources,
+-- and in rounds the one of the earliest round that meets any
 abbrev pub IsMet : Reading → Command → Contents → Contents → Program → List ℕ → SourceFault → Type 0
 IsMet Unread command left now p text fault = ⊥
 IsMet Whole command left now p text fault = fault_behind (texts_named command) left p ≡ Some fault
 IsMet InRounds command left now p text fault = IsMetInRounds command left now p text fault
 
--- the command reads sources, its job is this program, which is accepted where the command asks for that, a plan that the command names
+-- the command reads sources, its job is this program, which is accepted if the command asks for that, a plan that the command names
 -- is valid for it, it can start, and this defect of its sources refuses it, once this was written
 pub record HasSourceFault (command : Command) (old new : Option Contents) (p : Program) (fault : SourceFault) (text : List ℕ) : Type 0 where
   pub asked : IsTrue (reads_sources command)
@@ -133,7 +133,7 @@ pub record HasSourceFault (command : Command) (old new : Option Contents) (p : P
       × IsMet (how_read command) command left now p text fault)
 
 -- ---- the trace
--- the command names a trace, nothing refuses it before that, and the trace has the ending that this fault tells
+-- the command names a trace, nothing refuses it before that, and the trace has the ending that this fault states
 pub record HasTraceFault (command : Command) (old new : Option Contents) (fault : ReplayFault) : Type 0 where
   pub trace : List ℕ
   pub named : trace_named command ≡ Some trace

@@ -19,7 +19,7 @@ demo_job =
 abbrev pub lines_in : List ℕ → ℕ
 lines_in bytes = count_by (λ c. c == 10) bytes
 
--- the summary of the report of so many events: how many lines and bytes it has
+-- the summary of the report of this many events: how many lines and bytes it has
 abbrev pub summary : ℕ → List ℕ → List ℕ
 summary events report =
     codes "demo events " ++ (decimal events ++ (codes " lines " ++ (decimal (lines_in report)

@@ -1,5 +1,5 @@
--- WHAT A SEED AND A TRACE DETERMINE: of the texts of a job and a plan, of the sources and a seed there is one run on the net, and a trace ends in one way, whichever
--- program of the job's text is looked at.
+-- WHAT A SEED AND A TRACE DETERMINE: the texts of a job and a plan, the sources and a seed have one run on the net, and a trace ends in
+-- one way, whichever program of the job's text is taken.
 use Rattle.std.specs.Prelude.{◌≡◌, ℕ, List}
 use Rattle.flu_outside.specs.Outside.{Contents}
 use Rattle.flu_model.specs.declared.jobs.Program.{Program}

@@ -17,7 +17,7 @@ use Rattle.flu_top.specs.Wants.{texts_named, sources_read, Writes, IsNotSaved}
 use Rattle.flu_top.specs.Starting.{AreNoSources, StartsFrom, CanStart, Leaves, LeavesAnything}
 use Rattle.flu_top.specs.Replaying.{ReplaysTo}
 
--- the text under a name, which is read behind the job's, is a plan that is valid for the job
+-- the text under a name, which is read after the job's, is a plan that is valid for the job
 abbrev pub HasValidPlan : WantedJob → List ℕ → Contents → Program → Type 0
 HasValidPlan job plan left p = (nodes : List Node) × HasPlan job plan left p nodes × IsValid p nodes
 
@@ -25,8 +25,8 @@ HasValidPlan job plan left p = (nodes : List Node) × HasPlan job plan left p no
 abbrev pub HasPlanAsked : Command → Contents → Program → Type 0
 HasPlanAsked command left p = (plan : List ℕ) → plan_named command ≡ Some plan → HasValidPlan (job_wanted command) plan left p
 
--- the program is the command's job, which is accepted where the command asks for that, the plan that the command names is valid
--- for it, it can start, and its sources have no defect where the command reads them
+-- the program is the command's job, which is accepted if the command asks for that, the plan that the command names is valid
+-- for it, it can start, and its sources have no defect if the command reads them
 pub record IsGood (command : Command) (left : Contents) (p : Program) : Type 0 where
   pub has : HasJob (job_wanted command) left p
   pub accepted : IsTrue (asks_accepted command) → IsAccepted p
@@ -38,8 +38,8 @@ pub record IsGood (command : Command) (left : Contents) (p : Program) : Type 0 w
 abbrev pub IsTraceRead : Command → Program → Contents → Contents → Type 0
 IsTraceRead command p old new = (trace : List ℕ) → trace_named command ≡ Some trace → ReplaysTo command trace old p Complete × (new trace ≡ Some [])
 
--- the last checkpoint stands under the name that the command saves to, if it saves any: that of the greatest border and of the state
--- behind all events
+-- the last checkpoint is under the name that the command saves to, if it saves any: the one of the greatest border and of the state
+-- after all events
 abbrev pub HasSaved : Command → Program → Contents → Contents → Type 0
 HasSaved command p old new = (name : List ℕ) → save_named command ≡ Some name
     → (o : Opening) × StartsFrom command old p o × (new name ≡ Some (save p greatest_border (state_from o (texts_named command) old p)))
@@ -51,12 +51,12 @@ pub record IsRead (command : Command) (p : Program) (old new : Contents) : Type 
   pub trace : IsTraceRead command p old new
   pub saved : HasSaved command p old new
 
--- this is the line that is said, and the empty one where nothing is
+-- this is the line that is said, and the empty line if nothing is said
 abbrev pub IsLine : Saying → Contents → Program → List ℕ → Type 0
 IsLine Nothing left p line = line ≡ []
 IsLine (Line Is IsForm) left p line = Is left p line
 
--- the line that a command says on err, and the empty one where it says nothing
+-- the line that a command says on err, and the empty line if it says nothing
 abbrev pub Says : Command → Contents → Program → List ℕ → Type 0
 Says command left p line = IsLine (want command).says left p line
 
@@ -64,31 +64,31 @@ Says command left p line = IsLine (want command).says left p line
 abbrev pub IsWritten : Command → List ℕ → List ℕ → Contents → Contents → Type 0
 IsWritten command text line old new = (p : Program) × IsRead command p old new × Writes command old p text × Says command old p line
 
--- DONE: all was read, what the command writes stands behind what was in out, and this is what it says on err
+-- DONE: all was read, what the command writes was appended to out, and this is what it says on err
 abbrev pub IsDone : Command → Option (List ℕ) → Option (List ℕ) → List ℕ → Contents → Contents → Type 0
 IsDone command had has line old new =
     (p : Program) × (text : List ℕ) × IsRead command p old new × Writes command old p text × Says command old p line
     × WhereTold had has (AppendsAll text)
 
--- what is true of what the files hold, where they tell it; where the job is a fixed one and no file is read, it is true whatever they hold
+-- what is true of what the files hold, if that is known; if the job is a fixed one and no file is read, it is true whatever they hold
 abbrev pub WhereKnown : WantedJob → Option Contents → Option Contents → (Contents → Contents → Type 0) → Type 0
 WhereKnown (Named name) old new Holds = WhereTold old new Holds
 WhereKnown (Fixed job) old new Holds = (left : Contents) → Holds left left
 
--- all was read, and fewer than all bytes of what the command writes, from its front, stand behind what was in out
+-- all was read, and a proper prefix of what the command writes was appended to out
 abbrev pub IsPartlyDone : Command → Option (List ℕ) → Option (List ℕ) → Contents → Contents → Type 0
 IsPartlyDone command had has old new =
     (p : Program) × (text : List ℕ) × IsRead command p old new × Writes command old p text × WhereTold had has (AppendsPart text)
 
 -- ---- of a command that is stopped
--- what it wrote before a defect of a source: nothing, where it reads them whole
+-- what it wrote before a defect of a source: nothing, if it reads them whole
 abbrev pub Wrote : Reading → List ℕ → Option (List ℕ) → Option (List ℕ) → Type 0
 Wrote Unread text had has = has ≡ had
 Wrote Whole text had has = has ≡ had
 Wrote InRounds text had has = WhereTold had has (AppendsAll text)
 
--- THE ROUNDS UP TO SOME ONE were run: nothing refuses the command before its sources, what they wrote stands behind what was in out,
--- and what they put stands under the name that the command saves to
+-- THE ROUNDS UP TO SOME ROUND were run: nothing refuses the command before its sources, what they wrote was appended to out, and what
+-- they put is under the name that the command saves to
 pub record WroteRounds (command : Command) (old new : Option Contents) (had has : Option (List ℕ)) : Type 0 where
   pub p : Program
   pub text : List ℕ
@@ -103,14 +103,14 @@ pub record WroteNone (command : Command) (old new : Option Contents) (had has : 
   pub nothing : has ≡ had
   pub as_before : WhereTold old new (Leaves command None)
 
--- it wrote nothing; or what the rounds up to some one wrote, where it reads in rounds
+-- it wrote nothing; or what the rounds up to some round wrote, if it reads in rounds
 abbrev pub WroteSome : Reading → Command → Option Contents → Option Contents → Option (List ℕ) → Option (List ℕ) → Type 0
 WroteSome Unread command old new had has = has ≡ had
 WroteSome Whole command old new had has = has ≡ had
 WroteSome InRounds command old new had has = WroteNone command old new had has ⊎ WroteRounds command old new had has
 
--- ONE ROUND MORE was written than is saved: behind what the rounds up to some one wrote stands the report of the next one, and of what
--- is left under the name that the command saves to this holds of what those up to that one put
+-- ONE ROUND MORE was written than is saved: after what the rounds up to some round wrote comes the report of the next one, and this
+-- holds of what is left under the name that the command saves to, by what the rounds up to that round put
 pub record WroteUnsaved (Left : Option (List ℕ) → Contents → Contents → Type 0) (command : Command) (old new : Option Contents)
     (had has : Option (List ℕ)) : Type 0 where
   pub p : Program
@@ -123,21 +123,21 @@ pub record WroteUnsaved (Left : Option (List ℕ) → Contents → Contents → 
       × ((o : Opening) × StartsFrom command left p o
       × ((put : Option (List ℕ)) × ReportsNext p o (lines_behind (texts_named command) left p) text put more × Left put left now)))
 
--- where memory was wanting it wrote some of this, and may have wanted that for a checkpoint
+-- if memory ran out it wrote some of this, and memory may have run out for a checkpoint
 abbrev pub WroteForMemory : Reading → Command → Option Contents → Option Contents → Option (List ℕ) → Option (List ℕ) → Type 0
 WroteForMemory how command old new had has = WroteSome how command old new had has ⊎ WroteUnsaved (Leaves command) command old new had has
 
--- where a checkpoint could not be put, it wrote the report of its round, and nothing is said of what is left under its name
+-- if a checkpoint could not be put, it wrote the report of its round, and nothing is said of what is left under its name
 abbrev pub WroteForPut : Command → Option Contents → Option Contents → Option (List ℕ) → Option (List ℕ) → Type 0
 WroteForPut command old new had has = WroteUnsaved LeavesAnything command old new had has
 
--- ---- of a command where out failed
--- a text stands behind what was there, and then fewer than all bytes of another, from its front
+-- ---- of a command whose out failed
+-- a text was appended to what was there, and then a proper prefix of another one
 abbrev pub AppendsInto : List ℕ → List ℕ → List ℕ → List ℕ → Type 0
 AppendsInto text more old new = AppendsPart more (old ++ text) new
 
--- A ROUND WAS BEGUN to be written: nothing refuses the command before its sources, behind what the rounds before it wrote stand fewer
--- than all bytes of its report, and what those put stands under the name that the command saves to
+-- A ROUND WAS BEGUN to be written: nothing refuses the command before its sources, after what the rounds before it wrote comes a proper
+-- prefix of its report, and what those rounds put is under the name that the command saves to
 pub record WroteIntoRound (command : Command) (old new : Option Contents) (had has : Option (List ℕ)) : Type 0 where
   pub p : Program
   pub text : List ℕ
@@ -148,32 +148,32 @@ pub record WroteIntoRound (command : Command) (old new : Option Contents) (had h
       × ((o : Opening) × StartsFrom command left p o
       × ((put : Option (List ℕ)) × ReportsNext p o (lines_behind (texts_named command) left p) text put more × Leaves command put left now)))
 
--- what stands in out: a front of what the command writes, all being read; or, in rounds, a front of what the rounds up to some one write
+-- what is in out: a prefix of what the command writes, all being read; or, in rounds, a prefix of what the rounds up to some round write
 abbrev pub WrotePart : Reading → Command → Option Contents → Option Contents → Option (List ℕ) → Option (List ℕ) → Type 0
 WrotePart Unread command old new had has = WhereKnown (job_wanted command) old new (IsPartlyDone command had has)
 WrotePart Whole command old new had has = WhereKnown (job_wanted command) old new (IsPartlyDone command had has)
 WrotePart InRounds command old new had has = WroteIntoRound command old new had has
 
 -- ---- names
--- the program is the job that is wanted, or the files do not tell it
+-- the program is the job that is wanted, or it is not known what the files hold
 abbrev pub MayHaveJob : Option Contents → WantedJob → Program → Type 0
 MayHaveJob None job p = ⊤
 MayHaveJob (Some left) job p = HasJob job left p
 
--- the name of the trace that a command reads, where nothing refuses it before that, or the files do not tell it
+-- the name of the trace that a command reads, if nothing refuses it before that, or it is not known what the files hold
 pub record IsTraceName (left : Option Contents) (command : Command) (name : List ℕ) : Type 0 where
   pub named : trace_named command ≡ Some name
   pub p : Program
   pub accepted : IsTrue (asks_accepted command) → IsAccepted p
   pub good : IfSome left (λ contents. IsGood command contents p)
 
--- a program that may be the command's job, as far as the files tell, and is accepted where the command asks for that
+-- a program that may be the command's job, as far as the files are known, and is accepted if the command asks for that
 pub record MayBeJob (left : Option Contents) (command : Command) (p : Program) : Type 0 where
   pub has : MayHaveJob left (job_wanted command) p
   pub accepted : IsTrue (asks_accepted command) → IsAccepted p
 
--- the names of the plan, of the checkpoint and of the sources' files that a command reads for a job: before the checkpoint comes, a plan
--- that it asks for has to be valid, and its names have to be no sources' files; and before the sources do, it has to be able to start
+-- the names of the plan, of the checkpoint and of the sources' files that a command reads for a job: before the checkpoint is read, a plan
+-- that it asks for has to be valid, and its names must not be those of sources' files; and before the sources are, it has to be able to start
 pub record IsPlanName (left : Option Contents) (command : Command) (name : List ℕ) : Type 0 where
   pub p : Program
   pub job : MayBeJob left command p
@@ -194,8 +194,8 @@ pub record IsSourceFile (left : Option Contents) (command : Command) (name : Lis
   pub start : IfSome left (λ contents. CanStart command contents p)
   pub named : Contains (sources_read command p) name
 
--- a name that a command reads: its job's, its plan's, that of the checkpoint which it is resumed from, those of its job's sources, and
--- its trace's
+-- a name that a command reads: of its job, of its plan, of the checkpoint that it is resumed from, of a source of its job, or of its
+-- trace
 abbrev pub IsReadName : Option Contents → Command → List ℕ → Type 0
 IsReadName left command name =
     (job_wanted command ≡ Named name)
@@ -205,7 +205,7 @@ IsReadName left command name =
 abbrev pub IsReadBy : List (List ℕ) → Option Contents → List ℕ → Type 0
 IsReadBy words left name = (command : Command) × (command_in words ≡ Ok command) × IsReadName left command name
 
--- a name that a command may have put, at a status: that which it saves to, where rounds may have been run
+-- a name that a command may have put, at a status: the one that it saves to, if rounds may have been run
 abbrev pub IsPutAt : Command → ℕ → List ℕ → Type 0
 IsPutAt command status name = (save_named command ≡ Some name) × Contains (0 ∷ 6 ∷ 7 ∷ 8 ∷ 9 ∷ 12 ∷ []) status
 

@@ -1,4 +1,4 @@
--- How the doing of a command ends.
+-- How a command ends.
 use Rattle.std.specs.Prelude.{◌≡◌, ℕ, List, Option, Some, Result, Ok, Err, ◌⊎◌}
 use Rattle.flu_outside.specs.Outside.{Contents, Rose}
 use Rattle.flu_streams.specs.declared.faults.SourceFault.{SourceFault}
@@ -101,6 +101,6 @@ pub record IsRefused (c : Call) (at : ℕ) (ended : Result (Option Said) Refusal
   pub files : c.left_after ≡ c.left
   pub nothing : WroteNothing c
 
--- how a call with some words ended: they are a command, or are none
+-- how a call with some words ended: they are a command, or they are not one
 pub record Ends (words : List (List ℕ)) (c : Call) (ended : Result (Option Said) Refusal) : Type 0 where
   pub how : ((command : Command) × (command_in words ≡ Ok command) × IsEnding c command ended) ⊎ ((at : ℕ) × (command_in words ≡ Err at) × IsRefused c at ended)

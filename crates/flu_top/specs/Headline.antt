@@ -1,4 +1,4 @@
--- THE HEADLINE, a law for each command: what a call writes where nothing is wrong, in the words of a job's meaning alone. `Outcome` and
+-- THE HEADLINE, a law for each command: what a call writes if nothing is wrong, in terms of a job's meaning alone. `Outcome` and
 -- `Completes` are the clauses of the call `flumina`.
 use Rattle.std.specs.Prelude.{◌≡◌, ◌⊎◌, ℕ, List, [], ◌∷◌, ◌++◌, Bool, false, Option, Some, None, Ok, Contains, slice_get}
 use Rattle.flu_outside.specs.Outside.{Contents, Rose}
@@ -31,19 +31,19 @@ use Rattle.flu_top.specs.Replaying.{HasCompleteTrace}
 abbrev pub fold_report : Program → Contents → List ℕ
 fold_report p left = report p (outputs_of p nothing_held (merged (lists_of p left)))
 
--- THE CALL WRITES THIS: its status is 0, and the text stands in out behind what was there, where out tells that; or there was no memory,
--- and its status is 9
+-- THE CALL WRITES THIS: its status is 0, and the text was appended to out, if it is known what out had; or memory ran out, and its
+-- status is 9
 abbrev pub WritesOrNoMemory : List ℕ → Outside → Outside → ℕ → Type 0
 WritesOrNoMemory text old new status =
     ((status ≡ 0) × ((had : List ℕ) → old.out ≡ Some had → new.out ≡ Some (had ++ text))) ⊎ (status ≡ 9)
 
 -- ---- what is asked of the outside and of the files
--- in the call no take of these names failed, and out did not
+-- in the call no take of these names failed, nor did out
 pub record NoneFailed (names : List (List ℕ)) (before now : Faults) : Type 0 where
   pub takes : (name : List ℕ) → Contains names name → ¬ Rose (before.takes name) (now.takes name)
   pub out : ¬ Rose before.out now.out
 
--- no line of a source has a defect, however many items they hold, as where they are read in rounds
+-- no line of a source has a defect, however many items the sources hold, as when they are read in rounds
 abbrev pub HaveNoDefect : Program → Contents → Type 0
 HaveNoDefect p left =
     (i : ℕ) (s : Source) → slice_get p.sources i ≡ Some s → defect_in p.kinds s (read_file (bytes_left left s.file)) ≡ None
@@ -65,8 +65,8 @@ FoldIsTheReport =
     → NoneFailed (job ∷ files_of p.sources) before now
     → WritesOrNoMemory (fold_report p (emptied job left)) old new status
 
--- `run JOB [PLAN | --depth D] [--adapt] [--save FILE [--unflushed]]`, not resumed: the same of a job that is accepted, by whatever plan that is valid for it; where
--- checkpoints are saved, not under the name of a source's file, and no putting of one failed
+-- `run JOB [PLAN | --depth D] [--adapt] [--save FILE [--unflushed]]`, not resumed: the same of a job that is accepted, by any plan that is
+-- valid for it; if checkpoints are saved, not under the name of a source's file, and no put of one failed
 abbrev pub RunIsTheFold : Type 0
 RunIsTheFold =
     (words : List (List ℕ)) (old new : Outside) (before now : Faults) (status : ℕ)
@@ -108,7 +108,7 @@ ReplayIsTheFold =
     → NoneFailed ((job ∷ plan ∷ trace ∷ []) ++ files_of p.sources) before now
     → WritesOrNoMemory (fold_report p (emptied plan (emptied job left))) old new status
 
--- the program of a text is told by it but for where its boxes lie in memory, which changes no report
+-- a text determines its program except for the places of its boxes in memory, which change no report
 abbrev pub OneTextOneReport : Type 0
 OneTextOneReport =
     (bytes : List ℕ) (p q : Program) → IsJobText bytes (job_of p) → IsJobText bytes (job_of q)

@@ -1,4 +1,4 @@
--- What follows from the outcome of a call: each status by itself, what was read, and what comes where nothing failed.
+-- What follows from the outcome of a call: each status by itself, what was read, and what holds if nothing failed.
 use Rattle.std.specs.Prelude.{◌≡◌, ◌≢◌, ◌↔◌, ◌⊎◌, ◌<◌, ℕ, List, [], ◌∷◌, Bool, true, false, Contains, IsTrue, Option, Some, None, ◌++◌, Ok, Err}
 use Rattle.flu_outside.specs.Outside.{Contents, WhereTold, Rose, Appends, SameCounts}
 use Rattle.flu_outside.specs.Taking.{bytes_left, TookFronts}
@@ -58,7 +58,7 @@ DoneIsQuiet =
     (words : List (List ℕ)) (old new : Outside) (status : ℕ) → Outcome words old new status → status ≡ 0
     → (command : Command) → command_in words ≡ Ok command → IsTrue (says_nothing command) → new.err ≡ old.err
 
--- status 0 of `simulate`: err gets the line of some steps, and where the files tell what they hold, these are the steps that the seed
+-- status 0 of `simulate`: err gets the line of some steps, and if it is known what the files hold, these are the steps that the seed
 -- draws on the net of the plan
 abbrev pub SimulationIsHeard : Type 0
 SimulationIsHeard =
@@ -67,8 +67,8 @@ SimulationIsHeard =
     → (line : List ℕ) × IsStepLine line × Said old new line
     × WhereTold old.left new.left (λ left _. (p : Program) × HasJob (Named job) left p × IsLineOfRun job plan seed left p line)
 
--- status 0 of `run .. --adapt`: out gets what the same run without `--adapt` writes, and err the text of some plan; where the files tell
--- what they hold, that is the text of the plan that is observed of all events of the run, above its opening
+-- status 0 of `run .. --adapt`: out gets what the same run without `--adapt` writes, and err the text of some plan; if it is known what
+-- the files hold, it is the text of the observed plan of all events of the run, above its opening
 abbrev pub AdaptedPlanIsHeard : Type 0
 AdaptedPlanIsHeard =
     (words : List (List ℕ)) (old new : Outside) (status : ℕ) → Outcome words old new status → status ≡ 0
@@ -80,12 +80,12 @@ AdaptedPlanIsHeard =
     × WhereTold old.out new.out (AppendsAll text))
     × IsObservedText (job ∷ if_named plan) resume left p line)
 
--- status 2 comes exactly where the words are no command
+-- status 2 comes exactly if the words are not a command
 abbrev pub BadWordsExactly : Type 0
 BadWordsExactly =
     (words : List (List ℕ)) (old new : Outside) (status : ℕ) → Outcome words old new status → (status ≡ 2) ↔ ((at : ℕ) × (command_in words ≡ Err at))
 
--- words that are no command: err gets their line
+-- words that are not a command: err gets their line
 abbrev pub BadWordsLine : Type 0
 BadWordsLine =
     (words : List (List ℕ)) (old new : Outside) (status : ℕ) → Outcome words old new status
@@ -103,7 +103,7 @@ JobFaultIsFirst =
     → (command : Command) × (fault : JobFault) × (command_in words ≡ Ok command)
     × HasJobFault (job_wanted command) old.left new.left fault × Said old new (job_fault_line fault)
 
--- status 4: the command asks for an accepted job and its job is none, and err gets the line of its first conflict
+-- status 4: the command asks for an accepted job and its job is not accepted, and err gets the line of its first conflict
 abbrev pub ConflictIsFirst : Type 0
 ConflictIsFirst =
     (words : List (List ℕ)) (old new : Outside) (status : ℕ) → Outcome words old new status → status ≡ 4
@@ -118,8 +118,8 @@ PlanDefectIsFirst =
     → (command : Command) × (defect : PlanDefect) × (command_in words ≡ Ok command)
     × HasPlanDefect command old.left new.left defect × Said old new (plan_defect_line defect)
 
--- status 6: the command reads sources and one of its job's has a defect, and err gets the line of the first one; where it reads them in
--- rounds, that is the one of the earliest round that meets any, and out gets what the rounds before that wrote
+-- status 6: the command reads sources and one of its job's has a defect, and err gets the line of the first one; if it reads them in
+-- rounds, that is the defect of the earliest round that meets any, and out gets what the rounds before that one wrote
 abbrev pub SourceFaultIsFirst : Type 0
 SourceFaultIsFirst =
     (words : List (List ℕ)) (old new : Outside) (status : ℕ) → Outcome words old new status → status ≡ 6
@@ -127,7 +127,7 @@ SourceFaultIsFirst =
     × HasSourceFault command old.left new.left p fault text × Wrote (how_read command) text old.out new.out
     × Said old new (source_fault_line (source_name p fault.source) fault.row fault.why)
 
--- status 11: nothing refuses the command before it would start, this keeps it from that, and err gets its line
+-- status 11: nothing refuses the command before it would start, this keeps it from starting, and err gets its line
 abbrev pub SaveDefectIsFirst : Type 0
 SaveDefectIsFirst =
     (words : List (List ℕ)) (old new : Outside) (status : ℕ) → Outcome words old new status → status ≡ 11
@@ -158,8 +158,8 @@ WriteFaultRose =
     (words : List (List ℕ)) (left : Option Contents) (before now : Faults) (status : ℕ) → FaultsFirst words left before now status → status ≡ 8
     → Rose before.out now.out
 
--- status 8: out got a front of what the command writes, which is not all of it. All was read; or, in rounds, what those up to some one
--- wrote stands there, and fewer than all bytes of the next one's report
+-- status 8: out got a prefix of what the command writes, which is not all of it. All was read; or, in rounds, what the rounds up to some
+-- round wrote is there, and a proper prefix of the next round's report
 abbrev pub WriteFaultIsPart : Type 0
 WriteFaultIsPart =
     (words : List (List ℕ)) (old new : Outside) (status : ℕ) → Outcome words old new status → status ≡ 8
@@ -177,7 +177,7 @@ PutFaultRose =
     (words : List (List ℕ)) (left : Option Contents) (before now : Faults) (status : ℕ) → FaultsFirst words left before now status → status ≡ 12
     → (name : List ℕ) × IsSavedBy words name × Rose (before.puts name) (now.puts name)
 
--- at every status but 7 no count of takes has changed, at every one but 8 not that of out, and at every one but 12 none of puts
+-- at every status but 7 no count of takes has changed, at every one but 8 the count of out has not, and at every one but 12 no count of puts
 abbrev pub NoFailureIsPassedOver : Type 0
 NoFailureIsPassedOver =
     (words : List (List ℕ)) (left : Option Contents) (before now : Faults) (status : ℕ) → FaultsFirst words left before now status
@@ -189,37 +189,37 @@ PutFaultIsBehindARound =
     (words : List (List ℕ)) (old new : Outside) (status : ℕ) → Outcome words old new status → status ≡ 12
     → (command : Command) × (command_in words ≡ Ok command) × WroteForPut command old.left new.left old.out new.out × Said old new put_fault_line
 
--- status 9: err gets the line of want of memory
+-- status 9: err gets the line for out of memory
 abbrev pub NoMemoryLine : Type 0
 NoMemoryLine =
     (words : List (List ℕ)) (old new : Outside) (status : ℕ) → Outcome words old new status → status ≡ 9 → Said old new no_memory_line
 
--- at every status but 0 and 8 out gets nothing, where the command does not read in rounds
+-- at every status but 0 and 8 out gets nothing, if the command does not read in rounds
 abbrev pub NothingIsWritten : Type 0
 NothingIsWritten =
     (words : List (List ℕ)) (old new : Outside) (status : ℕ) → Outcome words old new status → status ≢ 0 → status ≢ 8
     → ((command : Command) → command_in words ≡ Ok command → how_read command ≢ InRounds) → new.out ≡ old.out
 
--- at the statuses below 6 but 0, and at 11 and 13, it gets nothing
+-- at the statuses below 6 except 0, and at 11 and 13, it gets nothing
 abbrev pub RefusalsWriteNothing : Type 0
 RefusalsWriteNothing =
     (words : List (List ℕ)) (old new : Outside) (status : ℕ) → Outcome words old new status → status ≢ 0
     → (status < 6) ⊎ ((status ≡ 11) ⊎ (status ≡ 13)) → new.out ≡ old.out
 
--- status 7: out gets nothing; or, where the command reads in rounds, what those up to some one wrote
+-- status 7: out gets nothing; or, if the command reads in rounds, what the rounds up to some round wrote
 abbrev pub SomeIsWritten : Type 0
 SomeIsWritten =
     (words : List (List ℕ)) (old new : Outside) (status : ℕ) → Outcome words old new status → status ≡ 7
     → (command : Command) × (command_in words ≡ Ok command) × WroteSome (how_read command) command old.left new.left old.out new.out
 
--- status 9: the same; or, where a checkpoint was to be put, the report of one round more
+-- status 9: the same; or, if a checkpoint was to be put, the report of one round more
 abbrev pub SomeIsWrittenForMemory : Type 0
 SomeIsWrittenForMemory =
     (words : List (List ℕ)) (old new : Outside) (status : ℕ) → Outcome words old new status → status ≡ 9
     → (command : Command) × (command_in words ≡ Ok command) × WroteForMemory (how_read command) command old.left new.left old.out new.out
 
 -- ---- run
--- what a run of good sources wrote is a front of its report, from its opening, whatever its status: so it is at 7 to 9 and 12 too
+-- what a run of good sources wrote is a prefix of its report, from its opening, whatever its status: so also at 7 to 9 and 12
 abbrev pub RunsWriteFronts : Type 0
 RunsWriteFronts =
     (words : List (List ℕ)) (old new : Outside) (status : ℕ) → Outcome words old new status
@@ -229,7 +229,7 @@ RunsWriteFronts =
     × ((o : Opening) × StartsFrom (Run job plan options) left q o
     × WhereTold old.out new.out (λ had has. (n : ℕ) × Appends n (report_from o (texts_named (Run job plan options)) left q) had has))
 
--- a run that is not resumed opens fresh, so that its report is that of the fold of all events from the empty state
+-- a run that is not resumed opens fresh, so its report is the report of the fold of all events from the empty state
 abbrev pub FreshRunsReportTheFold : Type 0
 FreshRunsReportTheFold =
     (job : List ℕ) (plan : Option (List ℕ)) (depth : ℕ) (adapt : Bool) (save : Option (List ℕ)) (unflushed : Bool)
@@ -238,8 +238,8 @@ FreshRunsReportTheFold =
     → report_from o (texts_named (Run job plan (record { depth = depth; adapt = adapt; save = save; unflushed = unflushed; resume = None }))) left p
     ≡ report_behind (job ∷ if_named plan) left p
 
--- the report up to a border and that of a run which is resumed from its checkpoint are together the report of the whole: the later
--- events, from the state of the earlier ones
+-- the report up to a border and the report of a run that is resumed from its checkpoint are together the report of the whole: the later
+-- events are run from the state of the earlier ones
 abbrev pub ResumedRunsGoOn : Type 0
 ResumedRunsGoOn =
     (p : Program) (lists : List (List Item)) (t : ℕ)
@@ -261,7 +261,7 @@ DemoStatuses =
     → Outcome words old new status → FaultsFirst words old.left before now status
     → (n seed : ℕ) → command_in words ≡ Ok (Demo n seed) → Contains (0 ∷ 8 ∷ 9 ∷ []) status
 
--- status 0 of `demo`: out gets the summary of the report of what the seed draws, whatever the files hold and tell
+-- status 0 of `demo`: out gets the summary of the report of what the seed draws, whatever the files hold, known or not
 abbrev pub DemoIsDone : Type 0
 DemoIsDone =
     (words : List (List ℕ)) (old new : Outside) (status : ℕ) → Outcome words old new status → status ≡ 0
@@ -269,20 +269,20 @@ DemoIsDone =
     → (p : Program) × (job_of p ≡ demo_job) × WhereTold old.out new.out (AppendsAll (demo_summary n seed p))
 
 -- ---- what was read
--- bytes are taken from the front of names, where none may have been put
+-- bytes are taken from the front of names, if none may have been put
 abbrev pub FrontsAreTaken : Type 0
 FrontsAreTaken =
     (words : List (List ℕ)) (old new : Option Contents) (status : ℕ) → ReadOnly words old new status → ((name : List ℕ) → ¬ MayBePut words status name)
     → WhereTold old new TookFronts
 
--- no byte is taken of a name that the call does not read, and none is put but of one that it saves to
+-- no bytes are taken of a name that the call does not read, and none are put but under one that it saves to
 abbrev pub NoOtherIsRead : Type 0
 NoOtherIsRead =
     (words : List (List ℕ)) (old new : Option Contents) (status : ℕ) → ReadOnly words old new status
     → WhereTold old new (TookOnly (λ name. IsReadBy words old name ⊎ IsSavedBy words name))
 
--- ---- where nothing failed
--- a command that nothing refuses has status 0, or 9, where a trace that it reads is complete
+-- ---- if nothing failed
+-- a command that nothing refuses has status 0, or 9, if a trace that it reads is complete
 abbrev pub GoodIsDone : Type 0
 GoodIsDone =
     (words : List (List ℕ)) (told : Option Contents) (before now : Faults) (status : ℕ)
@@ -302,7 +302,7 @@ JobFaultIsRefused =
     → job_wanted command ≡ Named name → IsFirstJobFault (bytes_left left name) fault
     → (status ≡ 3) ⊎ (status ≡ 9)
 
--- a job that is not accepted, where the command asks for that, has status 4, or 9
+-- a job that is not accepted, if the command asks for that, has status 4, or 9
 abbrev pub ConflictIsRefused : Type 0
 ConflictIsRefused =
     (words : List (List ℕ)) (told : Option Contents) (before now : Faults) (status : ℕ)
@@ -322,7 +322,7 @@ PlanDefectIsRefused =
     → plan_named command ≡ Some plan → HasJob (job_wanted command) left p → IsAccepted p → ¬ HasValidPlan (job_wanted command) plan left p
     → (status ≡ 5) ⊎ (status ≡ 9)
 
--- a source with a defect, where the command reads sources and a plan that it names is valid, has status 6, or 9
+-- a source with a defect, if the command reads sources and a plan that it names is valid, has status 6, or 9
 abbrev pub SourceFaultIsRefused : Type 0
 SourceFaultIsRefused =
     (words : List (List ℕ)) (told : Option Contents) (before now : Faults) (status : ℕ)
@@ -344,7 +344,7 @@ SaveDefectIsRefused =
     → HasPlanAsked command left p → ¬ CanStart command left p
     → (status ≡ 11) ⊎ (status ≡ 9)
 
--- a trace that is not complete, where nothing refuses the command before it, has status 13, or 9
+-- a trace that is not complete, if nothing refuses the command before it, has status 13, or 9
 abbrev pub TraceFaultIsRefused : Type 0
 TraceFaultIsRefused =
     (words : List (List ℕ)) (told : Option Contents) (before now : Faults) (status : ℕ)
@@ -354,7 +354,7 @@ TraceFaultIsRefused =
     → HasFaultyTrace command left
     → (status ≡ 13) ⊎ (status ≡ 9)
 
--- completeness follows from the outcome, where 7, 8 and 12 come only from faults of the outside
+-- completeness follows from the outcome, if 7, 8 and 12 come only from faults of the outside
 abbrev pub CompletesByFaults : Type 0
 CompletesByFaults =
     (words : List (List ℕ)) (old new : Outside) (status : ℕ) (before now : Faults)

@@ -82,7 +82,7 @@ invalid_text p nodes (Unowned i) = itag_text p i ++ codes " has no owner"
 invalid_text p nodes (OwnedTwice i a b) = itag_text p i ++ codes " has two owners, " ++ node_name nodes a ++ codes " and " ++ node_name nodes b
 invalid_text p nodes (Clash a i b j) = codes "clash of " ++ owned_text p nodes i a ++ codes " and " ++ owned_text p nodes j b
 
--- what a row breaks
+-- what is wrong with a row
 abbrev pub why_text : Why → List ℕ
 why_text whys.BadRow = codes "bad row"
 why_text whys.UnknownTag = codes "unknown tag"
@@ -91,7 +91,7 @@ why_text whys.Unclosed = codes "unclosed"
 why_text whys.AfterEnd = codes "after end"
 why_text (whys.TooMany count) = codes "too many, " ++ decimal count
 
--- why bytes are no checkpoint
+-- why bytes are not a checkpoint
 abbrev pub save_fault_text : SaveFault → List ℕ
 save_fault_text (saves.OverLimit count) = limit_text whats.Bytes count
 save_fault_text saves.NotJson = codes "not json"
@@ -100,11 +100,11 @@ save_fault_text saves.OtherJob = codes "other job"
 save_fault_text saves.NoMemory = codes "no memory"
 
 -- ---- the lines
--- the line of words that are no command, of which the one at a place does not fit
+-- the line of words that are not a command, of which the one at a place does not fit
 abbrev pub bad_words_line : ℕ → List ℕ
 bad_words_line at = codes "flumina: bad words at " ++ decimal at ++ codes "\n"
 
--- the line of a fault behind what has it
+-- the line of a fault, after a head that says what has it
 abbrev pub fault_line : List ℕ → List ℕ → List ℕ
 fault_line head fault = head ++ fault ++ codes "\n"
 
@@ -129,14 +129,14 @@ abbrev pub plan_defect_line : PlanDefect → List ℕ
 plan_defect_line (defects.Text fault) = plan_line (plan_fault_text fault)
 plan_defect_line (defects.Invalid checked fault) = plan_line (invalid_text (program_of checked) fault.plan.nodes fault.why)
 
--- the line of a defect: the source's name, its row, and what that breaks
+-- the line of a defect: the source's name, its row, and what is wrong with that
 abbrev pub row_line : List ℕ → ℕ → List ℕ → List ℕ
 row_line name row why = codes "flumina: source " ++ name ++ codes " row " ++ decimal row ++ codes ": " ++ why ++ codes "\n"
 
 abbrev pub source_fault_line : List ℕ → ℕ → Why → List ℕ
 source_fault_line name row why = row_line name row (why_text why)
 
--- the line of what keeps a run from its start: the source whose file its name is, or what is wrong with its checkpoint
+-- the line of what keeps a run from starting: the source whose file has its name, or what is wrong with its checkpoint
 abbrev pub save_line : List ℕ → List ℕ
 save_line defect = fault_line (codes "flumina: save: ") defect
 
@@ -175,7 +175,7 @@ step_line steps =
     ++ codes " give " ++ decimal steps.counts.give ++ codes " hold " ++ decimal steps.counts.hold
     ++ codes " lend " ++ decimal steps.counts.lend ++ codes " mark " ++ decimal steps.mark ++ codes "\n"
 
--- a line stands behind what was there, or the sink failed and has fewer than all of the line's bytes, from their front
+-- a line was appended to what was there, or the sink failed and has a proper prefix of the line
 abbrev pub IsSaid : List ℕ → Option (List ℕ) → Option (List ℕ) → ℕ → ℕ → Type 0
 IsSaid line old new before now =
     WhereTold old new (AppendsAll line) ⊎ (Rose before now × WhereTold old new (AppendsPart line))

@@ -1,4 +1,4 @@
--- Sources whose defects are mended: what a run writes before it meets a defect, whatever stands in place of it.
+-- Sources whose defects are mended: what a run writes before it meets a defect, whatever is in place of it.
 use Rattle.std.specs.Prelude.{◌≡◌, ℕ, List, ◌++◌, Option, Some, None, Ok}
 use Rattle.flu_lemmas.specs.Elements.{AtEach}
 use Rattle.flu_outside.specs.Outside.{Contents, WhereTold, Appends}
@@ -19,7 +19,7 @@ use Rattle.flu_top.specs.Reading.{InRounds, HasDefect}
 use Rattle.flu_top.specs.Starting.{StartsFrom, CanStart}
 use Rattle.flu_top.specs.Wants.{texts_named}
 
--- THE LINES OF A SOURCE ARE MENDED: those before its first defect stay, whatever comes behind them; and where it has none, all stay
+-- THE LINES OF A SOURCE ARE MENDED: those before its first defect stay, whatever comes after them; and if it has none, all stay
 pub record IsMended (kinds : List Kind) (s : Source) (whole mended : List Next) : Type 0 where
   pub fronts : (front rest : List Next) → whole ≡ front ++ rest → defect_in kinds s front ≡ None → (others : List Next) × (mended ≡ front ++ others)
   pub good : defect_in kinds s whole ≡ None → mended ≡ whole
@@ -29,8 +29,8 @@ pub record AreMended (p : Program) (left mended : Contents) : Type 0 where
   pub each : AtEach (λ i s. IsMended p.kinds s (lines_in p left i) (lines_in p mended i)) p.sources
   pub sound : AreSound p (lines_in p mended)
 
--- what a run wrote whose sources have a defect is a front of the report of any sources that mend it, whatever the run's status: of those
--- that end before the defect too, so that it tells nothing of what comes behind one
+-- what a run wrote whose sources have a defect is a prefix of the report of any sources that mend it, whatever the run's status: also of
+-- those that end before the defect, so that it says nothing about what comes after one
 abbrev pub RunsWriteFrontsOfMended : Type 0
 RunsWriteFrontsOfMended =
     (words : List (List ℕ)) (old new : Outside) (status : ℕ) → Outcome words old new status

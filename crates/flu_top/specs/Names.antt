@@ -15,7 +15,7 @@ source_name p number = option_map_or (λ s. s.name) (slice_get p.sources number)
 abbrev pub node_name : List Node → ℕ → List ℕ
 node_name nodes number = option_map_or (λ node. node.name) (slice_get nodes number) []
 
--- an itag: its tag, `@` and the name of its source; nothing where the job has no such itag
+-- an itag: its tag, `@` and the name of its source; nothing if the job has no such itag
 abbrev pub itag_text : Program → Itag → List ℕ
 itag_text p i =
     if nat_lt i.0 (count_of_itags p) then text_of_tag p (tag_of_itag p i) ++ codes "@" ++ source_name p (source_of_itag p i) else []

@@ -11,7 +11,7 @@ use Rattle.flu_rounds.specs.Written.{lists_above}
 use Rattle.flu_save.specs.Forms.{IsSave}
 use Rattle.flu_top.specs.Behind.{emptied_each, lists_behind}
 
--- THE OPENING of a run: the border that it is resumed above, where it is, and what the cells hold then
+-- THE OPENING of a run: the border above which it is resumed, if it is, and what the cells hold then
 pub record Opening : Type 0 where
   pub border : Option ℕ
   pub cells : Contents
@@ -26,16 +26,16 @@ pub record OpensAt (p : Program) (bytes : List ℕ) (o : Opening) : Type 0 where
   pub above : o.border ≡ Some time
   pub save : IsSave p time o.cells bytes
 
--- a run opens fresh; or, where it is resumed, with the checkpoint under a name, which is read behind some texts
+-- a run opens fresh; or, if it is resumed, with the checkpoint under a name, which is read after some texts
 abbrev pub Opens : Option (List ℕ) → List (List ℕ) → Files → Program → Opening → Type 0
 Opens None texts left p o = o ≡ fresh
 Opens (Some name) texts left p o = OpensAt p (bytes_left (emptied_each texts left) name) o
 
--- the items that it runs, of sources that are read behind some texts
+-- the items that it runs, of sources that are read after some texts
 abbrev pub lists_from : Opening → List (List ℕ) → Files → Program → List (List Item)
 lists_from o texts left p = lists_above o.border (lists_behind texts left p)
 
--- the report of their fold, and the state behind it
+-- the report of their fold, and the state after it
 abbrev pub report_from : Opening → List (List ℕ) → Files → Program → List ℕ
 report_from o texts left p = report p (final_outputs p o.cells (lists_from o texts left p))
 

@@ -1,4 +1,4 @@
--- THE OUTCOME of a call of `flumina`: what its status says of the words, of what the files held and hold, and of what out and
+-- THE OUTCOME of a call of `flumina`: what its status says about the words, about what the files held and hold, and about what out and
 -- err got.
 use Rattle.std.specs.Prelude.{◌≡◌, ◌≢◌, ℕ, List, Option, Some, Ok, Err, IsTrue, ◌⊎◌}
 use Rattle.flu_outside.specs.Outside.{Contents, WhereTold, Rose, SameCounts}
@@ -29,11 +29,11 @@ use Rattle.flu_top.specs.Names.{source_name}
 use Rattle.flu_top.specs.Lines.{IsSaid, bad_words_line, job_fault_line, conflict_line, plan_defect_line, source_fault_line}
 use Rattle.flu_top.specs.Lines.{read_fault_line, write_fault_line, no_memory_line, save_defect_line, put_fault_line, trace_fault_line}
 
--- err got this line, or failed and has a front of it
+-- err got this line, or failed and has a prefix of it
 abbrev pub Said : Outside → Outside → List ℕ → Type 0
 Said old new line = IsSaid line old.err new.err old.err_faults new.err_faults
 
--- err is untouched where a command says nothing; else it got the line that the command says, or failed and has a front of it
+-- err is untouched if a command says nothing; else it got the line that the command says, or failed and has a prefix of it
 abbrev pub Hears : Saying → Outside → Outside → List ℕ → Type 0
 Hears Nothing old new line = new.err ≡ old.err
 Hears (Line Is IsForm) old new line = IsForm line × Said old new line
@@ -43,14 +43,14 @@ pub record Refused (old new : Outside) (line : List ℕ) : Type 0 where
   pub nothing : new.out ≡ old.out
   pub said : Said old new line
 
--- ---- the cases, one for each status: `old` is the outside before the call, and `new` behind it
+-- ---- the cases, one for each status: `old` is the outside before the call, and `new` after it
 pub data Outcome (words : List (List ℕ)) (old new : Outside) (status : ℕ) : Type 0 where
   -- nothing refuses the command, all that it reads was read to its end, out got all that it writes, err what it says, and the last
-  -- checkpoint stands where it saves any
+  -- checkpoint is in its place, if it saves any
   Done : status ≡ 0 → (command : Command) → command_in words ≡ Ok command → (line : List ℕ)
       → WhereKnown (want command).job old.left new.left (IsDone command old.out new.out line)
       → Hears (want command).says old new line → Outcome words old new status
-  -- the words are no command: the one at this place does not fit; no file was read
+  -- the words are not a command: the one at this place does not fit; no file was read
   BadWords : status ≡ 2 → (at : ℕ) → command_in words ≡ Err at
       → new.left ≡ old.left → Refused old new (bad_words_line at) → Outcome words old new status
   -- the bytes of the command's job have this first fault
@@ -65,31 +65,31 @@ pub data Outcome (words : List (List ℕ)) (old new : Outside) (status : ℕ) : 
   BadPlan : status ≡ 5 → (command : Command) → command_in words ≡ Ok command → (defect : PlanDefect)
       → HasPlanDefect command old.left new.left defect
       → Refused old new (plan_defect_line defect) → Outcome words old new status
-  -- the command reads the sources of its job, and this is the first defect of the first one that has any; where it reads them in
-  -- rounds, it is that of the earliest round that meets one, and out got what the rounds before that wrote, as the name that it saves
-  -- to has what they put
+  -- the command reads the sources of its job, and this is the first defect of the first one that has any; if it reads them in
+  -- rounds, it is the defect of the earliest round that meets one, and out got what the rounds before that one wrote, as the name
+  -- that it saves to has what they put
   BadSource : status ≡ 6 → (command : Command) → command_in words ≡ Ok command → (p : Program) (fault : SourceFault) (text : List ℕ)
       → HasSourceFault command old.left new.left p fault text → Wrote (want command).sources text old.out new.out
       → Said old new (source_fault_line (source_name p fault.source) fault.row fault.why)
       → Outcome words old new status
-  -- a file that the command reads failed; where it reads in rounds, out may have what those up to some one wrote
+  -- a file that the command reads failed; if it reads in rounds, out may have what the rounds up to some round wrote
   ReadFailed : status ≡ 7 → (command : Command) → command_in words ≡ Ok command
       → WroteSome (want command).sources command old.left new.left old.out new.out
       → Said old new read_fault_line → Outcome words old new status
-  -- nothing refuses the command, and all that it reads was read; out failed, and got fewer bytes than the command
-  -- writes, from their front; where it reads in rounds, it has what those up to some one wrote, and a front of the next one's report
+  -- nothing refuses the command, and all that it reads was read; out failed, and got a proper prefix of what the command writes;
+  -- if it reads in rounds, it has what the rounds up to some round wrote, and a prefix of the next round's report
   WriteFailed : status ≡ 8 → (command : Command) → command_in words ≡ Ok command
       → WrotePart (want command).sources command old.left new.left old.out new.out
       → Said old new write_fault_line → Outcome words old new status
-  -- there was no memory; where the command reads in rounds, out may have what those up to some one wrote
+  -- memory ran out; if the command reads in rounds, out may have what the rounds up to some round wrote
   NoMemory : status ≡ 9 → (command : Command) → command_in words ≡ Ok command
       → WroteForMemory (want command).sources command old.left new.left old.out new.out
       → Said old new no_memory_line → Outcome words old new status
-  -- a run can't start: a name that it saves to or is resumed from is that of a source's file, or its checkpoint has this first fault
+  -- a run can't start: a name that it saves to or is resumed from is the name of a source's file, or its checkpoint has this first fault
   BadSave : status ≡ 11 → (command : Command) → command_in words ≡ Ok command → (defect : SaveDefect)
       → HasSaveDefect command old.left new.left defect
       → Refused old new (save_defect_line defect) → Outcome words old new status
-  -- a checkpoint could not be put; out has the report of its round and of those before it
+  -- a checkpoint could not be put; out has the report of its round and of the rounds before it
   PutFailed : status ≡ 12 → (command : Command) → command_in words ≡ Ok command
       → WroteForPut command old.left new.left old.out new.out
       → Said old new put_fault_line → Outcome words old new status
@@ -99,15 +99,15 @@ pub data Outcome (words : List (List ℕ)) (old new : Outside) (status : ℕ) : 
       → Refused old new (trace_fault_line fault) → Outcome words old new status
 
 -- ---- what was read
--- bytes were taken from the front of names, and of no name that the call does not read; but for one that it put
+-- bytes were taken from the front of names, and of no name that the call does not read, except for one that it put
 pub record ReadOnly (words : List (List ℕ)) (old new : Option Contents) (status : ℕ) : Type 0 where
   pub fronts : WhereTold old new (TookFrontsBut (MayBePut words status))
   pub only : WhereTold old new (TookOnly (λ name. IsReadBy words old name ⊎ MayBePut words status name))
 
 -- ---- the faults of the outside
--- status 7 comes only where the count of a name that the call reads rose, status 8 only where out's did, and status 12 only where that
--- of puts of the name that it saves to did; and at every other status no such count of any name has changed, so that no failure is
--- passed over
+-- status 7 comes only if the count of a name that the call reads rose, status 8 only if the count of out rose, and status 12 only if
+-- the count of puts of the name that it saves to rose; and at every other status no such count of any name has changed, so that no
+-- failure is passed over
 pub record FaultsFirst (words : List (List ℕ)) (left : Option Contents) (before now : Faults) (status : ℕ) : Type 0 where
   pub read : status ≡ 7 → (name : List ℕ) × IsReadBy words left name × Rose (before.takes name) (now.takes name)
   pub write : status ≡ 8 → Rose before.out now.out
@@ -116,7 +116,7 @@ pub record FaultsFirst (words : List (List ℕ)) (left : Option Contents) (befor
   pub same_out : status ≢ 8 → now.out ≡ before.out
   pub same_puts : status ≢ 12 → SameCounts before.puts now.puts
 
--- a read fault hides nothing: status 7 comes only where no fault was met in what was taken
+-- a read fault hides nothing: status 7 comes only if no fault was met in what was taken
 pub record HidesNothing (words : List (List ℕ)) (old new : Option Contents) (before now : Faults) (status : ℕ) : Type 0 where
   pub failed : status ≡ 7 → (command : Command) × (command_in words ≡ Ok command) × HasReadFault command old new before.takes now.takes
 
@@ -131,7 +131,7 @@ pub record HasFaultyTrace (command : Command) (left : Contents) : Type 0 where
   pub ends : ReplaysTo command trace left p ending
   pub faulty : ending ≢ Complete
 
--- the status that a command and the files call for where nothing fails
+-- the status that a command and the files call for if nothing fails
 pub data CallsFor (command : Command) (left : Contents) (status : ℕ) : Type 0 where
   Good : status ≡ 0 → (p : Program) → IsGood command left p → HasCompleteTrace command left p → CallsFor command left status
   FaultyJob : status ≡ 3 → (name : List ℕ) (fault : JobFault) → (want command).job ≡ Named name
@@ -147,13 +147,13 @@ pub data CallsFor (command : Command) (left : Contents) (status : ℕ) : Type 0 
       → HasPlanAsked command left p → CanStart command left p → HasDefect (want command).sources (texts_named command) left p → CallsFor command left status
   FaultyTrace : status ≡ 13 → HasFaultyTrace command left → CallsFor command left status
 
--- no name that the command reads failed, none that it saves to, and out did not
+-- no name that the command reads failed, none that it saves to, nor did out
 pub record NothingFailed (command : Command) (left : Option Contents) (before now : Faults) : Type 0 where
   pub files : (name : List ℕ) → IsReadName left command name → ¬ Rose (before.takes name) (now.takes name)
   pub saves : (name : List ℕ) → save_named command ≡ Some name → ¬ Rose (before.puts name) (now.puts name)
   pub out : ¬ Rose before.out now.out
 
--- where nothing failed, the status is the one that the command and the files call for, or that of want of memory
+-- if nothing failed, the status is the one that the command and the files call for, or the one for out of memory
 abbrev pub Completes : List (List ℕ) → Option Contents → Faults → Faults → ℕ → Type 0
 Completes words told before now status =
     (command : Command) (left : Contents) (wanted : ℕ) → command_in words ≡ Ok command → told ≡ Some left

@@ -1,4 +1,4 @@
--- What the reading of a plan and the look at its validity give, and what refuses it.
+-- What reading a plan and checking its validity give, and what refuses it.
 use Rattle.std.specs.Prelude.{◌≡◌, ◌≢◌, ℕ, List, [], Option, Some, ⊤}
 use Rattle.flu_outside.specs.Outside.{Contents, WhereTold, Rose}
 use Rattle.flu_model.specs.declared.jobs.Program.{Program}
@@ -40,7 +40,7 @@ IsTextRefusal p plan old new before now (refusals.SaveDefect defect) = ⊥
 IsTextRefusal p plan old new before now refusals.PutFault = ⊥
 IsTextRefusal p plan old new before now (refusals.TraceFault fault) = ⊥
 
--- why a plan that was read is not taken
+-- why a plan that was read is refused
 abbrev pub IsValidRefusal : Checked → List Node → Refusal → Type 0
 IsValidRefusal checked nodes (refusals.BadWords bad) = ⊥
 IsValidRefusal checked nodes (refusals.JobFault fault) = ⊥

@@ -5,17 +5,17 @@ use Rattle.flu_top.specs.declared.products.Said.TheVariants.{Steps, Plan}
 use Rattle.flu_top.specs.Lines.{step_line}
 use Rattle.flu_top.specs.Wants.{Saying, Nothing, Line}
 
--- the line of what is said: that of some steps, or the text of a plan, which has its line feeds
+-- the line of what is said: the line of some steps, or the text of a plan, which has its line feeds
 abbrev pub line_of_said : Said → List ℕ
 line_of_said (Steps steps) = step_line steps
 line_of_said (Plan text) = text
 
--- the same, and the empty one where nothing is said
+-- the same, and the empty line if nothing is said
 abbrev pub line_said : Option Said → List ℕ
 line_said None = []
 line_said (Some said) = line_of_said said
 
--- something is said exactly where a command says a line, and it has the form of that
+-- something is said exactly if a command says a line, and it has the form of that line
 abbrev pub MaySay : Saying → Option Said → Type 0
 MaySay Nothing said = said ≡ None
 MaySay (Line Is IsForm) None = ⊥

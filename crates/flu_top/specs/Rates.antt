@@ -1,4 +1,4 @@
--- How many events a second are to be expected of the itags of a job.
+-- How many events per second to expect of the itags of a job.
 use Rattle.std.specs.Prelude.{ℕ, List, map, slice_get}
 use Rattle.std.specs.List.{range_with_len}
 use Rattle.std.specs.Option.{option_map_or}

@@ -1,4 +1,4 @@
--- What is true where a read fault ends a command: no fault was met in what was taken.
+-- What is true if a read fault ends a command: no fault was met in what was taken.
 use Rattle.std.specs.Prelude.{◌≡◌, ℕ, List, ◌∷◌, ◌++◌, Option}
 use Rattle.flu_outside.specs.Outside.{Contents, WhereTold, Rose}
 use Rattle.flu_outside.specs.Taking.{TookAtMost}
@@ -18,7 +18,7 @@ use Rattle.flu_top.specs.Wants.{job_wanted, how_read, job_and_plan_named, texts_
 use Rattle.flu_top.specs.Done.{IsPlanName, IsCheckpointName, IsSourceFile, IsTraceName}
 
 -- the sources of the command's job before the one with this file have no defect, nor have the rows that were read of that one, and what
--- was taken of it besides decides nothing
+-- else was taken of it decides nothing
 pub record HidesNoDefect (command : Command) (name : List ℕ) (old new : Option Contents) : Type 0 where
   pub p : Program
   pub earlier : List Source

@@ -16,7 +16,7 @@ use Rattle.flu_save.specs.Checkpoint.{save}
 use Rattle.flu_top.specs.Behind.{emptied_each, fault_behind}
 use Rattle.flu_top.specs.Openings.{Opening}
 
--- not at all; all of them, before any event is run; or in rounds, of which each is run before the next one is read
+-- not at all; all of them, before any event is run; or in rounds, each of which is run before the next one is read
 pub data Reading : Type 0 where
   Unread : Reading
   Whole : Reading
@@ -27,12 +27,12 @@ is_read Unread = false
 is_read Whole = true
 is_read InRounds = true
 
--- ---- sources that are read behind some texts
+-- ---- sources that are read after some texts
 -- the lines of their files
 abbrev pub lines_behind : List (List ℕ) → Contents → Program → ℕ → List Next
 lines_behind texts left p = lines_in p (emptied_each texts left)
 
--- none has a defect: in rounds none by all tests but the one on how many items are held, since a round holds few
+-- none has a defect: in rounds by all tests except the one on how many items are held, since a round holds few
 abbrev pub AreSourcesGood : Reading → List (List ℕ) → Contents → Program → Type 0
 AreSourcesGood Unread texts left p = ⊤
 AreSourcesGood Whole texts left p = fault_behind texts left p ≡ None
@@ -54,11 +54,11 @@ HasDefect Whole texts left p = (fault : SourceFault) × (fault_behind texts left
 HasDefect InRounds texts left p = HasDefectIn p (lines_behind texts left p)
 
 -- ---- rounds
--- a round is to be had as soon as each source has so many rows that are settled
+-- a round is ready as soon as each source has this many settled rows
 abbrev pub rows_in_round : ℕ
 rows_in_round = 4096
 
--- the greatest border, which is that of the last checkpoint
+-- the greatest border, which is the border of the last checkpoint
 abbrev pub greatest_border : ℕ
 greatest_border = 9223372036854775807
 
@@ -66,13 +66,13 @@ greatest_border = 9223372036854775807
 abbrev pub checkpoint_at : Program → Opening → ℕ → (ℕ → List Next) → List ℕ
 checkpoint_at p o t lines = save p t (final_state p o.cells (lists_between p o.border (At t) lines))
 
--- what a run that saves has put last, where it has come to a border by some rounds: nothing before the first one
+-- what a run that saves has put last, once it has come to a border by some rounds: nothing before the first one
 abbrev pub put_by : Program → Opening → List (List (List Item)) → Option ℕ → (ℕ → List Next) → Option (List ℕ)
 put_by p o [] border lines = None
 put_by p o (round ∷ rounds) border lines = option_map (λ t. checkpoint_at p o t lines) border
 
--- THE ROUNDS UP TO SOME ONE meet no defect, and wrote this: the report of the events up to their border, and nothing before the first;
--- and this was put last, where the run saves
+-- THE ROUNDS UP TO SOME ROUND meet no defect, and wrote this: the report of the events up to their border, and nothing before the first;
+-- and this was put last, if the run saves
 pub record HaveWritten (p : Program) (o : Opening) (lines : ℕ → List Next) (text : List ℕ) (put : Option (List ℕ)) : Type 0 where
   pub border : Option ℕ
   pub ran : RanFrom p rows_in_round o.border o.cells lines border text

@@ -9,7 +9,7 @@ use Rattle.flu_top.specs.Behind.{Named, HasJob, HasPlan, emptied_each}
 use Rattle.flu_top.specs.Wants.{job_wanted, texts_named}
 use Rattle.flu_top.specs.Done.{HasPlanAsked}
 
--- the text under the plan's name, which is read behind the job's, is the plan of these nodes
+-- the text under the plan's name, which is read after the job's, is the plan of these nodes
 abbrev pub HasNodes : List ℕ → List ℕ → Program → List Node → Contents → Contents → Type 0
 HasNodes job plan p nodes old new = HasPlan (Named job) plan old p nodes
 

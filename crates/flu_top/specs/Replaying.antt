@@ -15,22 +15,22 @@ use Rattle.flu_top.specs.Behind.{HasPlan, emptied_each}
 use Rattle.flu_top.specs.Simulating.{from_nothing}
 use Rattle.flu_top.specs.Wants.{job_wanted, plan_named, trace_named, texts_named}
 
--- on the net of a plan over these items, from the empty state, a trace of these bytes ends so
+-- on the net of a plan over these items, from the empty state, a trace of these bytes has this ending
 pub record EndsOnNet (p : Program) (nodes : List Node) (lists : List (List Item)) (bytes : List ℕ) (ending : Ending) : Type 0 where
   pub case : Content
   pub of : setting_of case ≡ from_nothing p nodes lists
   pub replayed : IsReplayed case bytes ending
 
--- the bytes under a trace's name, which are read behind the sources of a program: none, where it names the file of one
+-- the bytes under a trace's name, which are read after the sources of a program: none, if it names the file of one
 abbrev pub trace_in : List ℕ → Program → Contents → List ℕ
 trace_in trace p left = bytes_left (emptied_each (files_of p.sources) left) trace
 
--- the trace under a name ends so, read behind the sources of a program, on the net of a plan over their items
+-- the trace under a name, read after the sources of a program, has this ending on the net of a plan over their items
 abbrev pub EndsBehind : Program → List Node → List ℕ → Contents → Ending → Type 0
 EndsBehind p nodes trace left ending = EndsOnNet p nodes (lists_of p left) (trace_in trace p left) ending
 
--- THE TRACE UNDER A NAME ENDS SO on the net of the command's plan: its job's text and its plan's are read first, then the sources,
--- and then the trace, so that one that names any of these files is empty
+-- THE TRACE UNDER A NAME HAS THIS ENDING on the net of the command's plan: its job's text and its plan's are read first, then the
+-- sources, and then the trace, so that a trace with the name of any of these files is empty
 pub record ReplaysTo (command : Command) (trace : List ℕ) (left : Contents) (p : Program) (ending : Ending) : Type 0 where
   pub plan : List ℕ
   pub asked : plan_named command ≡ Some plan

@@ -1,4 +1,4 @@
--- Runs that are resumed: what a checkpoint that a run has put opens, and what runs write together of which each goes on from the
+-- Runs that are resumed: what a checkpoint that a run has put opens, and what runs write together, each of which continues from the
 -- checkpoint of the one before it.
 use Rattle.std.specs.Prelude.{◌≡◌, ◌⊎◌, ◌≤◌, ℕ, List, [], ◌∷◌, ◌++◌, Option, Some, Contains, Ok}
 use Rattle.flu_outside.specs.Outside.{Contents, WhereTold}
@@ -22,22 +22,22 @@ use Rattle.flu_top.specs.Starting.{IsAsBefore, IsSameName, StartsFrom}
 use Rattle.flu_top.specs.Wants.{if_named, job_wanted, texts_named}
 
 -- ---- checkpoints of a run
--- an opening that a run of a job can have: from the first row on, or that of a checkpoint of the job
+-- an opening that a run of a job can have: from the first row on, or the opening of a checkpoint of the job
 abbrev pub IsOpeningOf : Program → Opening → Type 0
 IsOpeningOf p o = (o ≡ fresh) ⊎ ((bytes : List ℕ) × OpensAt p bytes o)
 
--- A RUN HAD WRITTEN THIS WHEN IT PUT THIS CHECKPOINT, from an opening and over sources that are read behind some texts: the rounds up to
--- some one wrote the text, and the checkpoint is that of their border; or all rounds did, and it is the last one
+-- A RUN HAD WRITTEN THIS WHEN IT PUT THIS CHECKPOINT, from an opening and over sources that are read after some texts: the rounds up to
+-- some round wrote the text, and the checkpoint is the one of their border; or all rounds did, and it is the last one
 pub data HasPut (p : Program) (o : Opening) (texts : List (List ℕ)) (left : Contents) (text checkpoint : List ℕ) : Type 0 where
   Behind : HaveWritten p o (lines_behind texts left p) text (Some checkpoint) → HasPut p o texts left text checkpoint
   AtTheEnd : text ≡ report_from o texts left p → checkpoint ≡ save p greatest_border (state_from o texts left p) → HasPut p o texts left text checkpoint
 
--- THE REST OF A RUN is this text: with what was written it is the report from the opening, and the state behind both is the same
+-- THE REST OF A RUN is this text: with what was written it is the report from the opening, and the state after both is the same
 pub record IsRest (p : Program) (o rest : Opening) (texts : List (List ℕ)) (left : Contents) (text : List ℕ) : Type 0 where
   pub report : report_from o texts left p ≡ text ++ report_from rest texts left p
   pub state : state_from o texts left p ≡ state_from rest texts left p
 
--- LAW OF THE REST: where no source has a defect, a checkpoint that a run has put opens the rest of the run
+-- LAW OF THE REST: if no source has a defect, a checkpoint that a run has put opens the rest of the run
 abbrev pub CheckpointsOpenTheRest : Type 0
 CheckpointsOpenTheRest =
     (p : Program) (o rest : Opening) (texts : List (List ℕ)) (left : Contents) (text checkpoint : List ℕ)
@@ -57,7 +57,7 @@ RunsGoOn =
     (p : Program) (o last : Opening) (texts : List (List ℕ)) (left : Contents) (text : List ℕ)
     → AreSound p (lines_behind texts left p) → IsOpeningOf p o → GoOn p texts left o text last → IsRest p o last texts left text
 
--- LAW OF CHECKPOINTS: a checkpoint that a run of a text's job has put opens a run of that job, and no fault of it refuses one
+-- LAW OF CHECKPOINTS: a checkpoint that a run of a text's job has put opens a run of that job, and no fault of the checkpoint refuses one
 abbrev pub CheckpointsOpen : Type 0
 CheckpointsOpen =
     (p : Program) (job : List ℕ) (o : Opening) (texts : List (List ℕ)) (left : Contents) (text checkpoint : List ℕ)
@@ -65,7 +65,7 @@ CheckpointsOpen =
     → ((rest : Opening) × OpensAt p checkpoint rest) × ((fault : SaveFault) → IsFaultOf p checkpoint fault → fault ≡ NoMemory)
 
 -- ---- sources
--- the files of the job's sources have the same, read behind other texts or left otherwise
+-- the files of the job's sources have the same left, read after other texts or from other contents
 abbrev pub AreSameSources : Program → List (List ℕ) → Contents → List (List ℕ) → Contents → Type 0
 AreSameSources p texts left texts' left' =
     (name : List ℕ) → Contains (files_of p.sources) name → bytes_left (emptied_each texts' left') name ≡ bytes_left (emptied_each texts left) name
@@ -76,23 +76,23 @@ SourcesDecide =
     (p : Program) (texts texts' : List (List ℕ)) (left left' : Contents) → AreSameSources p texts left texts' left'
     → (lines_behind texts' left' p ≡ lines_behind texts left p) × (lists_behind texts' left' p ≡ lists_behind texts left p)
 
--- so it is where one more text is read before them, as a checkpoint that is no source's file
+-- this holds if one more text is read before them, such as a checkpoint that is no source's file
 abbrev pub CheckpointsLeaveSources : Type 0
 CheckpointsLeaveSources =
     (p : Program) (texts : List (List ℕ)) (left : Contents) (name : List ℕ) → ¬ Contains (files_of p.sources) name
     → AreSameSources p texts left (texts ++ name ∷ []) left
 
 -- ---- what calls leave
--- a status at which rounds may have been run, and what they put stands
+-- a status at which rounds may have been run, and what they put is left
 abbrev pub MayHaveSaved : ℕ → Type 0
 MayHaveSaved status = (status ≡ 0) ⊎ ((6 ≤ status) × (status ≤ 9))
 
--- a text stands behind what was there, and maybe more behind it
+-- a text was appended to what was there, and maybe more after it
 abbrev pub BeginsWith : List ℕ → List ℕ → List ℕ → Type 0
 BeginsWith text before now = (more : List ℕ) × (now ≡ before ++ text ++ more)
 
--- A CALL LEFT A CHECKPOINT under a name: one that it put when it had written this text, which stands in out, and maybe a part of the
--- next round's report behind it
+-- A CALL LEFT A CHECKPOINT under a name: one that it put when it had written this text, which is in out, maybe with a part of the next
+-- round's report after it
 pub record HasLeft (command : Command) (file : List ℕ) (had has : Option (List ℕ)) (old new : Contents) : Type 0 where
   pub p : Program
   pub job : HasJob (job_wanted command) old p
@@ -113,8 +113,8 @@ RunsLeaveCheckpoints =
     → WhereTold old.left new.left (λ left now. IsAsBefore (texts_named (Run job plan options)) file left now
     ⊎ HasLeft (Run job plan options) file old.out new.out left now)
 
--- and one that is resumed, and ends with status 0, writes what its checkpoint opens: so behind what was written when that was put
--- stands the rest
+-- and one that is resumed, and ends with status 0, writes what its checkpoint opens: so the rest comes after what was written when that
+-- checkpoint was put
 abbrev pub ResumedRunsWriteTheRest : Type 0
 ResumedRunsWriteTheRest =
     (words : List (List ℕ)) (old new : Outside) → Outcome words old new 0
@@ -125,7 +125,7 @@ ResumedRunsWriteTheRest =
     × WhereTold old.out new.out (AppendsAll (report_from rest (texts_named (Run job plan options)) left p))))
 
 -- TWO RUNS WROTE THE WHOLE: what the first one had written when it put the checkpoint that it left, and what the second one wrote, are
--- together the report of the first one, as that is from its opening
+-- together the report of the first one, from its opening
 pub record WroteTheWhole (command : Command) (left : Contents) (had has had' has' : Option (List ℕ)) : Type 0 where
   pub p : Program
   pub job : HasJob (job_wanted command) left p
@@ -178,7 +178,7 @@ ResumedRunsCompleteReports =
     → IsAsBefore (texts_named (Run runs.job runs.plan runs.options)) runs.file runs.left runs.now
     ⊎ WroteTheWhole (Run runs.job runs.plan runs.options) runs.left old.out new.out old'.out new'.out
 
--- a name that the command saves to or is resumed from is that of a source's file
+-- a name that the command saves to or is resumed from is the name of a source's file
 abbrev pub IsRefusedForName : Command → Contents → Type 0
 IsRefusedForName command left = (p : Program) × HasJob (job_wanted command) left p × ((number : ℕ) × IsSameName command p number)
 

@@ -1,4 +1,4 @@
--- How the rounds of a job's sources end, what they have written, what they have put, and what is said of them.
+-- How the rounds of a job's sources end, what they have written, what they have put, and what is said about them.
 use Rattle.std.specs.Prelude.{◌≡◌, ◌≢◌, ◌<◌, ◌-◌, ◌+◌, ◌^◌, ◌≤◌, ◌++◌, ◌⊎◌, ℕ, Bool, true, false, List, [], ◌∷◌, length, Option, Some, None, option_map}
 use Rattle.std.specs.Prelude.{Result, Ok, Err, Contains, IsTrue, ⊤}
 use Rattle.std.specs.Option.{option_map_or}
@@ -53,14 +53,14 @@ use Rattle.flu_top.specs.Unfinished.{Unfinished, IsUnfinished}
 use Rattle.flu_top.specs.Wants.{if_named, IsSomePlanText}
 
 -- ---- before the rounds
--- the bytes under the job's name are the text of this program, those under the plan's, where one is named, are a plan that is valid
+-- the bytes under the job's name are the text of this program, those under the plan's, if one is named, are a plan that is valid
 -- for it, and these texts alone were read
 pub record IsBegun (job : List ℕ) (plan : Option (List ℕ)) (p : Program) (old new : Files) : Type 0 where
   pub has : HasJob (Named job) old p
   pub its_plan : (name : List ℕ) → plan ≡ Some name → HasValidPlan (Named job) name old p
   pub texts : AreTextsRead (job ∷ if_named plan) old new
 
--- an opening without where its state lies in memory
+-- an opening without the place of its state in memory
 abbrev pub plain_opening : NamedOpening → Opening
 plain_opening opening = record { border = opening.border; cells = held opening.state }
 
@@ -71,7 +71,7 @@ pub record IsOpening (p : Program) (o : Opening) : Type 0 where
   pub sorts : IsStateOf p.families o.cells
   pub empty : o.border ≡ None → o.cells ≡ nothing_held
 
--- a run opens so, and the checkpoint that it is resumed from, where it is, alone was read
+-- a run has this opening, and only the checkpoint that it is resumed from, if it is, was read
 pub record IsOpened (resume : Option (List ℕ)) (p : Program) (o : Opening) (old new : Files) : Type 0 where
   pub opens : Opens resume [] old p o
   pub texts : AreTextsRead (if_named resume) old new
@@ -94,7 +94,7 @@ IsOpeningRefusal resume p old new before now refusals.PutFault = ⊥
 IsOpeningRefusal resume p old new before now (refusals.TraceFault fault) = ⊥
 
 -- ---- a checkpoint
--- the border that a checkpoint has behind a round's end: the greatest one behind the last
+-- the border that a checkpoint has after a round's end: the greatest one after the last
 abbrev pub border_at : Border → ℕ
 border_at (At t) = t
 border_at Closed = greatest_border
@@ -117,20 +117,20 @@ abbrev pub IsSavedTo : Option (List ℕ) → List ℕ → Type 0
 IsSavedTo named name = named ≡ Some name
 
 -- ---- between two rounds
--- what was put last behind some rounds, where the border and the state are these: nothing behind none
+-- what was put last after some rounds, if the border and the state are these: nothing after none
 abbrev pub put_behind : Program → List (List (List Item)) → Option ℕ → Contents → Option (List ℕ)
 put_behind p [] border s = None
 put_behind p (round ∷ rounds) border s = option_map (λ t. save p t s) border
 
--- bytes are taken from the front of the sources' files alone, and none is put but of the name that is saved to; and no count of takes
+-- bytes are taken only from the front of the sources' files, and none are put but under the name that is saved to; and no count of takes
 -- falls
 pub record StaysWithin (p : Program) (named : Option (List ℕ)) (c : Call) : Type 0 where
   pub fronts : WhereTold c.left c.left_after (TookFrontsBut (IsSavedTo named))
   pub others : WhereTold c.left c.left_after (TookOnly (λ name. Contains (files_of p.sources) name ⊎ IsSavedTo named name))
   pub rise : (n : List ℕ) → c.counts n ≤ c.counts_after n
 
--- a run in rounds has come to a standing, and may go on; its engine is of this job, and has counted the events of the rounds so far,
--- where its plan follows them
+-- a run in rounds has come to a standing, and may continue; its engine is of this job, and has counted the events of the rounds so far,
+-- if its plan follows them
 pub record GoesOn (adapts : Bool) (p : Program) (e : AdaptiveNote) (o : Opening) (named : Option (List ℕ)) (c : Call) (now : Standing) : Type 0 where
   pub engine : program_of e.checked ≡ p
   pub adapting : e.adapts ≡ adapts
@@ -153,13 +153,13 @@ borders_above border = option_map_or (λ t. 2 ^ 63 - t) border (2 ^ 63 + 1)
 abbrev pub all_lists : Program → Opening → Files → List (List Item)
 all_lists p o left = lists_above o.border (lists_of p left)
 
--- this is what a run says whose events have these counts: the text of the plan that is observed of them, where its plan follows them, and
+-- this is what a run says whose events have these counts: the text of the plan that is observed of them, if its plan follows them, and
 -- else nothing
 abbrev pub IsPlanSaid : Bool → Program → List ℕ → List ℕ → Type 0
 IsPlanSaid false p counts line = line ≡ []
 IsPlanSaid true p counts line = (nodes : List Node) × IsObservedPlan p counts nodes × (line ≡ printed p nodes)
 
--- something is said exactly where the plan follows the counts, and that is the text of some plan
+-- something is said exactly if the plan follows the counts, and that is the text of some plan
 abbrev pub MaySayPlan : Bool → Option Said → Type 0
 MaySayPlan false said = said ≡ None
 MaySayPlan true None = ⊥
@@ -202,14 +202,14 @@ pub record HasFailed (p : Program) (o : Opening) (c : Call) : Type 0 where
   pub rose : Rose (c.counts round.source.file) (c.counts_after round.source.file)
   pub told : WhereTold c.left c.left_after (λ left now. IsUnfinished p o round (lines_in p left) now)
 
--- what the rounds up to some one wrote stands in out, and what they put under the name that is saved to
+-- what the rounds up to some round wrote is in out, and what they put is under the name that is saved to
 pub record RanSome (p : Program) (o : Opening) (named : Option (List ℕ)) (c : Call) : Type 0 where
   pub text : List ℕ
   pub wrote : WhereTold c.taken c.taken_after (AppendsAll text)
   pub rounds : WhereTold c.left c.left_after (λ left now. (put : Option (List ℕ)) × HaveWritten p o (lines_in p left) text put
       × LeavesPut named [] put left now)
 
--- and a front of the next one's report
+-- and a prefix of the next round's report
 pub record RanInto (p : Program) (o : Opening) (named : Option (List ℕ)) (c : Call) : Type 0 where
   pub text : List ℕ
   pub more : List ℕ
@@ -241,7 +241,7 @@ Steps adapts p e o named c new said (Ok (At t)) = GoesOn adapts p e o named c ne
 Steps adapts p e o named c new said (Ok Closed) = EndsRounds adapts p o named c (Ok said) × StaysWithin p named c
 Steps adapts p e o named c new said (Err fault) = EndsRounds adapts p o named c (Err fault) × StaysWithin p named c
 
--- the same where it is told as the end of a command
+-- the same, stated as the end of a command
 abbrev pub IsRoundsRefusal : Program → Opening → Option (List ℕ) → Call → Refusal → Type 0
 IsRoundsRefusal p o named c (refusals.BadWords bad) = ⊥
 IsRoundsRefusal p o named c (refusals.JobFault fault) = ⊥

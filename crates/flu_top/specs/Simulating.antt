@@ -29,7 +29,7 @@ pub record AreDrawn (p : Program) (nodes : List Node) (lists : List (List Item))
   pub run : IsSeeded case seed steps.counts steps.mark
 
 -- this is the line of the steps that a seed draws on the net of the plan under a name, over the items of the job's sources,
--- which are read behind both texts
+-- which are read after both texts
 pub record IsLineOfRun (job plan : List ℕ) (seed : ℕ) (left : Contents) (p : Program) (line : List ℕ) : Type 0 where
   pub nodes : List Node
   pub has : HasPlan (Named job) plan left p nodes
@@ -59,13 +59,13 @@ pub record IsTraceText (p : Program) (nodes : List Node) (lists : List (List Ite
   pub of : setting_of case ≡ from_nothing p nodes lists
   pub trace : IsTraceIn case seed text
 
--- what is written of such a run: the report of the fold; or its trace, where that is asked for
+-- what is written of such a run: the report of the fold; or its trace, if that is asked for
 abbrev pub IsTextOn : Bool → Program → List Node → List (List Item) → ℕ → List ℕ → Type 0
 IsTextOn false p nodes lists seed text = text ≡ reports.report p (final_outputs p nothing_held lists)
 IsTextOn true p nodes lists seed text = IsTraceText p nodes lists seed text
 
 -- this is the trace of the run that a seed draws on the net of the plan under a name, over the items of the job's sources, which are
--- read behind both texts
+-- read after both texts
 pub record IsTraceOfRun (job plan : List ℕ) (seed : ℕ) (left : Contents) (p : Program) (text : List ℕ) : Type 0 where
   pub nodes : List Node
   pub has : HasPlan (Named job) plan left p nodes

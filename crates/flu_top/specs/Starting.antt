@@ -14,16 +14,16 @@ use Rattle.flu_top.specs.Openings.{Opening, Opens}
 use Rattle.flu_top.specs.Wants.{save_named, resume_named, job_and_plan_named, texts_named}
 
 -- ---- the opening
--- a name, if there is one, is that of no source's file
+-- a name, if there is one, is not that of a source's file
 abbrev pub IsNoSource : Option (List ℕ) → Program → Type 0
 IsNoSource named p = (name : List ℕ) → named ≡ Some name → ¬ Contains (files_of p.sources) name
 
--- the names that a command saves to and is resumed from are those of no source's file
+-- the names that a command saves to and is resumed from are not those of sources' files
 pub record AreNoSources (command : Command) (p : Program) : Type 0 where
   pub save : IsNoSource (save_named command) p
   pub resume : IsNoSource (resume_named command) p
 
--- A COMMAND STARTS FROM THIS: its names are those of no source's file, and the checkpoint that it is resumed from, if it is, is this
+-- A COMMAND STARTS FROM THIS: its names are not those of sources' files, and the checkpoint that it is resumed from, if it is, is this
 -- opening
 pub record StartsFrom (command : Command) (left : Contents) (p : Program) (o : Opening) : Type 0 where
   pub apart : AreNoSources command p
@@ -33,11 +33,11 @@ abbrev pub CanStart : Command → Contents → Program → Type 0
 CanStart command left p = (o : Opening) × StartsFrom command left p o
 
 -- ---- what refuses it
--- a name is that of the file of the source with this number
+-- a name is the name of the file of the source with this number
 abbrev pub IsFileOf : Option (List ℕ) → Program → ℕ → Type 0
 IsFileOf named p number = (source : Source) × (slice_get p.sources number ≡ Some source) × (named ≡ Some source.file)
 
--- a command saves to the file of this source, or is resumed from it; where it does both, it is the source of the first
+-- a command saves to the file of this source, or is resumed from it; if it does both, this is the source that it saves to
 pub data IsSameName (command : Command) (p : Program) (number : ℕ) : Type 0 where
   Saves : IsFileOf (save_named command) p number → IsSameName command p number
   Resumes : IsNoSource (save_named command) p → IsFileOf (resume_named command) p number → IsSameName command p number
@@ -51,13 +51,13 @@ pub record HasBadCheckpoint (command : Command) (left : Contents) (p : Program) 
   pub first : IsFaultOf p (bytes_left (emptied_each (job_and_plan_named command) left) name) fault
 
 -- ---- what is left under the name that it saves to
--- as before: nothing was put there. What is one of the texts that are read, as the checkpoint that a run is resumed from, has an end of
--- what it had left
+-- as before: nothing was put there. If the name is one of the texts that are read, such as the checkpoint that a run is resumed from, it
+-- has a suffix of what it had left
 pub record IsAsBefore (texts : List (List ℕ)) (name : List ℕ) (old new : Contents) : Type 0 where
   pub end : (rest : List ℕ) → new name ≡ Some rest → (front : List ℕ) × (old name ≡ Some (front ++ rest))
   pub unread : ¬ Contains texts name → new name ≡ old name
 
--- where this was put last, there is this, and as before where nothing was put
+-- this is there if it was put last, and what is there is as before if nothing was put
 abbrev pub LeavesPut : Option (List ℕ) → List (List ℕ) → Option (List ℕ) → Contents → Contents → Type 0
 LeavesPut None texts put old new = ⊤
 LeavesPut (Some name) texts None old new = IsAsBefore texts name old new

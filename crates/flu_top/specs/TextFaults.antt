@@ -1,4 +1,4 @@
--- The first fault of a text, where it is none of a job or of a plan: the readers' looks at it come in an order.
+-- The first fault of a text, if it is not the text of a job or of a plan: the readers check it in an order.
 use Rattle.std.specs.Prelude.{◌≡◌, ℕ, List, Err}
 use Rattle.flu_model.specs.declared.jobs.Program.{Program}
 use Rattle.flu_parse.specs.declared.faults.JobFault.{JobFault}

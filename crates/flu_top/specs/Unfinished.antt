@@ -12,8 +12,8 @@ use Rattle.flu_streams.specs.Rounds.{Turn, Reads, IsPassed, ComesFrom, defect_in
 use Rattle.flu_top.specs.Openings.{Opening}
 use Rattle.flu_top.specs.Reading.{rows_in_round}
 
--- behind some rounds that were run, the rows that were read of a source: none has a defect, they are not enough for the round, and
--- what was taken besides decides nothing
+-- after some rounds that were run, the rows that were read of a source: none has a defect, they are not enough for the round, and
+-- what else was taken decides nothing
 pub record Unfinished (p : Program) : Type 0 where
   pub done : List (List (List Item))
   pub border : Option ℕ
@@ -30,7 +30,7 @@ pub record Unfinished (p : Program) : Type 0 where
   pub file : place.file ≡ source.file
   pub undecided : IsUndecided place.taken
 
--- so it is of sources with these lines, of which this is left: the rounds before were rounds of them, and the sources before this one
+-- this is so of sources with these lines, of which this is left: the rounds before were rounds of them, and the sources before this one
 -- have what the round reads of them and meet no defect
 pub record IsUnfinished (p : Program) (o : Opening) (u : Unfinished p) (lines : ℕ → List Next) (left : Contents) : Type 0 where
   pub rounds : ComesFrom p rows_in_round lines o.border u.done u.border u.before

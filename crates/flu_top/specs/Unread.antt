@@ -1,4 +1,4 @@
--- What a call leaves unread where its plan refuses it.
+-- What a call leaves unread if its plan refuses it.
 use Rattle.std.specs.Prelude.{◌≡◌, ◌≢◌, ℕ, List, Some, Ok}
 use Rattle.flu_outside.specs.Outside.{Contents}
 use Rattle.flu_model.specs.declared.jobs.Program.{Program}
@@ -8,8 +8,8 @@ use Rattle.flu_top.specs.Done.{HasValidPlan, MayBePut}
 use Rattle.flu_top.specs.Outcome.{ReadOnly}
 use Rattle.flu_top.specs.Wants.{job_wanted, plan_named}
 
--- where the plan that a command asks for is none or is not valid for its job, no byte is taken but of the job's text and of the plan's: of
--- no source, checkpoint or trace
+-- if the plan that a command asks for is not a plan or is not valid for its job, bytes are taken only of the job's text and of the plan's:
+-- of no source, checkpoint or trace
 abbrev pub BadPlansReadNoMore : Type 0
 BadPlansReadNoMore =
     (words : List (List ℕ)) (left now : Contents) (status : ℕ) → ReadOnly words (Some left) (Some now) status

@@ -19,7 +19,7 @@ use Rattle.flu_top.specs.Reading.{Reading, Unread, Whole, InRounds, is_read}
 use Rattle.flu_top.specs.Simulating.{IsLineOfRun, IsStepLine, IsTraceOfRun}
 use Rattle.flu_top.specs.Demos.{demo_job, demo_summary}
 
--- this is the text of the greedy plan of all itags of a job at a depth, where an itag has its source's rate
+-- this is the text of the greedy plan of all itags of a job at a depth, each itag having its source's rate
 pub record IsGreedyText (p : Program) (depth : ℕ) (text : List ℕ) : Type 0 where
   pub nodes : List Node
   pub greedy : IsGreedyPlan p (source_rates p) depth nodes
@@ -31,23 +31,23 @@ pub record IsPlanPrinted (job plan : List ℕ) (left : Contents) (p : Program) (
   pub has : HasPlan (Named job) plan left p nodes
   pub is : text ≡ printed p nodes
 
--- this is the report of a run that opens with a checkpoint, if one is named, which is read behind some texts; and then the sources
+-- this is the report of a run that opens with a checkpoint, if one is named, which is read after some texts and before the sources
 abbrev pub IsReportOfRun : List (List ℕ) → Option (List ℕ) → Contents → Program → List ℕ → Type 0
 IsReportOfRun texts resume left p text = (o : Opening) × Opens resume texts left p o × (text ≡ report_from o (texts ++ if_named resume) left p)
 
--- what a run that a seed draws writes: the report of the fold; or its trace, where that is asked for
+-- what a run that a seed draws writes: the report of the fold; or its trace, if that is asked for
 abbrev pub IsTextOfRun : Bool → List ℕ → List ℕ → ℕ → Contents → Program → List ℕ → Type 0
 IsTextOfRun false job plan seed left p text = text ≡ report_behind (job ∷ plan ∷ []) left p
 IsTextOfRun true job plan seed left p text = IsTraceOfRun job plan seed left p text
 
--- what a command says on err where it is done: nothing; or a line, of which the one is true by what its files have left and by the
--- job's program, and the other whatever they have left
+-- what a command says on err once it is done: nothing; or a line, of which the first property is true by what its files have left and by
+-- the job's program, and the second whatever they have left
 pub data Saying : Type 1 where
   Nothing : Saying
   Line : (Is : Contents → Program → List ℕ → Type 0) → (IsForm : List ℕ → Type 0) → Saying
 
--- this is the text of the plan that is observed of all events of a run: those of its sources' items, above the border of the checkpoint
--- where it is resumed from one, which is read behind some texts; and then the sources
+-- this is the text of the observed plan of all events of a run: those of its sources' items, above the border of the checkpoint if it is
+-- resumed from one, which is read after some texts and before the sources
 abbrev pub IsObservedText : List (List ℕ) → Option (List ℕ) → Contents → Program → List ℕ → Type 0
 IsObservedText texts resume left p line =
     (o : Opening) × Opens resume texts left p o
@@ -57,7 +57,7 @@ IsObservedText texts resume left p line =
 abbrev pub IsSomePlanText : List ℕ → Type 0
 IsSomePlanText line = (p : Program) × (nodes : List Node) × (line ≡ printed p nodes)
 
--- what a run says: the text of the plan that its events ask for, where its plan follows them
+-- what a run says: the text of the plan that its events ask for, if its plan follows them
 abbrev pub plan_said : Bool → List (List ℕ) → Option (List ℕ) → Saying
 plan_said false texts resume = Nothing
 plan_said true texts resume = Line (IsObservedText texts resume) IsSomePlanText
@@ -71,20 +71,20 @@ pub record Want : Type 1 where
   pub plan : Option (List ℕ)
   -- how it reads the job's sources, which must have no defect
   pub sources : Reading
-  -- the name that it saves checkpoints to, if it saves any, and that of the one which it is resumed from
+  -- the name that it saves checkpoints to, if it saves any, and the name of the one that it is resumed from
   pub save : Option (List ℕ)
   pub resume : Option (List ℕ)
   -- the name of the trace that it reads, if it reads one, which has to be complete
   pub trace : Option (List ℕ)
   -- the text that it writes, by what its files have left and by the job's program
   pub writes : Contents → Program → List ℕ → Type 0
-  -- what it says on err where it is done
+  -- what it says on err once it is done
   pub says : Saying
 
 -- the report of the fold; the normal form of the job; the normal form of the plan; the text of a greedy plan; the report of
--- the fold again, which a run on the tree of threads gives too, from a checkpoint where it is resumed from one, and the plan that its
--- events ask for is said on err where its plan follows them; and so does a run on the net, whose steps are said on err, and whose trace
--- is written where that is asked for; the report of the fold again, by the steps of a trace; the summary of the report of what a seed
+-- the fold again, which a run on the tree of threads gives too, from a checkpoint if it is resumed from one, and the plan that its
+-- events ask for is said on err if its plan follows them; the same by a run on the net, whose steps are said on err, and whose trace
+-- is written if that is asked for; the report of the fold again, by the steps of a trace; the summary of the report of what a seed
 -- draws, for which no file is read
 abbrev pub want : Command → Want
 want (Fold job) = record {
@@ -200,12 +200,12 @@ reads_sources command = is_read (how_read command)
 abbrev pub trace_named : Command → Option (List ℕ)
 trace_named command = (want command).trace
 
--- whether this is no line at all
+-- whether there is no line at all
 abbrev pub is_nothing : Saying → Bool
 is_nothing Nothing = true
 is_nothing (Line Is IsForm) = false
 
--- whether a command says nothing on err where it is done
+-- whether a command says nothing on err once it is done
 abbrev pub says_nothing : Command → Bool
 says_nothing command = is_nothing (want command).says
 
@@ -220,7 +220,7 @@ resume_named command = (want command).resume
 abbrev pub job_and_plan_named : Command → List (List ℕ)
 job_and_plan_named command = job_files (job_wanted command) ++ if_named (plan_named command)
 
--- the names of all texts that it reads, one after another, before the sources: those, and that of the checkpoint, if it reads one
+-- the names of all texts that it reads, one after another, before the sources: those, and the checkpoint's, if it reads one
 abbrev pub texts_named : Command → List (List ℕ)
 texts_named command = job_and_plan_named command ++ if_named (resume_named command)
 

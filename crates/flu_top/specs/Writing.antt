@@ -17,7 +17,7 @@ pub record IsPutAll (product : Product) (had has : Option (List ℕ)) (said : Op
   pub says : said ≡ product.says
   pub all : WhereTold had has (AppendsAll product.text)
 
--- out failed, and has a front of the product's text
+-- out failed, and has a prefix of the product's text
 pub record IsPutPart (product : Product) (had has : Option (List ℕ)) (before now : ℕ) (refusal : Refusal) : Type 0 where
   pub is : refusal ≡ refusals.WriteFault
   pub part : WhereTold had has (AppendsPart product.text)

@@ -1,4 +1,4 @@
-//! The engine that runs a job where a thread is refused.
+//! The engine that runs a job if a thread is refused.
 
 ghost use Rattle.std.specs.Prelude.{◌≡◌, IfOk};
 

@@ -48,7 +48,7 @@ fn normal_form_of(alloc: Global, program: Program) -> Result<Text, Refusal>
     Ok(text)
 }
 
-/// A job, where it is accepted.
+/// A job, if it is accepted.
 pub fn accepted(program: Program) -> Result<Checked, Refusal>
     ensures same { IfOk result (λ checked. program_of checked ≡ program) }
     ensures accepted { IfOk result (λ checked. IsAccepted (program_of checked)) }

@@ -1,4 +1,4 @@
-//! The doing of commands.
+//! Runs commands.
 
 ghost use Rattle.std.specs.Prelude.{◌≡◌, ◌≢◌, ◌⊎◌, Err};
 ghost use Rattle.flu_outside.specs.Outside.{WhereTold, SameCounts};
@@ -28,7 +28,7 @@ use std::alloc::Global;
 use std::sync::Wait;
 use std::thread::Threads;
 
-/// Does a command: writes what it produces to `out`, and answers what is to be said on err, if there is anything.
+/// Runs a command: writes what it produces to `out`, and answers what is to be said on err, if there is anything.
 pub fn run<F: Files, K: Sink, G: Gate, R: Threads + Wait + Sync>(
     rt: &R,
     alloc: Global,
@@ -67,7 +67,7 @@ pub fn run<F: Files, K: Sink, G: Gate, R: Threads + Wait + Sync>(
     }
 }
 
-// Writes a text, where nothing refused it.
+// Writes a text, if nothing refused it.
 fn put_text<K: Sink>(out: &mut K, text: Result<Text, Refusal>) -> Result<Option<Said>, Refusal>
     ensures put { IsPut (as_product text) (K.taken out.old) (K.taken out.new) (K.faults out.old) (K.faults out.new) result }
     ensures quiet { result ≢ Err Refusal.WriteFault → K.faults out.new ≡ K.faults out.old }
@@ -78,7 +78,7 @@ fn put_text<K: Sink>(out: &mut K, text: Result<Text, Refusal>) -> Result<Option<
     }
 }
 
-// Writes the text of what a command produced, where nothing refused it.
+// Writes the text of what a command produced, if nothing refused it.
 fn put<K: Sink>(out: &mut K, produced: Result<Product, Refusal>) -> Result<Option<Said>, Refusal>
     ensures put { IsPut produced (K.taken out.old) (K.taken out.new) (K.faults out.old) (K.faults out.new) result }
     ensures quiet { result ≢ Err Refusal.WriteFault → K.faults out.new ≡ K.faults out.old }

@@ -45,7 +45,7 @@ pub fn demo<G: Gate, R: Threads + Wait + Sync>(
     Ok(Product { text, says: None })
 }
 
-// The summary of the report of so many events.
+// The summary of the report of this many events.
 fn summary(alloc: Global, events: u64, report: &str) -> Result<Text, AllocError>
     ensures { IfOk result (λ text. text ≡ summary events report.now) }
 {

@@ -1,4 +1,4 @@
-//! What follows from the outcome of a call of `flumina`: what each status says by itself, what was read, and what comes where nothing
+//! What follows from the outcome of a call of `flumina`: what each status says by itself, what was read, and what holds if nothing
 //! failed. Each law is the contract of a function that does nothing.
 
 ghost use Rattle.flu_top.specs.Laws.{KnownStatuses, DoneIsDone, DoneIsQuiet, SimulationIsHeard, AdaptedPlanIsHeard, DemoReadsNothing, DemoStatuses, DemoIsDone};
@@ -18,7 +18,7 @@ use flu_streams::{borders_cut_a_fold, rounds_meet_what_is_there};
 use flu_trace::laws::a_trace_has_one_ending;
 
 /// The statuses, and which of them write to out: 0 and 8; and 6, 7, 9 and 12 of a command that reads in rounds, which may leave there
-/// what the rounds up to some one wrote.
+/// what the rounds up to some round wrote.
 pub fn of_statuses()
     ensures known { KnownStatuses }
     ensures nothing { NothingIsWritten }
@@ -27,8 +27,8 @@ pub fn of_statuses()
     ensures memory { SomeIsWrittenForMemory }
 {}
 
-/// Status 0: all that the command reads was read to its end, what it writes stands in out, and err is untouched, but by `simulate`,
-/// which says the line of its steps, and by `run .. --adapt`, which writes what it writes without that, and says the plan that its
+/// Status 0: all that the command reads was read to its end, what it writes is in out, and err is untouched, except by `simulate`,
+/// which says the line of its steps, and by `run .. --adapt`, which writes what it writes without `--adapt`, and says the plan that its
 /// events ask for.
 pub fn of_done()
     ensures done { DoneIsDone }
@@ -38,22 +38,22 @@ pub fn of_done()
 {}
 
 /// `demo` reads no file, so that no file can refuse it: its status is 0, 8 or 9. At status 0 the summary of the report of what the seed
-/// draws stands in out, whatever the files hold and tell.
+/// draws is in out, whatever the files hold, known or not.
 pub fn of_demos()
     ensures reads { DemoReadsNothing }
     ensures statuses { DemoStatuses }
     ensures done { DemoIsDone }
 {}
 
-/// Status 2 comes exactly where the words are no command, with its line, and then no file is read.
+/// Status 2 comes exactly if the words are not a command, with its line, and then no file is read.
 pub fn of_bad_words()
     ensures exactly { BadWordsExactly }
     ensures line { BadWordsLine }
     ensures untouched { BadWordsTouchNothing }
 {}
 
-/// The statuses 3 to 6, 11 and 13 come only where a fault of the job's text, a conflict of the job, a defect of the plan, what keeps a
-/// run from its start, a defect of a source or a fault of a trace refuses the command, with the line of the first one.
+/// The statuses 3 to 6, 11 and 13 come only if a fault of the job's text, a conflict of the job, a defect of the plan, what keeps a
+/// run from starting, a defect of a source or a fault of a trace refuses the command, with the line of the first one.
 pub fn of_refusals()
     ensures job_fault { JobFaultIsFirst }
     ensures conflict { ConflictIsFirst }
@@ -63,9 +63,10 @@ pub fn of_refusals()
     ensures trace_fault { TraceFaultIsFirst }
 {}
 
-/// Status 7 comes only where the count of a name that the call reads rose, 8 only where out's count rose, and then out has a front of
-/// what the command writes; and 12 only where that of puts of the name that it saves to did, and then out has the report of the round
-/// whose checkpoint could not be put. Each of them, and 9, has its line. At each other status, as 0, none of these counts has changed.
+/// Status 7 comes only if the count of a name that the call reads rose, 8 only if out's count rose, and then out has a prefix of
+/// what the command writes; and 12 only if the count of puts of the name that it saves to rose, and then out has the report of the
+/// round whose checkpoint could not be put. Each of them, and 9, has its line. At each other status, as 0, none of these counts has
+/// changed.
 pub fn of_faults()
     ensures read_fault { ReadFaultRose }
     ensures read_fault_line { ReadFaultLine }
@@ -78,9 +79,9 @@ pub fn of_faults()
     ensures no_memory_line { NoMemoryLine }
 {}
 
-/// Where a `run` can start and its sources are good, what it wrote is a front of its report, whatever its status. Where it is not
-/// resumed that is the report of the fold; and the report up to a border, with that of the later events from the state that is saved
-/// with it, is that of the whole.
+/// If a `run` can start and its sources are good, what it wrote is a prefix of its report, whatever its status. If it is not resumed,
+/// that is the report of the fold; and the report up to a border, with the report of the later events from the state that is saved
+/// with it, is the report of the whole.
 pub fn of_runs()
     ensures fronts { RunsWriteFronts }
     ensures fresh { FreshRunsReportTheFold }
@@ -91,8 +92,8 @@ pub fn of_runs()
     jobs_are_grammar();
 }
 
-/// Where a source of a `run` has a defect, what it wrote is a front of the report of any sources that mend the defects: that keep the
-/// lines before each, and have others behind them, or just an end.
+/// If a source of a `run` has a defect, what it wrote is a prefix of the report of any sources that mend the defects: that keep the
+/// lines before each, and have others after them, or just an end.
 pub fn of_mended_runs()
     ensures { RunsWriteFrontsOfMended }
 {
@@ -100,13 +101,13 @@ pub fn of_mended_runs()
     jobs_are_grammar();
 }
 
-/// Bytes are taken from the front of names, and of no name that the call does not read, but for one that it puts.
+/// Bytes are taken from the front of names, and of no name that the call does not read, except for one that it puts.
 pub fn of_reading()
     ensures fronts { FrontsAreTaken }
     ensures only { NoOtherIsRead }
 {}
 
-/// Where a plan is no text of one, or is not valid, no source, no checkpoint and no trace is read.
+/// If the bytes under the name of a plan are not a plan, or not a valid one, no source, no checkpoint and no trace is read.
 pub fn bad_plans_read_no_more()
     ensures { BadPlansReadNoMore }
 {
@@ -117,7 +118,7 @@ pub fn bad_plans_read_no_more()
     rounds_meet_what_is_there();
 }
 
-/// Where no count rose, the status is the one that the command, its job's text, its plan, its sources and its trace call for, or 9.
+/// If no count rose, the status is the one that the command, its job's text, its plan, its sources and its trace call for, or 9.
 pub fn of_completeness()
     ensures completes { GoodIsDone }
     ensures refuses_job { JobFaultIsRefused }
@@ -128,7 +129,7 @@ pub fn of_completeness()
     ensures refuses_trace { TraceFaultIsRefused }
 {}
 
-/// That a call completes follows from its outcome, where the statuses 7, 8 and 12 come only from faults of the outside.
+/// That a call completes follows from its outcome, if the statuses 7, 8 and 12 come only from faults of the outside.
 pub fn completes_by_faults()
     ensures { CompletesByFaults }
 {

@@ -25,10 +25,10 @@ use flu_trace::ReplayFault;
 use flu_words::BadWords;
 use itoa::Buffer;
 
-// What a line of a fault in a job text begins with.
+// What the line for a fault in a job text begins with.
 const JOB: &[u8] = b"flumina: job: ";
 
-// What a line of what keeps a run from its start begins with.
+// What the line for what keeps a run from starting begins with.
 const SAVE: &[u8] = b"flumina: save: ";
 
 /// Says a refusal on err, in a line that takes no memory.
@@ -108,7 +108,7 @@ fn write_line<E: Sink>(err: &mut E, refusal: &Refusal) -> Result<(), Failed>
     }
 }
 
-// Writes the line of words that are no command.
+// Writes the line of words that are not a command.
 fn write_bad_words<E: Sink>(err: &mut E, bad: BadWords) -> Result<(), Failed>
     ensures { Writes (bad_words_line bad.at) (E.taken err.old) (E.taken err.new) (E.faults err.old) (E.faults err.new) result }
 {
@@ -147,7 +147,7 @@ pub fn write_place<E: Sink>(
     write_pieces(err, &[head, fault, digits, b"\n"])
 }
 
-/// Writes the line of a limit that a text passes.
+/// Writes the line of a limit that a text exceeds.
 pub fn write_over_limit<E: Sink>(
     err: &mut E,
     head: &'static [u8],
@@ -265,7 +265,7 @@ fn write_disordered<E: Sink>(
     )
 }
 
-// Writes the line of a row that makes too many.
+// Writes the line of a row that makes too many items.
 fn write_too_many<E: Sink>(err: &mut E, name: &str, row: u64, count: u64) -> Result<(), Failed>
     ensures { Writes (source_fault_line name.now row (Why.TooMany count)) (E.taken err.old) (E.taken err.new) (E.faults err.old) (E.faults err.new) result }
 {
@@ -288,7 +288,7 @@ fn write_too_many<E: Sink>(err: &mut E, name: &str, row: u64, count: u64) -> Res
     )
 }
 
-// Writes the line of what keeps a run from its start.
+// Writes the line of what keeps a run from starting.
 fn write_save_defect<E: Sink>(err: &mut E, defect: &SaveDefect) -> Result<(), Failed>
     ensures { Writes (save_defect_line defect.now) (E.taken err.old) (E.taken err.new) (E.faults err.old) (E.faults err.new) result }
 {

@@ -11,7 +11,7 @@ use flu_outside::{Failed, Sink};
 use flu_report::write_all;
 use itoa::Buffer;
 
-/// Writes a tag and what stands behind it: `kind`, or `kind[key]` where the kind is keyed.
+/// Writes a tag and what comes after it: `kind`, or `kind[key]` if the kind is keyed.
 pub fn write_tag<E: Sink>(
     err: &mut E,
     program: &Program,
@@ -26,7 +26,7 @@ pub fn write_tag<E: Sink>(
     }
 }
 
-/// Writes an itag and what stands behind it: its tag, `@` and the name of its source.
+/// Writes an itag and what comes after it: its tag, `@` and the name of its source.
 pub fn write_itag<E: Sink>(
     err: &mut E,
     program: &Program,
@@ -63,7 +63,7 @@ pub fn node_name(plan: &Plan, number: u32) -> &str
     }
 }
 
-/// Writes a cell and what stands behind it: `family`, or `family[key]` where the family is keyed.
+/// Writes a cell and what comes after it: `family`, or `family[key]` if the family is keyed.
 pub fn write_cell<E: Sink>(
     err: &mut E,
     program: &Program,
@@ -78,7 +78,7 @@ pub fn write_cell<E: Sink>(
     }
 }
 
-// Writes a name, with its key in brackets where it has one, and what stands behind it.
+// Writes a name, with its key in brackets if it has one, and what comes after it.
 fn write_name<E: Sink>(
     err: &mut E,
     name: &str,

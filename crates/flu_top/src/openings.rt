@@ -23,7 +23,7 @@ const MOST_BYTES: usize = 536_870_912;
 /// What a run starts from.
 #[derive(Drop)]
 pub struct Opening {
-    /// The border that it is resumed above, where it is.
+    /// The border above which it is resumed, if it is.
     pub border: Option<u64>,
     /// What the cells hold then.
     pub state: State,
@@ -81,7 +81,7 @@ fn resumed<F: Files>(
     })
 }
 
-/// The source whose file has the name that a run saves to; or else that which it is resumed from.
+/// The source whose file has the name that a run saves to; or else the name that it is resumed from.
 pub fn same_name(program: &Program, options: RunOptions<'_>) -> Option<u32>
     ensures found { IfSome result (λ number. (job : List ℕ) (plan : Option (List ℕ))
         → IsSameName (Run job plan (plain_options options.entry)) program.now number) }

@@ -11,7 +11,7 @@ use itoa::Buffer;
 
 /// Writes all of some pieces, one after another.
 ///
-/// Where the sink fails, it has taken fewer than all of their bytes, from their front.
+/// If the sink fails, it has taken a proper prefix of their bytes.
 pub fn write_pieces<K: Sink>(out: &mut K, pieces: &[&[u8]]) -> Result<(), Failed>
     ensures { Writes (concat (map (λ p. p.now) pieces.now)) (K.taken out.old) (K.taken out.new) (K.faults out.old) (K.faults out.new) result }
 {
@@ -22,9 +22,9 @@ pub fn write_pieces<K: Sink>(out: &mut K, pieces: &[&[u8]]) -> Result<(), Failed
     write_pieces(out, others)
 }
 
-/// Writes some words, each with the digits of a number behind it, one after another.
+/// Writes some words, each followed by the digits of a number, one after another.
 ///
-/// Where the sink fails, it has taken fewer than all of their bytes, from their front.
+/// If the sink fails, it has taken a proper prefix of their bytes.
 pub fn write_counts<K: Sink>(out: &mut K, counts: &[(&str, u128)]) -> Result<(), Failed>
     ensures { Writes (concat (map (λ c. c.0.now ++ decimal c.1) counts.now)) (K.taken out.old) (K.taken out.new) (K.faults out.old) (K.faults out.new) result }
 {
@@ -38,7 +38,7 @@ pub fn write_counts<K: Sink>(out: &mut K, counts: &[(&str, u128)]) -> Result<(),
     write_counts(out, others)
 }
 
-/// The digits of a number, which stand in a buffer.
+/// The digits of a number, which are in a buffer.
 pub fn digits_of(buffer: &mut Buffer, n: u64) -> &[u8]
     ensures { result.now ≡ decimal n }
 {

@@ -15,7 +15,7 @@ use flu_plan::PlanFault;
 use flu_report::write_all;
 use flu_valid::Invalid;
 
-// What a line of what is wrong with a plan begins with.
+// What the line for what is wrong with a plan begins with.
 const PLAN: &[u8] = b"flumina: plan: ";
 
 /// Writes the line of what is wrong with a plan.
@@ -44,7 +44,7 @@ fn write_plan_fault<E: Sink>(err: &mut E, fault: &PlanFault) -> Result<(), Faile
     }
 }
 
-// Writes the line of nodes that are no tree.
+// Writes the line of nodes that are not a tree.
 fn write_not_a_tree<E: Sink>(err: &mut E, name: &[u8]) -> Result<(), Failed>
     ensures { Writes (plan_line (plan_fault_text (PlanFault.NotATree name.now))) (E.taken err.old) (E.taken err.new) (E.faults err.old)
         (E.faults err.new) result }
@@ -120,7 +120,7 @@ fn write_clash<E: Sink>(
     write_owned(err, program, plan, j, b, b"\n")
 }
 
-// Writes an itag with a node that owns it, and what stands behind them.
+// Writes an itag with a node that owns it, and what comes after them.
 fn write_owned<E: Sink>(
     err: &mut E,
     program: &Program,

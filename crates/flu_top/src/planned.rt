@@ -35,7 +35,7 @@ pub struct Planned {
     pub valid: Valid,
 }
 
-/// The job that a file holds, where it is accepted, with the plan that another file holds, where it is valid for the job.
+/// The job that a file holds, if it is accepted, with the plan that another file holds, if it is valid for the job.
 pub fn planned_by<F: Files>(
     alloc: Global,
     files: &mut F,
@@ -73,7 +73,7 @@ pub fn planned_by<F: Files>(
     }
 }
 
-/// A job, where it is accepted, with its greedy plan, by the rates of its sources.
+/// A job, if it is accepted, with its greedy plan, by the rates of its sources.
 pub fn planned_greedily(alloc: Global, program: Program, depth: Depth) -> Result<Planned, Refusal>
     ensures same { IfOk result (λ planned. program_of planned.checked ≡ program) }
     ensures accepted { IfOk result (λ planned. IsAccepted (program_of planned.checked)) }

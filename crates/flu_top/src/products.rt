@@ -24,6 +24,6 @@ pub enum Said {
 pub struct Product {
     /// The text for out.
     pub text: Text,
-    /// What err gets once the text is written; none where the command says nothing.
+    /// What err gets once the text is written; none if the command says nothing.
     pub says: Option<Said>,
 }

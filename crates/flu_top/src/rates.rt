@@ -1,4 +1,4 @@
-//! How many events a second are to be expected of the itags of a job.
+//! How many events per second to expect of the itags of a job.
 
 ghost use Rattle.std.specs.Prelude.{◌≡◌, ◌<◌, ◌≤◌, IfOk};
 ghost use Rattle.flu_model.specs.Itags.{count_of_itags, source_of_itag};
@@ -7,7 +7,7 @@ ghost use Rattle.flu_top.specs.Rates.{rate_of_source, source_rates};
 use flu_model::{Itag, Program, itag_count, source_of};
 use std::alloc::{AllocError, Global};
 
-/// The rate of each itag's source, by the itags' numbers: events a second.
+/// The rate of each itag's source, by the itags' numbers: events per second.
 pub fn source_rates(alloc: Global, program: &Program) -> Result<Vec<u64>, AllocError>
     ensures { IfOk result (λ rates. rates.items ≡ source_rates program.now) }
 {

@@ -19,7 +19,7 @@ use std::alloc::AllocError;
 /// A job that was read.
 #[derive(Drop)]
 pub enum JobRead {
-    /// Whether it is accepted was not asked.
+    /// Whether it is accepted was not checked.
     Unchecked(Program),
     /// It is accepted.
     Accepted(Checked),
@@ -42,27 +42,27 @@ impl JobRead {
 /// What is wrong with a plan.
 #[derive(Drop)]
 pub enum PlanDefect {
-    /// The bytes under the plan's name are no text of a plan of the job.
+    /// The bytes under the plan's name are not the text of a plan of the job.
     Text(PlanFault),
     /// The plan is not valid for this job.
     Invalid(Checked, ValidFault),
 }
 
-/// What keeps a run from its start.
+/// What keeps a run from starting.
 #[derive(Drop)]
 pub enum SaveDefect {
-    /// A name that the run saves to, or is resumed from, is that of the file of this source of the job.
+    /// A name that the run saves to, or is resumed from, is the name of the file of this source of the job.
     SameName(Checked, u32),
-    /// The bytes under the name that it is resumed from are no checkpoint of the job.
+    /// The bytes under the name that it is resumed from are not a checkpoint of the job.
     Checkpoint(SaveFault),
 }
 
 /// Why a command was not done.
 #[derive(Drop)]
 pub enum Refusal {
-    /// The words are no command.
+    /// The words are not a command.
     BadWords(BadWords),
-    /// The bytes under the job's name are no job text.
+    /// The bytes under the job's name are not a job text.
     JobFault(JobFault),
     /// The job is not accepted.
     Conflict(CheckFault),
@@ -74,7 +74,7 @@ pub enum Refusal {
     ReadFault,
     /// Out failed.
     WriteFault,
-    /// There was no memory.
+    /// Memory ran out.
     NoMemory,
     /// The run can't start.
     SaveDefect(SaveDefect),

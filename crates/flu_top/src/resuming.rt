@@ -16,9 +16,9 @@ use flu_streams::{
     rounds_meet_what_is_there,
 };
 
-/// Where no source has a defect, a checkpoint that a run has put opens the rest of the run: what was written when it was put, and then
-/// the report of a run that is resumed from it, are together the report of the run. So it is with any number of runs, of which each is
-/// resumed from a checkpoint that the one before it put. And such a checkpoint of a job that a text means is refused for no fault.
+/// If no source has a defect, a checkpoint that a run has put opens the rest of the run: what was written when it was put, and then
+/// the report of a run that is resumed from it, are together the report of the run. The same holds for any number of runs, each of which
+/// is resumed from a checkpoint that the one before it put. And such a checkpoint of a text's job is refused for no fault.
 pub fn of_checkpoints()
     ensures rest { CheckpointsOpenTheRest }
     ensures together { RunsGoOn }
@@ -35,16 +35,16 @@ pub fn of_checkpoints()
     updates_are_changes();
 }
 
-/// What a run is resumed over: sources whose files have the same have the same lines and items, whatever is read before them; and the
-/// checkpoint, which is no source's file, leaves what they have.
+/// What a run is resumed over: sources whose files have the same bytes have the same lines and items, whatever is read before them; and
+/// the checkpoint, which is no source's file, leaves what they have.
 pub fn of_resumed_sources()
     ensures sources { SourcesDecide }
     ensures checkpoint { CheckpointsLeaveSources }
 {}
 
-/// A run that saves leaves the name that it saves to as it was; or a checkpoint there, and what was written when that was put stands in
-/// out, and maybe a part of the next round's report. This holds at the statuses 0 and 6 to 9. A run that is resumed, and ends with status
-/// 0, writes what its checkpoint opens.
+/// A run that saves leaves the name that it saves to as it was; or a checkpoint there, and what was written when that was put is in
+/// out, maybe with a part of the next round's report after it. This holds at the statuses 0 and 6 to 9. A run that is resumed, and ends
+/// with status 0, writes what its checkpoint opens.
 pub fn of_resumed_runs()
     ensures leaves { RunsLeaveCheckpoints }
     ensures writes { ResumedRunsWriteTheRest }
@@ -71,8 +71,8 @@ pub fn of_two_runs()
 }
 
 /// A run that saves left the name that it saves to as it was; or a run of the same job that is resumed from what it left there is refused
-/// with status 11 for a name alone, that of a source's file which it saves to or is resumed from, and for no fault of the checkpoint. For this
-/// the sources of the first run have no defect.
+/// with status 11 only for a name, that of a source's file which it saves to or is resumed from, and for no fault of the checkpoint. For
+/// this the sources of the first run have no defect.
 pub fn of_taken_checkpoints()
     ensures { ResumedRunsTakeCheckpoints }
 {

@@ -1,5 +1,5 @@
-//! `run JOB [PLAN | --depth D] [--adapt] [--save FILE [--unflushed]] [--resume FILE]`: the report of a run of a job's events, in rounds, on
-//! the tree of threads where a plan is named or the tree pays.
+//! `run JOB [PLAN | --depth D] [--adapt] [--save FILE [--unflushed]] [--resume FILE]`: the report of a run of a job's events, in rounds,
+//! on the tree of threads if a plan is named or the tree pays.
 
 ghost use Rattle.std.specs.Prelude.{◌≡◌, ◌≢◌, ◌<◌, ◌≤◌, ◌⊎◌, ℕ, Bool, option_map, length, List, ◌∷◌, Option, Some, None, Ok, Err, IfOk, IfErr, OnOk, IsErrOf};
 ghost use Rattle.std.specs.Prelude.{IsTrue};
@@ -63,7 +63,7 @@ use std::alloc::{AllocError, Global};
 use std::sync::Wait;
 use std::thread::Threads;
 
-// A round is to be had as soon as each source has so many rows that are settled.
+// A round is ready as soon as each source has this many settled rows.
 const ROWS_IN_ROUND: u32 = 4096;
 
 /// Why the rounds of a run ended before the last one.
@@ -75,8 +75,8 @@ enum RunFault {
     Unsaved(PutFault),
 }
 
-/// Writes the report of the job that a file holds, which is run by the plan that another file holds, or where none is named each round
-/// by its own counts: from its opening, and with a checkpoint behind each round where it saves. Where its plan follows the events that were
+/// Writes the report of the job that a file holds, which is run by the plan that another file holds, or, if none is named, each round
+/// by its own counts: from its opening, and with a checkpoint after each round if it saves. If its plan follows the events that were
 /// run, it answers the text of the plan in force at the end.
 pub fn run_job<F: Files, K: Sink, G: Gate, R: Threads + Wait + Sync>(
     rt: &R,
@@ -129,7 +129,7 @@ pub fn run_job<F: Files, K: Sink, G: Gate, R: Threads + Wait + Sync>(
     )
 }
 
-// The job that a file holds with the plan that another file holds, or with one of a single node where none is named.
+// The job that a file holds with the plan that another file holds, or with one of a single node if none is named.
 fn planned_for<F: Files>(
     alloc: Global,
     files: &mut F,
@@ -174,8 +174,8 @@ fn greedily<F: Files>(alloc: Global, files: &mut F, job: &str) -> Result<Planned
     }
 }
 
-// Writes the report of a job over its sources' files, from an opening, first by a plan, which follows the events that were run where the
-// run adapts; or each round by its own counts, where a depth of plans is given.
+// Writes the report of a job over its sources' files, from an opening, first by a plan, which follows the events that were run if the
+// run adapts; or each round by its own counts, if a depth of plans is given.
 fn run_in_rounds<F: Files, K: Sink, G: Gate, R: Threads + Wait + Sync>(
     rt: &R,
     alloc: Global,
@@ -216,7 +216,7 @@ fn run_in_rounds<F: Files, K: Sink, G: Gate, R: Threads + Wait + Sync>(
     }
 }
 
-// Runs all rounds of a job's sources, each of which writes its report, and then puts its checkpoint; and answers what is said of them.
+// Runs all rounds of a job's sources, each of which writes its report, and then puts its checkpoint; and answers what is said about them.
 fn rounds<F: Files, K: Sink, G: Gate, R: Threads + Wait + Sync>(
     rt: &R,
     alloc: Global,
@@ -261,7 +261,7 @@ fn rounds<F: Files, K: Sink, G: Gate, R: Threads + Wait + Sync>(
     Ok(said)
 }
 
-// The engine of a run in rounds. Where a thread is refused the job is folded.
+// The engine of a run in rounds. If a thread is refused, the job is folded.
 fn adaptive_of<'a, G: Gate, R: Threads + Wait + Sync>(
     rt: &R,
     alloc: Global,
@@ -303,7 +303,7 @@ fn first(alloc: Global, program: &Program, opening: Opening) -> Result<Rounds, R
     made.map_err(|_| RunFault::Round(RoundsFault::NoMemory))
 }
 
-// Runs one round, which writes its report, and puts its checkpoint; and finds what is said behind it.
+// Runs one round, which writes its report, and puts its checkpoint; and finds what is said after it.
 fn saved_round<F: Files, K: Sink, G: Gate, R: Threads + Wait + Sync, B: Engine<R> + Drop>(
     rt: &R,
     alloc: Global,
@@ -343,7 +343,7 @@ fn saved_round<F: Files, K: Sink, G: Gate, R: Threads + Wait + Sync, B: Engine<R
     }
 }
 
-// The tree of threads of a job by a plan. Where a thread is refused the job is folded.
+// The tree of threads of a job by a plan. If a thread is refused, the job is folded.
 fn engine_of<'a, G: Gate, R: Threads + Wait + Sync>(
     planned: &'a Planned,
     gate: &'a G,
@@ -357,8 +357,8 @@ fn engine_of<'a, G: Gate, R: Threads + Wait + Sync>(
     TreeEngine::new(&planned.checked, &planned.valid, gate, backup)
 }
 
-// Runs one round, as `Rounds::round` does on an engine; and finds what is said behind it, before the report is
-// written, since that may want memory.
+// Runs one round, as `Rounds::round` does on an engine; and finds what is said after it, before the report is
+// written, since that may need memory.
 fn round<F: Files, K: Sink, G: Gate, R: Threads + Wait + Sync, B: Engine<R> + Drop>(
     rt: &R,
     alloc: Global,
@@ -371,7 +371,7 @@ fn round<F: Files, K: Sink, G: Gate, R: Threads + Wait + Sync, B: Engine<R> + Dr
     requires program { program_of engine.old.checked ≡ rounds.old.held.program }
     requires stage { rounds.old.held.stage ≡ Stage.Filling }
 
-    // Where the plan follows the counts, they have grown by the events of the round.
+    // If the plan follows the counts, they have grown by the events of the round.
     ensures written { IfOk result (λ end. (before : ℕ → List Next) → AreHeldBehind rounds.old.held before
         → (runs : Runs rounds.old rounds.new (F.left files.old) (F.left files.new) end before)
         × WhereTold (K.taken out.old) (K.taken out.new) (AppendsAll (round_report rounds.old end runs.fills.now))
@@ -388,14 +388,14 @@ fn round<F: Files, K: Sink, G: Gate, R: Threads + Wait + Sync, B: Engine<R> + Dr
     ensures fault { IfErr result (λ f. IsSourceFault rounds.old.held (F.left files.old) (F.left files.new) f) }
     ensures nothing { IfErr result (λ f. f ≢ RoundsFault.WriteFault → K.taken out.new ≡ K.taken out.old) }
 
-    // Where out failed it has a front of the round's report.
+    // If out failed, it has a prefix of the round's report.
     ensures part { IsErrOf result RoundsFault.WriteFault → (before : ℕ → List Next) → AreHeldBehind rounds.old.held before
         → (end : Border) × (now : ℕ → List Next) × IsRoundOf rounds.old (F.left files.old) (F.left files.new) end before now
         × WhereTold (K.taken out.old) (K.taken out.new) (AppendsPart (round_report rounds.old end now)) }
     ensures failed { IsErrOf result RoundsFault.WriteFault → Rose (K.faults out.old) (K.faults out.new) }
     ensures written_quiet { result ≢ Err RoundsFault.WriteFault → K.faults out.new ≡ K.faults out.old }
 
-    // Bytes are taken from the front of the sources' files alone, and a read fault has its cause there, and hides nothing.
+    // Bytes are taken only from the front of the sources' files, and a read fault has its cause there, and hides nothing.
     ensures fronts { WhereTold (F.left files.old) (F.left files.new) TookFronts }
     ensures others { WhereTold (F.left files.old) (F.left files.new) (LeavesOthers (files_of rounds.old.held.program.sources)) }
     ensures rise { (n : List ℕ) → F.faults files.old n ≤ F.faults files.new n }
@@ -418,7 +418,7 @@ fn round<F: Files, K: Sink, G: Gate, R: Threads + Wait + Sync, B: Engine<R> + Dr
     Ok(border)
 }
 
-// What is said behind a round: the text of the plan in force, where it is the last round and the plan follows the counts.
+// What is said after a round: the text of the plan in force, if it is the last round and the plan follows the counts.
 fn said_behind<G: Gate, R, B: Engine<R> + Drop>(
     alloc: Global,
     engine: &Adaptive<G, R, B>,

@@ -1,4 +1,4 @@
-//! The checkpoints that a run puts, one behind each round.
+//! The checkpoints that a run puts, one after each round.
 
 ghost use Rattle.std.specs.Prelude.{◌≡◌, ◌≢◌, None, option_map, OnOk, OnErr, IsErrOf};
 ghost use Rattle.flu_outside.specs.Outside.{WhereTold, SameCounts, SameLeft};
@@ -17,7 +17,7 @@ use std::alloc::Global;
 // The border of the last checkpoint.
 const GREATEST_BORDER: u64 = i64::MAX as u64;
 
-/// Puts the checkpoint of a round's end and of the state behind it under a name, if there is one.
+/// Puts the checkpoint of a round's end and of the state after it under a name, if there is one.
 pub fn put_checkpoint<F: Files>(
     alloc: Global,
     files: &mut F,
@@ -46,7 +46,7 @@ pub fn put_checkpoint<F: Files>(
     }
 }
 
-// The border that a checkpoint has behind a round: the greatest one behind the last.
+// The border that a checkpoint has after a round: the greatest one after the last.
 fn border_of(end: Border) -> u64
     ensures { result ≡ border_at end }
 {

@@ -33,7 +33,7 @@ use flu_streams::GatherFault;
 use flu_words::Seed;
 use std::alloc::{AllocError, Global};
 
-/// The report, or the trace where it is asked for, and the steps of the job that a file holds, which is run on the net of the plan
+/// The report, or the trace if it is asked for, and the steps of the job that a file holds, which is run on the net of the plan
 /// that another file holds, by the steps that a seed draws.
 pub fn simulate_planned<F: Files>(
     alloc: Global,
@@ -100,7 +100,7 @@ fn text_of<F: Files>(
 }
 
 // The report or the trace, and the steps, of the run of some streams from the empty state that a seed draws on the net. The steps are
-// kept for a trace alone.
+// kept only for a trace.
 fn net_text(
     alloc: Global,
     planned: &Planned,

@@ -26,38 +26,39 @@ use std::thread::Threads;
 /// Does what the words after the program's name say, and answers the status.
 ///
 /// `fold JOB` reads the job in the file of that name and then its sources, folds their events in order and writes the
-/// report to `out`. `check JOB` reads the job alone, which has to be accepted, and writes it in normal form. `valid JOB
+/// report to `out`. `check JOB` reads only the job, which has to be accepted, and writes it in normal form. `valid JOB
 /// PLAN` reads such a job and then a plan, which has to be valid for it, and writes the plan in normal form. `plan JOB
-/// [--depth D]` reads such a job alone and writes the greedy plan of all its itags, by the rates of its sources, with at
-/// most D levels below the root: 0 to 6, and 3 where no depth is given. `run JOB [PLAN | --depth D]` reads such a job and
-/// a plan that is valid for it, where one is named. It reads the sources in rounds, of 4,096 rows of each source or more,
+/// [--depth D]` reads only such a job and writes the greedy plan of all its itags, by the rates of its sources, with at
+/// most D levels below the root: 0 to 6, and 3 if no depth is given. `run JOB [PLAN | --depth D]` reads such a job and
+/// a plan that is valid for it, if one is named. It reads the sources in rounds, of 4,096 rows of each source or more,
 /// runs the events of each round, and writes the report of the fold, round by round. By a plan each round is run on a
-/// thread for each node; else on a tree of threads of at most that depth where the round's own counts say that this pays,
-/// or folded. With `--save FILE` it puts a checkpoint under that name behind each round, and with `--resume FILE` it goes
-/// on from such a one: it runs the events above its border, from its state. `--unflushed` behind `--save FILE` changes
-/// nothing here: it is for the caller, whose `files` may leave their flushes out. With `--adapt` each round after the
-/// first runs by the greedy plan of depth 3 of the events counted so far, where a plan is named, and that of all events
-/// of the run is said on `err` at the end. `simulate JOB PLAN SEED` reads such a job, a plan that is valid for it and the
-/// sources, runs the events on the net of the plan by the steps that the seed draws, writes the report of the fold, and
-/// then says on `err` how many steps of each kind there were, with their mark; with `--trace` behind the seed it writes
-/// the trace of that run, its steps line by line, in place of the report. `replay JOB PLAN TRACE` reads the same and then
-/// a trace, runs the events on the net by its steps, and writes the report of the fold. `demo N SEED` reads no file: it
-/// runs the job of a demo, as `run` does, over N events that the seed draws and the ticks of a clock, and writes how many
-/// events there were and how many lines and bytes their report has. Status 0: all was written. Else the line of the
-/// answer goes to `err`, and a failure of `err` changes no status: 2 for words that are no command, 3 for a job text with
-/// a fault, 4 for a job that is not accepted, 5 for a plan text with a fault or a plan that is not valid, 6 for a source
-/// with a defect, 7 where a file that was read failed, 8 where `out` failed, 9 where there was no memory, 11 for a name
-/// of a checkpoint that is a source's file, or a checkpoint with a fault, 12 where a checkpoint could not be put, 13 for
-/// a trace with a bad line, with a step that is not enabled where it stands, or with too few steps. Where `run` is
-/// stopped, at 6 to 9 and 12, `out` may have what the rounds until then wrote. `docs/LANGUAGE.md` has the forms and the
-/// lines, and `docs/TRUST.md` what is to be believed.
+/// thread for each node; otherwise on a tree of threads of at most that depth if the round's own counts say that this
+/// pays, or else it is folded. With `--save FILE` it puts a checkpoint under that name after each round, and with
+/// `--resume FILE` it continues from such a checkpoint: it runs the events above its border, from its state.
+/// `--unflushed` after `--save FILE` changes nothing here: it is for the caller, whose `files` may leave their flushes
+/// out. With `--adapt` each round after the first runs by the greedy plan of depth 3 of the events counted so far, if a
+/// plan is named, and the greedy plan of depth 3 of all events of the run is printed on `err` at the end. `simulate JOB
+/// PLAN SEED` reads such a job, a plan that is valid for it and the sources, runs the events on the net of the plan by
+/// the steps that the seed draws, writes the report of the fold, and then prints on `err` how many steps of each kind
+/// there were, with their mark; with `--trace` after the seed it writes the trace of that run, its steps line by line,
+/// in place of the report. `replay JOB PLAN TRACE` reads the same and then a trace, runs the events on the net by its
+/// steps, and writes the report of the fold. `demo N SEED` reads no file: it runs the job of a demo, as `run` does,
+/// over N events that the seed draws and the ticks of a clock, and writes how many events there were and how many lines
+/// and bytes their report has. Status 0: all was written. Otherwise the line of the answer goes to `err`, and a failure
+/// of `err` changes no status: 2 for words that are not a command, 3 for a job text with a fault, 4 for a job that is
+/// not accepted, 5 for a plan text with a fault or a plan that is not valid, 6 for a source with a defect, 7 if a file
+/// that was read failed, 8 if `out` failed, 9 if memory ran out, 11 for a name of a checkpoint that is a source's file,
+/// or a checkpoint with a fault, 12 if a checkpoint could not be put, 13 for a trace with a bad line, with a step that
+/// is not enabled at its place, or with too few steps. If `run` is stopped, at 6 to 9 and 12, `out` may have what the
+/// rounds until then wrote. `docs/LANGUAGE.md` has the forms and the lines, and `docs/TRUST.md` what has to be
+/// believed.
 ///
-/// Each worker of a run passes the gate before and after each of its updates. `run` and `demo` alone start threads, and
-/// wait for them: what is said here holds where the call returns. Where a thread is refused, the plain fold runs the
-/// batch in its place, on the calling thread.
+/// Each worker of a run passes the gate before and after each of its updates. Only `run` and `demo` start threads, and
+/// wait for them: what is said here holds if the call returns. If a thread is refused, the plain fold runs the batch in
+/// its place, on the calling thread.
 ///
 /// No clause says that the gate is passed, nor that the fold steps in: a body that left the gate out, or that answered 9
-/// where a thread is refused, would be proved. Tests alone show the gate, `two_workers_meet_in_their_updates` and
+/// if a thread is refused, would be proved. Only tests show the gate, `two_workers_meet_in_their_updates` and
 /// `all_workers_of_a_level_meet_in_their_updates` in `flu_top_tests::calls::gates`, and `each_event_is_handled_by_its_owner`
 /// in `flu_top_tests::calls::owners`. `the_backup_runs_a_batch_as_the_fold_does` in `flu_round_tests::backups` shows what
 /// steps in, by calling it; no test refuses a thread.
@@ -70,17 +71,17 @@ pub fn flumina<F: Files, K: Sink, E: Sink, G: Gate, R: Threads + Wait + Sync>(
     err: &mut E,
     gate: &G,
 ) -> u8
-    // What the status says of the words, of what the files held and hold, and of what out and err got.
+    // What the status says about the words, about what the files held and hold, and about what out and err got.
     ensures outcome { Outcome (map string_bytes words.now)
         (outside (F.left files.old) (K.taken out.old) (E.taken err.old) (E.faults err.old))
         (outside (F.left files.new) (K.taken out.new) (E.taken err.new) (E.faults err.new)) result }
 
-    // Bytes are taken from the front of names, and of no name that the call does not read, but for one that it puts.
+    // Bytes are taken from the front of names, and of no name that the call does not read, except for one that it puts.
     ensures read { ReadOnly (map string_bytes words.now) (F.left files.old) (F.left files.new) result }
 
-    // Status 7 comes only where the count of a name that the call reads rose, status 8 only where out's did, and status 12
-    // only where that of puts of the name that it saves to did. At each other status no such count has changed: a failure
-    // ends the call.
+    // Status 7 comes only if the count of a name that the call reads rose, status 8 only if out's did, and status 12 only
+    // if the count of puts of the name that it saves to did. At each other status no such count has changed: a failure ends
+    // the call.
     ensures faults { FaultsFirst (map string_bytes words.now) (F.left files.old)
         (faults (F.faults files.old) (F.put_faults files.old) (K.faults out.old))
         (faults (F.faults files.new) (F.put_faults files.new) (K.faults out.new)) result }
@@ -90,7 +91,7 @@ pub fn flumina<F: Files, K: Sink, E: Sink, G: Gate, R: Threads + Wait + Sync>(
         (faults (F.faults files.old) (F.put_faults files.old) (K.faults out.old))
         (faults (F.faults files.new) (F.put_faults files.new) (K.faults out.new)) result }
 
-    // Where none rose, the status is the one that the command and its files call for, or 9.
+    // If none rose, the status is the one that the command and its files call for, or 9.
     ensures completes { Completes (map string_bytes words.now) (F.left files.old)
         (faults (F.faults files.old) (F.put_faults files.old) (K.faults out.old))
         (faults (F.faults files.new) (F.put_faults files.new) (K.faults out.new)) result }

@@ -36,8 +36,8 @@ const fn zip(key: u32) -> Cell {
     Cell { family: 1, key }
 }
 
-/// A count behind a gate, without dependencies: `pass` adds to the count where the gate holds a value, `open` sets it, and `tell`
-/// raises the note of its own key, 0 or 1, and puts out the note 7.
+/// A count behind a gate, without dependencies: `pass` adds to the count if the gate holds a value, `open` sets it, and `tell`
+/// raises the note of its own key, 0 or 1, and emits the note 7.
 const GATED: &str = "cell gate last
 cell count sum
 cell note keyed max
@@ -58,7 +58,7 @@ const GATE: Cell = Cell { family: 0, key: 0 };
 
 const PASSED: Cell = Cell { family: 1, key: 0 };
 
-/// The tag that tells of a note.
+/// The tag of the kind `tell` with a key.
 const fn tell(key: u32) -> Tag {
     Tag { kind: 2, key }
 }
@@ -171,7 +171,7 @@ fn tags_conflict_and_depend(rt: HostRuntime) -> Result<(), Fail> {
     expect_conflicts(&rt, rt.alloc(), text.as_str(), &cases)
 }
 
-/// The cells that are looked at where all cells are gone through.
+/// How many keys of each family are examined when all cells are gone through.
 const KEYS: u32 = 10;
 
 /// Whether two tags conflict on a cell and are independent.

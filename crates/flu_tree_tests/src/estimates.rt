@@ -1,4 +1,4 @@
-//! Where the tree of threads pays by the estimates.
+//! When the tree of threads pays by the estimates.
 
 use crate::jobs::{COUNT_PLAN, job, judged};
 use flu_estimate::{Costs, is_worth_it};
@@ -6,7 +6,7 @@ use std::alloc::Global;
 use std::process::Abort;
 use std::test::Fail;
 
-/// Two sources add to a count, by 16 actions each, and the third puts it out.
+/// Two sources add to a count, by 16 actions each, and the third emits it.
 const LONG: &str = "cell count sum
 tag inc int
 tag read none
@@ -34,7 +34,7 @@ source b \"b.csv\": inc
 source c \"c.csv\": read
 ";
 
-/// Whether a tree of three workers pays for so many events of the three itags, on so many processors.
+/// Whether a tree of three workers pays for this many events of the three itags, on this many processors.
 fn check<R: Abort>(
     rt: &R,
     alloc: Global,

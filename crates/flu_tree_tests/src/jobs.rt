@@ -13,7 +13,7 @@ use flu_valid::validate;
 use std::alloc::Global;
 use std::test::Fail;
 
-/// Two sources add to a count, and the third puts it out and clears it, without a dependency. Its itags are 0 and 1, which add, and 2.
+/// Two sources add to a count, and the third emits it and clears it, without a dependency. Its itags are 0 and 1, which add, and 2.
 pub const COUNT: &str = "cell count sum
 tag inc int
 tag read none
@@ -33,7 +33,7 @@ node l: inc@a
 node r: inc@b
 ";
 
-/// Views of pages, which a tick puts out and clears, and updates of the zip codes of users, without a dependency and a source.
+/// Views of pages, which a tick emits and clears, and updates of the zip codes of users, without a dependency or a source.
 pub const PAGES: &str = "cell views keyed sum
 cell zip keyed last
 tag view keyed int
@@ -53,14 +53,14 @@ source app \"app.csv\": view[0..9], update[0..9]
 source clock \"clock.csv\": tick
 ";
 
-/// The job of a text and of a text behind it.
+/// The job of a text and of a text after it.
 pub fn job(alloc: Global, text: &str, more: &str) -> Result<Program, Fail> {
     let mut whole = String::from_str(alloc, text)?;
     whole.push_str(more)?;
     Ok(read_job(alloc, whole.as_bytes())?)
 }
 
-/// A job that is accepted, and a plan that is valid for it; none where one of the two is not.
+/// A job that is accepted, and a plan that is valid for it; none if one of the two is not.
 pub fn judged(alloc: Global, p: Program, plan: &str) -> Result<Option<(Checked, Valid)>, Fail>
     ensures same { IfOk result (λ both. IfSome both (λ b. program_of b.0 ≡ p)) }
     ensures valid { IfOk result (λ both. IfSome both (λ b. IsValidFor (program_of b.0) b.1)) }

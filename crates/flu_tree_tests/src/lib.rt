@@ -1,4 +1,4 @@
-//! Tests of the tree: which jobs are accepted, and lots that are parted and joined, and where the tree pays.
+//! Tests of the tree: which jobs are accepted, lots that are parted and joined, and when the tree pays.
 #![tactic(auto)]
 
 #[cfg(test)]

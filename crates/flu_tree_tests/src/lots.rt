@@ -1,4 +1,4 @@
-//! The lot of the root of a plan, which opens with what events before came to, is parted and joined again.
+//! The lot of the root of a plan, which opens with what earlier events came to, is parted and joined again.
 
 ghost use Rattle.std.specs.Prelude.{◌≡◌, length, IfOk};
 ghost use Rattle.flu_model.specs.Itags.{count_of_itags};
@@ -53,7 +53,7 @@ fn worths(
     Ok(worths)
 }
 
-/// Parts the lot of the root at the start, and joins it again; none where the root is a leaf.
+/// Parts the lot of the root at the start, and joins it again; none if the root is a leaf.
 fn parted(alloc: Global, case: &Case, cells: &[(u32, u32)]) -> Result<Option<Halves>, AllocError> {
     if case.valid().count() == 0 || case.valid().kids(0).is_none() {
         return Ok(None);
@@ -70,7 +70,7 @@ fn parted(alloc: Global, case: &Case, cells: &[(u32, u32)]) -> Result<Option<Hal
     }))
 }
 
-/// The parts of a job's state after its events, by a plan; none where the job is not accepted or the plan is not valid for it.
+/// The parts of a job's state after its events, by a plan; none if the job is not accepted or the plan is not valid for it.
 fn looked(
     alloc: Global,
     p: Program,
@@ -89,7 +89,7 @@ fn looked(
     Ok(parted(alloc, &case, cells)?)
 }
 
-/// The greedy plan of the pages at depth 3, where the sources have the rates 1000, 500 and 1: the root owns nothing, the tick is above
+/// The greedy plan of the pages at depth 3, if the sources have the rates 1000, 500 and 1: the root owns nothing, the tick is above
 /// the views, and the pages are shared out among four leaves, as are the users.
 const PAGES_PLAN: &str = "node n0: -> n1 n8
 node n1: tick@clock -> n2 n5
@@ -108,7 +108,7 @@ node n13: update[1]@app, update[5]@app, update[9]@app
 node n14: update[3]@app, update[7]@app
 ";
 
-/// Quotes set a price, trades from two sources read it and add to a volume, which a shut puts out and clears.
+/// Quotes set a price, trades from two sources read it and add to a volume, which a shut emits and clears.
 const PRICES: &str = "version 2
 cell price last
 cell vol sum

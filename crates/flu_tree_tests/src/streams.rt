@@ -40,7 +40,7 @@ fn event(itag: u32, time: u64, value: i64) -> Item {
     })
 }
 
-/// The streams with these lists, where there is one for each itag of the job and each is a stream of its itag.
+/// The streams with these lists, if there is one for each itag of the job and each is a stream of its itag.
 pub fn streams(p: &Program, lists: Vec<Vec<Item>>) -> Option<Streams>
     ensures { IfSome result (λ s. length (listed s) ≡ count_of_itags p.now) }
 {

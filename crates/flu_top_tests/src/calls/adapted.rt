@@ -93,7 +93,7 @@ const MANY_READS: [(&str, &str); 4] = [
     ),
 ];
 
-/// What is counted of a run that is resumed are the events above its border.
+/// What is counted of a resumed run are the events above its border.
 #[test]
 fn events_above_the_border_are_counted(rt: HostRuntime) -> Result<(), Fail> {
     let whole = Wanted {

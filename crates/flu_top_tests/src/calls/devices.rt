@@ -71,14 +71,14 @@ const COMMANDS: &[Command] = &[
     },
 ];
 
-/// The longest pieces, where not all is moved at once.
+/// The longest pieces, if not all is moved at once.
 const MOST: usize = 16;
 
 fn commands() -> &'static [Command] {
     COMMANDS
 }
 
-/// How many bytes so many calls move at most.
+/// How many bytes this many calls move at most.
 fn moved(settings: &Settings, calls: u64) -> usize {
     let mut sum = 0usize;
     let mut most = settings.first;
@@ -92,7 +92,7 @@ fn moved(settings: &Settings, calls: u64) -> usize {
     sum
 }
 
-/// How many takes read these texts to their ends, so many bytes at a time: behind each of them one more that finds nothing.
+/// How many takes read these texts to their ends, this many bytes at a time: after each text one more, which finds nothing.
 fn takes_of(texts: Named, most: usize) -> u64 {
     let mut takes = 0u64;
     for (_, text) in texts {
@@ -124,7 +124,7 @@ const NOT_READ: Wanted = Wanted {
     err: "flumina: read fault",
 };
 
-/// Out has a front of what the command writes.
+/// Out has a prefix of what the command writes.
 fn not_written(command: &Command, front: usize) -> Wanted<'static> {
     Wanted {
         status: 8,
@@ -149,7 +149,7 @@ fn check_with<R: Abort + Threads + Wait + Sync>(
     Ok(())
 }
 
-/// Lets each take of a command fail, and the one behind its last.
+/// Lets each take of a command fail, and the one after its last.
 fn check_takes<R: Abort + Threads + Wait + Sync>(
     rt: &R,
     alloc: Global,
@@ -204,7 +204,7 @@ fn each_file_is_missing(rt: HostRuntime) -> Result<(), Fail> {
     Ok(())
 }
 
-/// Lets each write to out fail, and the one behind the last.
+/// Lets each write to out fail, and the one after the last.
 fn check_writes<R: Abort + Threads + Wait + Sync>(
     rt: &R,
     alloc: Global,
@@ -332,7 +332,7 @@ fn sayings() -> &'static [Saying] {
     SAYINGS
 }
 
-/// Makes a call with an err that has room for so many bytes, and which gets just these of the line.
+/// Makes a call with an err that has room for this many bytes, and that gets just these bytes of the line.
 fn check_room<R: Abort + Threads + Wait + Sync>(
     rt: &R,
     alloc: Global,

@@ -12,10 +12,10 @@ use std::sync::atomic::{AtomicU64, Ordering};
 use std::test::Fail;
 use std::thread::{Threads, yield_now};
 
-/// How often a worker looks for the others at most.
+/// At most how often a worker looks for the others.
 const MOST_TURNS: u64 = 200_000_000;
 
-/// No state is handed in: so it is behind the update of a node with children, since its lot is forked again.
+/// No state is handed in: this is so after the update of a node with children, since its lot is forked again.
 const NO_STATE: i128 = -1;
 
 /// The state that is handed in holds no value of `count`.
@@ -36,7 +36,7 @@ struct Pass {
 /// The group of those that wait for nobody.
 const ALONE: usize = 9;
 
-/// How many workers of each group have come, how often each pass was made as is wanted before its update and after it, and how often
+/// How many workers of each group have come, how often each pass was made as wanted before its update and after it, and how often
 /// there was another pass or a wait that ran out.
 #[derive(Drop)]
 struct Meeting {
@@ -122,7 +122,7 @@ impl Meeting {
         self.faults.load(Ordering::SeqCst) == 0
     }
 
-    // Notes that a pass was made, where it found or left the count that is wanted.
+    // Notes that a pass was made, if it found or left the wanted count.
     fn note(&self, place: usize, point: u32, count: i128) {
         let Some(pass) = self.passes.get(place) else {
             return;
@@ -154,8 +154,8 @@ impl Gate for Meeting {
     }
 }
 
-/// Runs a job by its plan with a gate: each event passes once before its update and once after it, with the counts that are wanted,
-/// nothing else does, and all workers of a group meet.
+/// Runs a job by its plan with a gate: each event passes once before its update and once after it, with the wanted counts, nothing
+/// else does, and all workers of a group meet.
 fn check_meeting<R: Abort + Threads + Wait + Sync>(
     rt: &R,
     alloc: Global,
@@ -220,7 +220,7 @@ fn two_workers_meet_in_their_updates(rt: HostRuntime) -> Result<(), Fail> {
     check_meeting(&rt, rt.alloc(), COUNTED, REPORT, &meeting)
 }
 
-/// Each node has one event, which adds a number of its own to the count, and at the root puts it out. An event depends on those of
+/// Each node has one event, which adds a number of its own to the count, and at the root emits it. An event depends on the events of
 /// the nodes below its own.
 const LEVELS_JOB: &str = "cell count sum
 tag left_one keyed int

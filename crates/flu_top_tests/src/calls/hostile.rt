@@ -1,4 +1,4 @@
-//! Bytes that no table of texts has: a source that is cut anywhere, bytes that are no text, and texts that are too long.
+//! Bytes that no table of texts has: a source that is cut anywhere, bytes that are not a text, and texts that are too long.
 
 use super::jobs::{A, COUNTED, REPORT};
 use super::scripts::Wanted;
@@ -42,7 +42,7 @@ const UNKNOWN_1: &str = "flumina: source a row 1: unknown tag";
 
 const UNKNOWN_2: &str = "flumina: source a row 2: unknown tag";
 
-/// What is said of the first source where it is cut to so many bytes: nothing where its last line says `end`.
+/// What is said about the first source if it is cut to this many bytes: nothing if its last line says `end`.
 const CUTS: [&str; 21] = [
     UNCLOSED_1, BAD_1, BAD_1, UNKNOWN_1, UNKNOWN_1, BAD_1, BAD_1, UNCLOSED_2, UNCLOSED_2, BAD_2,
     BAD_2, UNKNOWN_2, UNKNOWN_2, BAD_2, BAD_2, UNCLOSED_3, UNCLOSED_3, BAD_3, BAD_3, "", "",
@@ -78,7 +78,7 @@ fn a_source_is_cut(rt: HostRuntime) -> Result<(), Fail> {
     Ok(())
 }
 
-/// So many equal bytes under a name, with what is said of them.
+/// This many equal bytes under a name, with what is said about them.
 #[derive(Clone, Copy)]
 struct Same {
     name: &'static str,

@@ -1,6 +1,6 @@
 //! A count of two sources.
 
-/// Two sources add to a count, and a third puts it out and clears it.
+/// Two sources add to a count, and a third emits it and clears it.
 pub const COUNTING: &str = "cell count sum
 tag inc int
 tag read none

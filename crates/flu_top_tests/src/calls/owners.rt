@@ -24,7 +24,7 @@ const TICKING: u32 = 1;
 /// How many events of one itag there are at most.
 const MOST: usize = 3;
 
-/// How many events an itag has: an update is there of page 3 alone.
+/// How many events an itag has: of the updates, only that of page 3 has one.
 fn events_of(itag: usize) -> usize {
     match itag {
         23 => 1,

@@ -43,7 +43,7 @@ const FILES: &[(&str, &str)] = &[
     ("clock.csv", CLOCK),
 ];
 
-/// Views add up for each page, and a tick puts out and clears the sums; an update sets a page's zip code.
+/// Views add up for each page, and a tick emits and clears the sums; an update sets a page's zip code.
 const JOB: &str = "cell views keyed sum
 cell zip keyed last
 tag view keyed int

@@ -50,7 +50,7 @@ fn words_that_are_no_command(rt: HostRuntime) -> Result<(), Fail> {
     play(&rt, rt.alloc(), WORDS)
 }
 
-/// Texts that are no job, and jobs that are not accepted, under all that want one.
+/// Texts that are not a job, and jobs that are not accepted, under all commands that want one.
 const JOBS: &str = "@ J|cell count sum $
 @ $ fold J
 @ $ check J
@@ -222,7 +222,8 @@ fn jobs_with_a_fault_or_a_conflict(rt: HostRuntime) -> Result<(), Fail> {
     play(&rt, rt.alloc(), JOBS)
 }
 
-/// Texts that are no plan and plans that are not valid, before the sources are read; and a plan in the job's file, whose bytes are read by then.
+/// Texts that are not a plan and plans that are not valid, before the sources are read; and a plan in the job's file, whose bytes are
+/// read by then.
 const PLANS: &str = "@ P
 node a: -> b b
 node b: inc, read
@@ -328,8 +329,8 @@ fn plans_with_a_fault(rt: HostRuntime) -> Result<(), Fail> {
     play(&rt, rt.alloc(), PLANS)
 }
 
-/// Rows in no order, that stand behind the end or are none, and sources without an end; rows that come too late; and a job and a plan that are
-/// named as a source, whose bytes are read by then.
+/// Rows that are out of order, that come after the end or that are not rows, and sources without an end; rows that come too late; and a
+/// job and a plan that are named as a source, whose bytes are read by then.
 const SOURCES: &str = "@ a.csv
 1,inc,5
 1,inc,6

@@ -185,7 +185,7 @@ fn a_hundred_seeds_write_one_report(rt: HostRuntime) -> Result<(), Fail> {
     Ok(())
 }
 
-/// Jobs that `fold` alone takes, a job without a line, quotes, line ends, empty lines and empty columns, maxima, values that are clamped,
+/// Jobs that only `fold` takes, a job without a line, quotes, line ends, empty lines and empty columns, maxima, values that are clamped,
 /// reads that are shared, and rows that come late; and the summaries of three demos.
 const OTHERS: &str = "@ J
 cell count sum

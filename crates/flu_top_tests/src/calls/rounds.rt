@@ -1,4 +1,4 @@
-//! Runs of a source with more rows than a round takes: what out has where a later round fails.
+//! Runs of a source with more rows than a round takes: what out has if a later round fails.
 
 use super::jobs::{COUNTED, END};
 use super::{SOUND, Settings, Words, assert_left, call_with, files_of, put, set_takes};
@@ -25,7 +25,7 @@ pub const ALL: &str = "4000,read,count 4000\n5000,read,count 1000\n";
 /// The rows of the source that reads.
 pub const READS: &str = "4000,read\n5000,read\nend\n";
 
-/// Calls over a first source with so many rows: what stands behind them, the rows of the source that reads, the take and the write
+/// Calls over a first source with that many rows: what comes after them, the rows of the source that reads, the take and the write
 /// to out that fail, how many bytes each moves at most, and what each call answers and leaves.
 #[derive(Clone, Copy)]
 struct Case {

@@ -1,4 +1,4 @@
-//! Calls of `run` with `--save` and `--resume`: what they answer, and what stands under the name that is saved to.
+//! Calls of `run` with `--save` and `--resume`: what they answer, and what is under the name that is saved to.
 
 use super::jobs::{COUNTED, END, REPORT};
 use super::rounds::{ALL, DISORDERED, FIRST, READS, SAME_TIME, SECOND, adds};
@@ -12,8 +12,8 @@ use std::sync::Wait;
 use std::test::Fail;
 use std::thread::Threads;
 
-/// Runs from the checkpoint of a border, with what was counted up to it, from one that holds nothing, and from the last one, which have nothing more to
-/// run; what is no checkpoint of the job; names that are sources' files; and a checkpoint that is not there.
+/// Runs from the checkpoint of a border, with what was counted up to it, from one that holds nothing, and from the last one, which have
+/// nothing more to run; what is not a checkpoint of the job; names that are sources' files; and a checkpoint that is not there.
 const RESUMED: &str = "@ s
 {\"border\":2,\"cells\":[[\"count\",0,\"12\"]],\"job\":\"cell count sum\\ntag inc int\\ntag read none\\ndepends inc read\\ndepends read read\\non inc: add count value\\non read: emit \\\"count {count}\\\"; clear count\\nsource a \\\"a.csv\\\" rate 1000: inc\\nsource b \\\"b.csv\\\" rate 1000: inc\\nsource c \\\"c.csv\\\" rate 1: read\\n\"}
 @ $ run J P --resume s
@@ -66,7 +66,7 @@ fn left_of(alloc: Global, files: &mut MemFiles, name: &str) -> Result<Vec<u8>, T
 }
 
 /// A call over the files of the count, of which one put fails, 0 for none: what it answers, and what the name that it saves to begins
-/// with then; nothing, where it has nothing.
+/// with then; nothing, if it has nothing.
 #[derive(Clone, Copy)]
 struct Case {
     words: Words,
@@ -148,7 +148,7 @@ fn checkpoints_are_put(rt: HostRuntime) -> Result<(), Fail> {
     Ok(())
 }
 
-/// The files of the count, of which the first source has more rows than a round takes, and this behind them; and the rows that read.
+/// The files of the count, of which the first source has more rows than a round takes, and this after them; and the rows that read.
 fn two_rounds(alloc: Global, behind: &str, reads: &str) -> Result<MemFiles, AllocError> {
     let mut source = adds(alloc)?;
     source.push_str(behind)?;
@@ -172,7 +172,7 @@ fn saved_by<R: Abort + Threads + Wait + Sync>(
     Ok(left_of(alloc, &mut files, "s")?)
 }
 
-/// The checkpoint of the first round, whose border is the time of the first source's 4,096th row, is left where the second one meets a
+/// The checkpoint of the first round, whose border is the time of the first source's 4,096th row, is left if the second one meets a
 /// defect.
 #[test]
 fn the_checkpoint_before_a_defect_is_left(rt: HostRuntime) -> Result<(), Fail> {
@@ -199,7 +199,7 @@ fn saved_once<R: Abort + Threads + Wait + Sync>(rt: &R, alloc: Global) -> Result
     saved_by(rt, alloc, "run J P --save s", files, wanted)
 }
 
-/// A round whose checkpoint could not be put is run again by a run that is resumed: the border tells that its lines come twice.
+/// A round whose checkpoint could not be put is run again by a resumed run: the border shows that its lines come twice.
 #[test]
 fn a_round_that_was_not_saved_is_run_again(rt: HostRuntime) -> Result<(), Fail> {
     let saved = saved_once(&rt, rt.alloc())?;

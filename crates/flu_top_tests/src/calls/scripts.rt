@@ -1,14 +1,14 @@
 //! Scripts: texts of many calls, with what each of them leaves.
 //!
-//! A script is a row of blocks. Each begins with `@ ` and a head, which is the rest of the line, and has the lines below it.
+//! A script is a list of blocks. Each begins with `@ ` and a head, which is the rest of the line, and has the lines below it.
 //!
 //! - `@ NAME` gives the file of that name these lines; `@ NAME|TEXT` this text without a line feed at its end. A call is made over the
 //!   files of the count of two sources, and these in place of them or beside them.
 //! - `@ $ WORDS` is a call, and `@ $ WORDS -> LINE` one that says a line of its own. An `S` at the end of the words is each of some seeds.
-//! - `@ = STATUS LINE` is the status of all calls since the last such block, and the line that they say on err, or nothing where none
-//!   stands; the lines below it are what they write to out.
+//! - `@ = STATUS LINE` is the status of all calls since the last such block, and the line that they say on err, or nothing if there is
+//!   none; the lines below it are what they write to out.
 //!
-//! The first file behind an `@ =` begins anew with the files of the count alone.
+//! The first file after an `@ =` starts again from the files of the count alone.
 
 use super::jobs::COUNTED;
 use super::{add_all, assert_left, call, files_of};
@@ -60,7 +60,7 @@ pub fn check_call<R: Abort + Threads + Wait + Sync>(
     Ok(())
 }
 
-/// Makes the calls of some words, with each seed where they end with an `S`.
+/// Makes the calls of some words, with each seed if they end with an `S`.
 fn check_words<R: Abort + Threads + Wait + Sync>(
     rt: &R,
     alloc: Global,

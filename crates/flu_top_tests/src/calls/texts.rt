@@ -3,7 +3,7 @@
 use super::scripts::play;
 use std::test::Fail;
 
-/// What they write of the count of two sources stands in `devices.rt`.
+/// What they write of the count of two sources is in `devices.rt`.
 const TEXTS: &str = "@ J
 cell p last
 cell q last
@@ -177,8 +177,9 @@ fn jobs_and_plans_are_printed(rt: HostRuntime) -> Result<(), Fail> {
     play(&rt, rt.alloc(), TEXTS)
 }
 
-/// Greedy plans: of one itag and of two that depend on each other; keys are told, and the greater rate stands at the left; equal totals go by the
-/// least itag; of a complete graph no itag is removed, a rate of 0 is removed first, and equal rates by number, or not at all.
+/// Greedy plans: of one itag and of two that depend on each other; keys are printed, and the greater rate is at the left; equal
+/// totals go by the least itag; of a complete graph no itag is removed, a rate of 0 is removed first, and equal rates by number, or not
+/// at all.
 const PLANS: &str = "@ J
 tag t none
 depends t t

@@ -1,4 +1,4 @@
-//! Payments beside the mean of the window before. The files are those of `examples/fraud`.
+//! Payments compared with the mean of the window before. The files are those of `examples/fraud`.
 
 /// The job, its plan in normal form, its sources, the report as worked out by hand, and the job's normal form by the rules of
 /// `docs/LANGUAGE.md`.
