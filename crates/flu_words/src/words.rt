@@ -49,9 +49,9 @@ pub enum Command<'a> {
         job: &'a str,
         depth: Depth,
     },
-    /// `run JOB [PLAN | --depth D] [--adapt] [--save FILE [--unflushed]] [--resume FILE]`: the report of a run on the tree of threads, by
-    /// the plan, or by the greedy plan of a depth if none is named; by a plan that follows what is observed, with checkpoints that are
-    /// put to a file, or resumed from one.
+    /// `run JOB [PLAN | --depth D] [--adapt] [--save FILE [--unflushed]] [--resume FILE]`: the report of a run of the job's events in rounds:
+    /// on the tree of threads by the plan, or if none is named each round as its own counts ask, by trees of at most a depth; by a plan that
+    /// follows what is observed, with checkpoints that are saved under a file, or resumed from one.
     Run {
         job: &'a str,
         plan: Option<&'a str>,
