@@ -386,3 +386,19 @@ def priced(events):
             at = side + half
             sides += [f"node {at}: -> {at}1 {at}2", f"node {at}1:{' inc, rest, some' if at == 'll' else ''}", f"node {at}2:"]
     write("fifteen.plan", "\n".join(sides) + "\n")
+
+
+def items(name, rows, paths):
+    """Hits of a source, each of one of so many paths, drawn evenly; a tick at the end flushes the sums."""
+    gawk(
+        """srand(1)
+        for (t = 1; t <= rows; t++) printf "%d,hit,%d,%d\\n", t, int(rand() * paths), int(rand() * 10000)
+        print "end" """,
+        f"{name}.csv",
+        rows=some(rows),
+        paths=paths,
+    )
+    write(f"{name}.clock.csv", f"{some(rows) + 1},tick\nend\n")
+    head = "version 3\ncell n keyed sum\ntag hit item int\ntag tick none\ndepends hit tick\ndepends tick tick\n"
+    head += 'on hit: add n[item] value\non tick: flush n "{key} {cell}"\n'
+    job(f"{name}.job", head, f'web "{name}.csv": hit', f'clock "{name}.clock.csv": tick')

@@ -191,6 +191,22 @@ def cells(bench):
         row(f"1,000,000 page views of {pages} pages, printed 1,000 times", bench.of("fold", f"views{pages}.job"))
 
 
+@measurement("sums by item: a web log of 1,000,000 rows over many paths, beside gawk, and what an event costs by the items in use")
+def items(bench):
+    table("Paths", "`fold`", "gawk's `n[$3] += $4` in C", "times that", "times 50 paths")
+    few = None
+    for paths in 50, 5000, 50000:
+        inputs.items("web", 1000000, paths)
+        sums = """export LC_ALL=C; gawk -F, '$2 == "hit" { n[$3] += $4 } END { for (path in n) if (n[path]) print path, n[path] }' web.csv"""
+        figures = bench.compare(fold=bench.flumina("fold", "web.job"), gawk=sums)
+        own, other = figures["fold"].wall, figures["gawk"].wall
+        made = sorted(line.split(b",", 2)[2] for line in text("fold.txt").splitlines())
+        if made != sorted(text("gawk.txt").splitlines()):
+            sys.exit("fold and gawk have other sums")
+        few = few or own
+        row(f"{paths:,}", f"{own:.3f}", f"{other:.3f}", f"{own / other:.2f}", f"{own / few:.2f}")
+
+
 @measurement("Late rows, and jobs that keep the check busy")
 def late(bench):
     table("What", "`flumina`", "compared with")

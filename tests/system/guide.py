@@ -196,6 +196,16 @@ def log_to_report(page, folder):
     same(re.sub(r"^(\S+)T(\S+)Z,", r"\1 \2,", by_miller, flags=re.M), by_awk, "the same by Miller, whose dates have T and Z")
 
 
+def many_keys(page, folder):
+    """Items, from a log to the sums of each path."""
+    folder.quiet(page.block("awk 'BEGIN { for (n"))
+    for command in page.block("awk -v OFS=, '!($2").splitlines():
+        folder.quiet(command)
+    folder.write(page.code("paths.job"), page.block("version 3"))
+    out = "".join(folder.quiet(it) for it in page.block("flumina fold paths.job").splitlines())
+    same(out, page.block("/page/"), "the first lines of the sums by path")
+
+
 def late_and_open(page, folder):
     folder.write(page.code("late.csv"), page.block("100,ride,12"))
     same(folder.quiet(page.block("awk -F, '/^[0-9]/")), "31\n", page.says("prints 31"))
@@ -326,7 +336,7 @@ def refusals(page, folder):
 
 def guide(program):
     page, folder = Page("docs/GUIDE.md"), Folder(program)
-    for part in log_to_report, late_and_open, instead, steps_and_counts, go_on, refusals:
+    for part in log_to_report, many_keys, late_and_open, instead, steps_and_counts, go_on, refusals:
         part(page, folder)
     page.end()
 

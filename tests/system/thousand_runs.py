@@ -22,6 +22,7 @@ import time
 
 CONFLICT = re.compile(r"flumina: conflict: (\w+)(?:\[\d+\])? and (\w+)(?:\[\d+\])? on ")
 KEYS = 4
+ITEMS = [0, 1, 2, 3, 3, 70, 5000, 65535]
 
 
 class Job:
@@ -29,14 +30,14 @@ class Job:
 
     def __init__(self, rng):
         self.rng = rng
-        self.version = rng.choice([1, 1, 2])
+        self.version = rng.choice([1, 1, 2, 3, 3])
         self.cells = [(f"c{i}", rng.random() < 0.5, rng.choice(["sum", "max", "last"])) for i in range(rng.randint(1, 3))]
-        self.kinds = [(f"k{i}", rng.random() < 0.5, rng.random() < 0.7) for i in range(rng.randint(1, 4))]
+        self.kinds = [(f"k{i}", rng.random() < 0.5, rng.random() < 0.7, self.version == 3 and rng.random() < 0.6) for i in range(rng.randint(1, 4))]
         self.depends = set()
-        self.actions = [[self.action(keyed, valued) for _ in range(rng.randint(1, 3))] for _, keyed, valued in self.kinds]
+        self.actions = [[self.action(*kind[1:]) for _ in range(rng.randint(1, 3))] for kind in self.kinds]
         for actions, kind in zip(self.actions, self.kinds):
             if rng.random() < 0.4:
-                actions.append(self.emit(kind[1]))
+                actions.append(self.emit(kind[1], kind[3]))
         self.sources = [(f"s{i}", rng.randint(1, 50), self.listed()) for i in range(rng.randint(1, 3))]
 
     def listed(self):
@@ -47,41 +48,48 @@ class Job:
             tags.append((kind, low, self.rng.randrange(low, KEYS) if self.kinds[kind][1] else 0))
         return tags
 
-    def cell(self, keyed):
+    def cell(self, keyed, itemed):
         """A cell of some family, as an action of a kind names it, with the family's sort."""
         name, many, sort = self.rng.choice(self.cells)
         if not many:
             return name, sort
-        return f"{name}[{'key' if keyed and self.rng.random() < 0.7 else self.rng.randrange(KEYS)}]", sort
+        words = ["key"] * 2 * keyed + ["item"] * 3 * itemed + [str(self.rng.randrange(KEYS))]
+        return f"{name}[{self.rng.choice(words)}]", sort
 
-    def number(self, keyed, valued):
+    def number(self, keyed, valued, itemed):
         """An expression of one or two parts."""
-        atoms = ["time", str(self.rng.randint(0, 9)), self.cell(keyed)[0]] + ["value"] * (3 * valued) + ["key"] * keyed
+        atoms = ["time", str(self.rng.randint(0, 9)), self.cell(keyed, itemed)[0]] + ["value"] * (3 * valued) + ["key"] * keyed + ["item"] * itemed
         if self.rng.random() < 0.6:
             return self.rng.choice(atoms)
-        return f"({self.rng.choice(atoms)} {self.rng.choice(['+', '-', '*', '<', '=='])} {self.rng.choice(atoms)})"
+        operators = ["+", "-", "*", "<", "=="] + ["/", "%"] * (self.version == 3)
+        return f"({self.rng.choice(atoms)} {self.rng.choice(operators)} {self.rng.choice(atoms)})"
 
-    def emit(self, keyed):
+    def emit(self, keyed, itemed):
         """An action that tells a cell."""
-        cell = self.cell(keyed)[0]
-        return f'emit "{cell} {{{cell}}} at {{time}}"'
+        cell = self.cell(keyed, itemed)[0]
+        return f'emit "{cell} {{{cell}}} at {{time}}{" of {item}" * itemed}"'
 
-    def action(self, keyed, valued):
+    def action(self, keyed, valued, itemed):
         """An action that fits its kind."""
-        cell, sort = self.cell(keyed)
+        cell, sort = self.cell(keyed, itemed)
         verb = {"sum": "add", "max": "raise", "last": "set"}[sort]
         many = [name for name, keyed_cells, _ in self.cells if keyed_cells]
         value = self.rng.choice(["value"] * 3 * valued + ["1", "2"])
-        forms = [f"{verb} {cell} {value}"] * 4 + [f"{verb} {cell} {self.number(keyed, valued)}", f"clear {cell}", self.emit(keyed)]
-        forms += [f'flush {name} "{name} {{key}} {{cell}}"' for name in many]
-        when = f" when {self.number(keyed, valued)}" if self.rng.random() < 0.2 else ""
+        forms = [f"{verb} {cell} {value}"] * 4 + [f"{verb} {cell} {self.number(keyed, valued, itemed)}", f"clear {cell}", self.emit(keyed, itemed)]
+        # In version 3 a flush may name any family, and a keyed one may be cleared whole.
+        beside = f" {{{self.rng.choice(self.cells)[0]}}}" * (self.version == 3) + " {item}" * itemed
+        forms += [f'flush {name} "{name} {{key}} {{cell}}{beside}"' for name in many]
+        forms += [f"clear {name}" for name in many if self.version == 3]
+        when = f" when {self.number(keyed, valued, itemed)}" if self.rng.random() < 0.2 else ""
         return self.rng.choice(forms) + when
 
     def text(self):
         """The job's text."""
         lines = [f"version {self.version}"] if self.version > 1 else []
         lines += [f"cell {name} {'keyed ' if keyed else ''}{sort}" for name, keyed, sort in self.cells]
-        lines += [f"tag {name} {'keyed ' if keyed else ''}{'int' if valued else 'none'}" for name, keyed, valued in self.kinds]
+        lines += [
+            f"tag {name} {'keyed ' if keyed else ''}{'item ' if itemed else ''}{'int' if valued else 'none'}" for name, keyed, valued, itemed in self.kinds
+        ]
         lines += [f"depends {self.kinds[a][0]} {self.kinds[b][0]}{' same' if same else ''}" for a, b, same in sorted(self.depends)]
         lines += [f"on {kind[0]}: {'; '.join(actions)}" for kind, actions in zip(self.kinds, self.actions)]
         for name, rate, tags in self.sources:
@@ -154,8 +162,10 @@ class Job:
         for _ in range(self.rng.choice([0, 2, 10, 30, 60])):
             time_now += self.rng.choice([1, 1, 1, 2, 5])
             kind, low, high = self.rng.choice(tags)
-            name, keyed, valued = self.kinds[kind]
+            name, keyed, valued, itemed = self.kinds[kind]
             tag = f"{name}[{self.rng.randint(low, high)}]" if keyed else name
+            if itemed:
+                tag += f",{self.rng.choice(ITEMS)}"
             value = f",{self.rng.randint(-9, 9)}" if valued else ""
             lines.append(f"{time_now},beat" if self.rng.random() < 0.15 else f"{time_now},{tag}{value}")
         return "\n".join(lines + ["end"]) + "\n"

@@ -1,25 +1,23 @@
 -- Cells that have a slot in a table, and cells that have none.
 use Rattle.std.proofs.Common.{◌≡◌, ◌<◌, ◌≤◌, ◌+◌, ◌/◌, ◌%◌, ℕ, Bool, true, false, cond, Option, Some, None, refl, sym, ap, ◌∙◌, arith}
-use Rattle.std.specs.Prelude.{◌==◌, ◌&&◌, ◌||◌, nat_lt, is_some, IsSome, IfNone, Result, Ok, Err, OnErr}
-use Rattle.std.specs.BTreeMap.{BTreeMap}
+use Rattle.std.specs.Prelude.{◌==◌, ◌&&◌, ◌||◌, nat_lt, is_some, IsSome, IfNone}
 use Rattle.std.proofs.lemmas.Bool.{ne_eqb, eqb-false, ltb-false}
 use Rattle.flu_lemmas.proofs.Numbers.{same_number}
 use Rattle.flu_lemmas.proofs.Searches.{eq_true}
-use Rattle.flu_lemmas.proofs.Tests.{and_left, and_right, both, true_lt, lt_true, not_both}
+use Rattle.flu_lemmas.proofs.Tests.{and_right, both, true_lt, lt_true, not_both}
 use Rattle.flu_lemmas.proofs.TwoNumbers.{made_alike}
 use Rattle.flu_model.specs.declared.events.Cell.{Cell}
 use Rattle.flu_model.specs.declared.events.Worth.{Worth}
 use Rattle.flu_model.specs.Contents.{Contents, cell, is_same_cell, nothing_held, with_worth, join, joined_worth, key_count}
 use Rattle.flu_dense.specs.declared.table.Dense.{Dense}
+use Rattle.flu_dense.specs.declared.sparse.Sparse.{Sparse}
 use Rattle.flu_dense.specs.Holding.{value_at}
 use Rattle.flu_dense.specs.Values.{with_value}
 use Rattle.flu_cells.specs.Entries.{is_near, slot_of, near_held, far_held, contents_of, HasFarAlone, HasKeysInRange}
 use Rattle.flu_cells.proofs.Moves.{joined-none}
+use Rattle.flu_cells.proofs.Numbered.{apart, numbered-with}
 
 -- ---- slots
-pub near_family : (c : Cell) → is_near c ≡ true → c.family < 64
-near_family c near = true_lt c.family 64 (and_left _ _ near)
-
 pub near_key : (c : Cell) → is_near c ≡ true → c.key < 64
 near_key c near = true_lt c.key 64 (and_right _ _ near)
 
@@ -37,14 +35,6 @@ one_slot c d near_c near_d =
     alike : c.key < 64 → d.key < 64 → slot_of d ≡ slot_of c → is_same_cell d c ≡ true
     alike lt_c lt_d e = both _ _ (eq_true d.family c.family (omega arith)) (eq_true d.key c.key (omega arith))
 
--- a cell without a slot is another cell than one with a slot
-pub apart : (c d : Cell) → is_near c ≡ true → is_near d ≡ false → is_same_cell d c ≡ false
-apart c d near_c far_d =
-    elim (is_same_cell d c) as (λ b. is_same_cell d c ≡ b → b ≡ false) [
-      | true ↦ λ same. absurd (not_both (is_near d) (ap is_near (made_alike cell d.family d.key c.family c.key same) ∙ near_c) far_d)
-      | false ↦ λ other. refl
-    ] refl
-
 pub apart_far : (c d : Cell) → is_near c ≡ false → is_near d ≡ true → is_same_cell d c ≡ false
 apart_far c d far_c near_d =
     elim (is_same_cell d c) as (λ b. is_same_cell d c ≡ b → b ≡ false) [
@@ -61,34 +51,24 @@ pub near_held-far : (near : Dense Worth) (c : Cell) → is_near c ≡ false → 
 unfolding near_held
 near_held-far near c is = ap (λ b. cond b (value_at near (slot_of c)) None) is
 
-pub contents-near : (near : Dense Worth) (far : BTreeMap Cell Worth) (c : Cell) → is_near c ≡ true → contents_of near far c ≡ near_held near c
+pub contents-near : (near : Dense Worth) (far : Sparse Worth) (c : Cell) → is_near c ≡ true → contents_of near far c ≡ near_held near c
 unfolding contents_of
 contents-near near far c is = ap (λ b. cond b (near_held near c) (far_held far c)) is
 
-pub contents-far : (near : Dense Worth) (far : BTreeMap Cell Worth) (c : Cell) → is_near c ≡ false → contents_of near far c ≡ far_held far c
+pub contents-far : (near : Dense Worth) (far : Sparse Worth) (c : Cell) → is_near c ≡ false → contents_of near far c ≡ far_held far c
 unfolding contents_of
 contents-far near far c is = ap (λ b. cond b (near_held near c) (far_held far c)) is
 
-pub in_slot : (near : Dense Worth) (far : BTreeMap Cell Worth) (c : Cell) → is_near c ≡ true → contents_of near far c ≡ value_at near (slot_of c)
+pub in_slot : (near : Dense Worth) (far : Sparse Worth) (c : Cell) → is_near c ≡ true → contents_of near far c ≡ value_at near (slot_of c)
 in_slot near far c is = contents-near near far c is ∙ near_held-at near c is
 
 -- ---- one cell that changes
 pub near_held-with : (near then : Dense Worth) (c : Cell) (w : Option Worth) → is_near c ≡ true → value_at then ≡ with_value (value_at near) (slot_of c) w
     → near_held then ≡ with_worth (near_held near) c w
-near_held-with near then c w is changed = λ i d. at d i
-  where
-    at : (d : Cell) → near_held then d ≡ with_worth (near_held near) c w d
-    at d =
-        elim (is_near d) as (λ b. is_near d ≡ b → near_held then d ≡ with_worth (near_held near) c w d) [
-          | true ↦ λ near_d.
-              near_held-at then d near_d ∙ ap (λ m. m (slot_of d)) changed
-              ∙ ap (λ b. cond b w (value_at near (slot_of d))) (one_slot c d is near_d)
-              ∙ ap (cond (is_same_cell d c) w) (sym (near_held-at near d near_d))
-          | false ↦ λ far_d.
-              near_held-far then d far_d ∙ sym (near_held-far near d far_d) ∙ ap (λ b. cond b w (near_held near d)) (sym (apart c d is far_d))
-        ] refl
+unfolding near_held
+near_held-with near then c w is changed = numbered-with is_near slot_of one_slot (value_at near) (value_at then) c w is changed
 
-pub contents-near_with : (near then : Dense Worth) (far : BTreeMap Cell Worth) (c : Cell) (w : Option Worth) → is_near c ≡ true
+pub contents-near_with : (near then : Dense Worth) (far : Sparse Worth) (c : Cell) (w : Option Worth) → is_near c ≡ true
     → value_at then ≡ with_value (value_at near) (slot_of c) w → contents_of then far ≡ with_worth (contents_of near far) c w
 contents-near_with near then far c w is changed = λ i d. at d i
   where
@@ -99,10 +79,10 @@ contents-near_with near then far c w is changed = λ i d. at d i
               contents-near then far d near_d ∙ ap (λ s. s d) (near_held-with near then c w is changed)
               ∙ ap (cond (is_same_cell d c) w) (sym (contents-near near far d near_d))
           | false ↦ λ far_d.
-              contents-far then far d far_d ∙ sym (contents-far near far d far_d) ∙ ap (λ b. cond b w (contents_of near far d)) (sym (apart c d is far_d))
+              contents-far then far d far_d ∙ sym (contents-far near far d far_d) ∙ ap (λ b. cond b w (contents_of near far d)) (sym (apart is_near c d is far_d))
         ] refl
 
-pub contents-far_with : (near : Dense Worth) (far then : BTreeMap Cell Worth) (c : Cell) (w : Option Worth) → is_near c ≡ false
+pub contents-far_with : (near : Dense Worth) (far then : Sparse Worth) (c : Cell) (w : Option Worth) → is_near c ≡ false
     → far_held then ≡ with_worth (far_held far) c w → contents_of near then ≡ with_worth (contents_of near far) c w
 contents-far_with near far then c w is changed = λ i d. at d i
   where
@@ -116,7 +96,7 @@ contents-far_with near far then c w is changed = λ i d. at d i
               contents-far near then d far_d ∙ ap (λ s. s d) changed ∙ ap (cond (is_same_cell d c) w) (sym (contents-far near far d far_d))
         ] refl
 
-pub far_alone-with : (far then : BTreeMap Cell Worth) (c : Cell) (w : Option Worth) → is_near c ≡ false → far_held then ≡ with_worth (far_held far) c w
+pub far_alone-with : (far then : Sparse Worth) (c : Cell) (w : Option Worth) → is_near c ≡ false → far_held then ≡ with_worth (far_held far) c w
     → HasFarAlone far → HasFarAlone then
 far_alone-with far then c w is changed alone d v e =
     elim (is_same_cell d c) as (λ b. is_same_cell d c ≡ b → cond b w (far_held far d) ≡ Some v → is_near d ≡ false) [
@@ -125,15 +105,15 @@ far_alone-with far then c w is changed alone d v e =
     ] refl (sym (ap (λ s. s d) changed) ∙ e)
 
 -- ---- where nothing changes
-pub contents-same : (near then : Dense Worth) (far far_then : BTreeMap Cell Worth) → value_at then ≡ value_at near → far_held far_then ≡ far_held far
+pub contents-same : (near then : Dense Worth) (far far_then : Sparse Worth) → value_at then ≡ value_at near → far_held far_then ≡ far_held far
     → contents_of then far_then ≡ contents_of near far
 unfolding contents_of near_held
 contents-same near then far far_then e f = λ i c. cond (is_near c) (cond (is_near c) (e i (slot_of c)) None) (f i c)
 
-pub far_alone-same : (far then : BTreeMap Cell Worth) → far_held then ≡ far_held far → HasFarAlone far → HasFarAlone then
+pub far_alone-same : (far then : Sparse Worth) → far_held then ≡ far_held far → HasFarAlone far → HasFarAlone then
 far_alone-same far then same alone c w e = alone c w (sym (ap (λ s. s c) same) ∙ e)
 
-pub contents-none : (near : Dense Worth) (far : BTreeMap Cell Worth) → ((s : ℕ) → value_at near s ≡ None) → far_held far ≡ nothing_held
+pub contents-none : (near : Dense Worth) (far : Sparse Worth) → ((s : ℕ) → value_at near s ≡ None) → far_held far ≡ nothing_held
     → contents_of near far ≡ nothing_held
 contents-none near far e f = λ i c. at c i
   where
@@ -145,14 +125,14 @@ contents-none near far e f = λ i c. at c i
         ] refl
 
 -- ---- the two parts of a state
-pub near_part : (near : Dense Worth) (far : BTreeMap Cell Worth) (c : Cell) (w : Worth) → near_held near c ≡ Some w → contents_of near far c ≡ Some w
+pub near_part : (near : Dense Worth) (far : Sparse Worth) (c : Cell) (w : Worth) → near_held near c ≡ Some w → contents_of near far c ≡ Some w
 near_part near far c w e =
     elim (is_near c) as (λ b. is_near c ≡ b → contents_of near far c ≡ Some w) [
       | true ↦ λ is. contents-near near far c is ∙ e
       | false ↦ λ is. let none : near_held near c ≡ None = near_held-far near c is in cc
     ] refl
 
-pub far_part : (near : Dense Worth) (far : BTreeMap Cell Worth) → HasFarAlone far → (c : Cell) (w : Worth) → far_held far c ≡ Some w
+pub far_part : (near : Dense Worth) (far : Sparse Worth) → HasFarAlone far → (c : Cell) (w : Worth) → far_held far c ≡ Some w
     → contents_of near far c ≡ Some w
 far_part near far alone c w e = contents-far near far c (alone c w e) ∙ e
 
@@ -160,21 +140,21 @@ pub none_of : (o : Option Worth) → ((w : Worth) → o ≡ Some w → ⊥) → 
 none_of None never = refl
 none_of (Some w) never = absurd (never w refl)
 
--- a cell with a slot is not in the map
-pub far_none : (far : BTreeMap Cell Worth) (c : Cell) → HasFarAlone far → is_near c ≡ true → far_held far c ≡ None
+-- a cell with a slot is not held in its place
+pub far_none : (far : Sparse Worth) (c : Cell) → HasFarAlone far → is_near c ≡ true → far_held far c ≡ None
 far_none far c alone is = none_of (far_held far c) (λ w e. not_both (is_near c) is (alone c w e))
 
-pub near_nothing : (near : Dense Worth) (far : BTreeMap Cell Worth) → contents_of near far ≡ nothing_held → near_held near ≡ nothing_held
+pub near_nothing : (near : Dense Worth) (far : Sparse Worth) → contents_of near far ≡ nothing_held → near_held near ≡ nothing_held
 near_nothing near far none = λ i c. none_of (near_held near c)
     (λ w e. let is : contents_of near far c ≡ Some w = near_part near far c w e in let never : contents_of near far c ≡ None = ap (λ s. s c) none in cc) i
 
-pub far_nothing : (near : Dense Worth) (far : BTreeMap Cell Worth) → HasFarAlone far → contents_of near far ≡ nothing_held → far_held far ≡ nothing_held
+pub far_nothing : (near : Dense Worth) (far : Sparse Worth) → HasFarAlone far → contents_of near far ≡ nothing_held → far_held far ≡ nothing_held
 far_nothing near far alone none =
     λ i c. none_of (far_held far c) (λ w e. let is : contents_of near far c ≡ Some w = far_part near far alone c w e in
     let never : contents_of near far c ≡ None = ap (λ s. s c) none in cc) i
 
 -- a join with both parts, one after the other, is the join with the whole
-pub join-parts : (s : Contents) (near : Dense Worth) (far : BTreeMap Cell Worth) → HasFarAlone far
+pub join-parts : (s : Contents) (near : Dense Worth) (far : Sparse Worth) → HasFarAlone far
     → join (join s (near_held near)) (far_held far) ≡ join s (contents_of near far)
 join-parts s near far alone = λ i c. at c i
   where
@@ -218,7 +198,7 @@ with_none s c none = λ i d. at d i
           | false ↦ λ other. refl
         ] refl
 
--- a table that has lost a value holds no more than before
+-- tables that have lost a value hold no more than before
 pub near_before : (s : Contents) (c d : Cell) (w : Worth) → with_worth s c None d ≡ Some w → s d ≡ Some w
 near_before s c d w e = by_test (is_same_cell d c) e
   where
@@ -234,26 +214,6 @@ near_emptied near none = λ i c. by_test (is_near c) c i
     by_test true c = none (slot_of c)
     by_test false c = refl
 
-pub below_slot : (m then : ℕ → Option Worth) (from slot : ℕ) → then ≡ with_value m slot None → ((s : ℕ) → s < from → m s ≡ None)
-    → ((s : ℕ) → from ≤ s → s < slot → m s ≡ None) → (s : ℕ) → s < slot + 1 → then s ≡ None
-below_slot m then from slot changed before between s lt =
-    ap (λ n. n s) changed
-    ∙ elim (s == slot) as (λ b. (s == slot) ≡ b → cond b None (m s) ≡ None) [
-      | true ↦ λ e. refl
-      | false ↦ λ e.
-          elim (nat_lt s from) as (λ b. nat_lt s from ≡ b → m s ≡ None) [
-            | true ↦ λ below. before s (true_lt s from below)
-            | false ↦ λ above. between s (ltb-false s from above) (omega (arith, eqb-false s slot e))
-          ] refl
-    ] refl
-
-pub all_slots : (m : ℕ → Option Worth) (from : ℕ) → ((s : ℕ) → s < from → m s ≡ None) → ((s : ℕ) → from ≤ s → m s ≡ None) → (s : ℕ) → m s ≡ None
-all_slots m from before behind s =
-    elim (nat_lt s from) as (λ b. nat_lt s from ≡ b → m s ≡ None) [
-      | true ↦ λ below. before s (true_lt s from below)
-      | false ↦ λ above. behind s (ltb-false s from above)
-    ] refl
-
 pub none_anyway : {T P : Type 0} (o : Option T) → P → IfNone o P
 none_anyway None p = p
 none_anyway (Some x) p = tt
@@ -262,12 +222,8 @@ pub none_weaker : {T P Q : Type 0} (o : Option T) → (P → Q) → IfNone o P �
 none_weaker None f p = f p
 none_weaker (Some x) f p = tt
 
-pub err_anyway : {T E P : Type 0} (r : Result T E) → P → OnErr r P
-err_anyway (Ok x) p = tt
-err_anyway (Err e) p = p
-
 -- ---- the keys of a family, one after another
-pub by_part : (near : Dense Worth) (far : BTreeMap Cell Worth) (c : Cell) → (is_near c ≡ true → contents_of near far c ≡ None)
+pub by_part : (near : Dense Worth) (far : Sparse Worth) (c : Cell) → (is_near c ≡ true → contents_of near far c ≡ None)
     → (is_near c ≡ false → far_held far c ≡ None)
     → contents_of near far c ≡ None
 by_part near far c in_table in_map =

@@ -1,24 +1,20 @@
 -- A state that is parted by tests on its cells, one after another.
-use Rattle.std.proofs.Common.{◌≡◌, ◌<◌, ◌≤◌, ℕ, Bool, true, false, cond, Option, Some, None, List, [], ◌∷◌, refl, sym, ap, subst, ◌∙◌, arith}
-use Rattle.std.specs.Prelude.{◌==◌, ◌&&◌, ◌||◌, not, nat_lt, is_some, IfSome, slice_get}
+use Rattle.std.proofs.Common.{◌≡◌, ◌<◌, ℕ, Bool, true, false, cond, Option, Some, None, List, [], ◌∷◌, refl, sym, ap, subst, ◌∙◌, arith}
+use Rattle.std.specs.Prelude.{◌==◌, ◌&&◌, ◌||◌, not, is_some}
 use Rattle.std.specs.List.{list_any, filter, range_with_len}
-use Rattle.std.specs.Ordering.{nat_cmp, is_gt}
-use Rattle.std.specs.BTreeMap.{BTreeMap, is_at}
-use Rattle.std.specs.BTreeMap.Range.{IsInRange, IsRangeOf, IsLeBy, IsEntryInRange}
-use Rattle.std.specs.declared.ops.Bound.TheVariants.{Included}
-use Rattle.std.proofs.lemmas.Bool.{ltb-false}
+use Rattle.std.specs.Ordering.{nat_cmp}
+use Rattle.std.specs.BTreeMap.{is_at}
 use Rattle.std.proofs.lemmas.Grind.{common_steps}
 use Rattle.flu_lemmas.proofs.Numbers.{same_number}
 use Rattle.flu_lemmas.proofs.Ranges.{any_in_range}
-use Rattle.flu_lemmas.proofs.Tests.{true_eq, true_lt, not_both}
+use Rattle.flu_lemmas.proofs.Tests.{true_eq, not_both}
 use Rattle.flu_lemmas.proofs.TwoNumbers.{made_alike}
 use Rattle.flu_model.specs.declared.events.Cell.{Cell}
 use Rattle.flu_model.specs.declared.events.Worth.{Worth}
 use Rattle.flu_model.specs.Contents.{Contents, cell, is_same_cell, with_worth, key_count, all_keys, held_keys, without_family}
 use Rattle.flu_model.specs.Order.{cell_cmp}
-use Rattle.flu_cells.specs.Entries.{far_held, overlay, HasKeysInRange}
+use Rattle.flu_cells.specs.Entries.{overlay, HasKeysInRange}
 use Rattle.flu_cells.specs.Sets.{only, Moves}
-use Rattle.flu_cells.proofs.NearLemmas.{none_of}
 
 -- ---- the tests of a set
 abbrev pub in_families : List ℕ → Cell → Bool
@@ -38,6 +34,18 @@ first_family f fs = λ i c. at_family c.family f i || in_families fs c
 
 pub first_cell : (d : Cell) (cs : List Cell) → in_cells (d ∷ cs) ≡ (λ c. is_same_cell c d || in_cells cs c)
 first_cell d cs = λ i c. at_cell c d i || in_cells cs c
+
+-- a family but the cells of a test, before other families but these
+distributed : (a b q : Bool) → ((a || b) && q) ≡ ((a && q) || (b && q))
+distributed true true true = refl
+distributed true true false = refl
+distributed true false true = refl
+distributed true false false = refl
+distributed false b q = refl
+
+pub first_family_but : (q : Cell → Bool) (f : ℕ) (fs : List ℕ)
+    → ◌≡◌ {A = Cell → Bool} (λ c. in_families (f ∷ fs) c && q c) (λ c. ((c.family == f) && q c) || (in_families fs c && q c))
+first_family_but q f fs = λ i c. ((λ j. first_family f fs j c && q c) ∙ distributed (c.family == f) (in_families fs c) (q c)) i
 
 -- ---- one test after another
 only_then : (a b : Bool) (o : Option Worth) → cond (not b) (cond (not a) o None) None ≡ cond (not (a || b)) o None
@@ -157,7 +165,7 @@ some_there : (o : Option Worth) (w : Worth) → o ≡ Some w → is_some o ≡ t
 some_there o w e = ap is_some e
 
 -- the cells of a family with held keys are all of it that hold something
-pub by_keys : (s : Contents) (f : ℕ) → HasKeysInRange s → only (λ c. (c.family == f) && has_key (held_keys s f) c.key) s ≡ only (λ c. c.family == f) s
+by_keys : (s : Contents) (f : ℕ) → HasKeysInRange s → only (λ c. (c.family == f) && has_key (held_keys s f) c.key) s ≡ only (λ c. c.family == f) s
 by_keys s f bounded = λ i c. at c (s c) refl i
   where
     at : (c : Cell) (o : Option Worth) → s c ≡ o → only (λ d. (d.family == f) && has_key (held_keys s f) d.key) s c ≡ only (λ d. d.family == f) s c
@@ -179,49 +187,23 @@ by_keys s f bounded = λ i c. at c (s c) refl i
           | false ↦ λ other. refl
         ] refl
 
--- ---- the range of a family from a key on
-within_ends : (f from j : ℕ) → from ≤ j → j < key_count → IsInRange cell_cmp (Included (cell f from)) (Included (cell f 65535)) (cell f j)
-within_ends f from j le lt = (grind (arith, common_steps), grind (arith, common_steps))
+-- one test within another
+and_within : (a b : Bool) (o : Option Worth) → cond (a && b) o None ≡ cond b (cond a o None) None
+and_within true true o = refl
+and_within true false o = refl
+and_within false true o = refl
+and_within false false o = refl
 
-in_family : (f from : ℕ) (c : Cell) → IsLeBy cell_cmp (cell f from) c → IsLeBy cell_cmp c (cell f 65535) → c.family ≡ f
-in_family f from c low high = grind (arith, common_steps)
+only_and : (p q : Cell → Bool) (s : Contents) → only (λ c. p c && q c) s ≡ only q (only p s)
+only_and p q s = λ i c. and_within (p c) (q c) (s c) i
 
-after : (c d : Cell) → c.family ≡ d.family → d.key < c.key → is_gt (cell_cmp c d) ≡ true
-after c d same lt = grind (arith, common_steps)
-
-last_key : (f : ℕ) (c : Cell) → c.family ≡ f → IsLeBy cell_cmp c (cell f 65535) → c.key ≤ 65535
-last_key f c same high =
-    elim (nat_lt 65535 c.key) as (λ b. nat_lt 65535 c.key ≡ b → c.key ≤ 65535) [
-      | true ↦ λ e. absurd (not_both (is_gt (cell_cmp c (cell f 65535))) (after c (cell f 65535) same (true_lt 65535 c.key e)) high)
-      | false ↦ λ e. ltb-false 65535 c.key e
-    ] refl
-
--- such a range, by its ends
-of_ends : (m : BTreeMap Cell Worth) (f from : ℕ) (first last : Cell) (es : List (Cell × Worth)) → first ≡ cell f from → last ≡ cell f 65535
-    → IsRangeOf cell_cmp (Included first) (Included last) m es → IsRangeOf cell_cmp (Included (cell f from)) (Included (cell f 65535)) m es
-of_ends m f from first last es is_first is_last r =
-    subst (λ d. IsRangeOf cell_cmp (Included (cell f from)) (Included d) m es) is_last
-    (subst (λ d. IsRangeOf cell_cmp (Included d) (Included last) m es) is_first r)
-
-pub none_there : (m : BTreeMap Cell Worth) (f from : ℕ) (first last : Cell) (es : List (Cell × Worth)) → first ≡ cell f from → last ≡ cell f 65535
-    → IsRangeOf cell_cmp (Included first) (Included last) m es → es ≡ [] → (j : ℕ) → from ≤ j → j < key_count → far_held m (cell f j) ≡ None
-none_there m f from first last es is_first is_last r none j le lt =
-    (of_ends m f from first last es is_first is_last r).5 none (cell f j) (within_ends f from j le lt)
-
-pub none_before_first : (m : BTreeMap Cell Worth) (f from : ℕ) (first last : Cell) (es rest : List (Cell × Worth)) (e : Cell × Worth) → first ≡ cell f from
-    → last ≡ cell f 65535
-    → IsRangeOf cell_cmp (Included first) (Included last) m es → es ≡ e ∷ rest → (j : ℕ) → from ≤ j → j < e.0.key → far_held m (cell f j) ≡ None
-none_before_first m f from first last es rest e is_first is_last r there j le before =
-    let range = of_ends m f from first last es is_first is_last r in
-    let at : IsEntryInRange cell_cmp (Included (cell f from)) (Included (cell f 65535)) m e =
-    subst (λ xs. IfSome (slice_get xs 0) (IsEntryInRange cell_cmp (Included (cell f from)) (Included (cell f 65535)) m)) there range.1 in
-    let same : e.0.family ≡ f = in_family f from e.0 at.0.0 at.0.1 in
-    let lt : j < key_count = omega (arith, before, last_key f e.0 same at.0.1) in
-    let gt : is_gt (cell_cmp e.0 (cell f j)) ≡ true = after e.0 (cell f j) same before in
-    none_of (far_held m (cell f j)) (λ w is.
-    let least : is_gt (cell_cmp e.0 (cell f j)) ≡ false =
-    subst (λ xs. IfSome (slice_get xs 0) (λ d. IsLeBy cell_cmp d.0 (cell f j))) there (range.2 (cell f j) (within_ends f from j le lt) (ap is_some is)) in
-    not_both (is_gt (cell_cmp e.0 (cell f j))) gt least)
+-- the same for the cells of a family that pass a further test
+pub by_keys_but : (q : Cell → Bool) (s : Contents) (f : ℕ) → HasKeysInRange s
+    → only (λ c. (c.family == f) && has_key (held_keys s f) c.key && q c) s ≡ only (λ c. (c.family == f) && q c) s
+by_keys_but q s f bounded =
+    only_and (λ c. (c.family == f) && has_key (held_keys s f) c.key) q s
+    ∙ ap (only q) (by_keys s f bounded)
+    ∙ sym (only_and (λ c. c.family == f) q s)
 
 -- ---- a family that is cleared, one cell after another
 pub cleared_more : (p : Cell → Bool) (s s' : Contents) (k : Cell) → p k ≡ true → s' ≡ with_worth s k None → only (λ c. not (p c)) s' ≡ only (λ c. not (p c)) s
@@ -245,24 +227,62 @@ cleared_none p s none = λ i c. at c i
           | false ↦ λ here. refl
         ] refl
 
--- ---- a family that is copied, one cell after another
-grouped : (f a b : Bool) → ((f && a) || (f && b)) ≡ (f && (a || b))
-grouped true a b = refl
-grouped false a b = refl
-
-pub copied_key : (s t t' : Contents) (f k : ℕ) (ks : List ℕ) → t' ≡ overlay t (only (λ c. is_same_cell c (cell f k)) s)
-    → overlay t' (only (λ c. (c.family == f) && has_key ks c.key) s) ≡ overlay t (only (λ c. (c.family == f) && has_key (k ∷ ks) c.key) s)
-copied_key s t t' f k ks copied =
-    ap (λ u. overlay u (only (λ c. (c.family == f) && has_key ks c.key) s)) copied
-    ∙ copied_then (λ c. is_same_cell c (cell f k)) (λ c. (c.family == f) && has_key ks c.key) s t
-    ∙ (λ i. overlay t (only (λ c. grouped (c.family == f) (c.key == k) (has_key ks c.key) i) s))
-
-pub copied_none : (s t : Contents) (f : ℕ) → overlay t (only (λ c. (c.family == f) && has_key [] c.key) s) ≡ t
-copied_none s t f = λ i c. at (c.family == f) (s c) (t c) i
+-- ---- a family that is cleared but for some cells
+-- what is behind more cells is the same where only these were left out before
+pub left_more : (p here : Cell → Bool) (s : Contents) → ((c : Cell) → here c ≡ true → p c ≡ true)
+    → only (λ c. not (p c)) (only (λ c. not (here c)) s) ≡ only (λ c. not (p c)) s
+left_more p here s within_p = λ i c. at c i
   where
-    at : (b : Bool) (u o : Option Worth) → over o (cond (b && false) u None) ≡ o
-    at true u o = refl
-    at false u o = refl
+    at : (c : Cell) → only (λ d. not (p d)) (only (λ d. not (here d)) s) c ≡ only (λ d. not (p d)) s c
+    at c =
+        elim (here c) as (λ b. here c ≡ b → cond (not (p c)) (cond (not b) (s c) None) None ≡ cond (not (p c)) (s c) None) [
+          | true ↦ λ e. ap (λ b. cond {A = Option Worth} (not b) None None) (within_p c e) ∙ ap (λ b. cond (not b) (s c) None) (sym (within_p c e))
+          | false ↦ λ other. refl
+        ] refl
+
+same_and_more : (same q : Bool) (o : Option Worth) → cond q (cond (not (same && q)) o None) None ≡ cond same None (cond q o None)
+same_and_more true true o = refl
+same_and_more true false o = refl
+same_and_more false true o = refl
+same_and_more false false o = refl
+
+-- a cell of the test is cleared, and one that is not of it is none of those that count
+pub cleared_one : (q : Cell → Bool) (s : Contents) (k : Cell) → only q (only (λ c. not (is_same_cell c k && q c)) s) ≡ with_worth (only q s) k None
+cleared_one q s k = λ i c. same_and_more (is_same_cell c k) (q c) (s c) i
+
+-- what a cell holds within a test
+pub none_within : (q : Cell → Bool) (s : Contents) (c : Cell) → s c ≡ None → only q s c ≡ None
+none_within q s c e = ap (λ o. cond (q c) o None) e ∙ both_none (q c)
+  where
+    both_none : (b : Bool) → cond {A = Option Worth} b None None ≡ None
+    both_none true = refl
+    both_none false = refl
+
+pub shown_within : (q : Cell → Bool) (s : Contents) (c : Cell) → q c ≡ true → only q s c ≡ None → s c ≡ None
+shown_within q s c here none = sym (ap (λ b. cond b (s c) None) here) ∙ none
+
+-- ---- a family that is copied, one cell after another
+-- of a family the cells that pass a test, with one key before others
+grouped : (f a b q : Bool) → ((f && a && q) || (f && b && q)) ≡ (f && (a || b) && q)
+grouped true true b true = refl
+grouped true true true false = refl
+grouped true true false false = refl
+grouped true false b q = refl
+grouped false a b q = refl
+
+pub copied_key : (q : Cell → Bool) (s t t' : Contents) (f k : ℕ) (ks : List ℕ) → t' ≡ overlay t (only (λ c. is_same_cell c (cell f k) && q c) s)
+    → overlay t' (only (λ c. (c.family == f) && has_key ks c.key && q c) s) ≡ overlay t (only (λ c. (c.family == f) && has_key (k ∷ ks) c.key && q c) s)
+copied_key q s t t' f k ks copied =
+    ap (λ u. overlay u (only (λ c. (c.family == f) && has_key ks c.key && q c) s)) copied
+    ∙ copied_then (λ c. is_same_cell c (cell f k) && q c) (λ c. (c.family == f) && has_key ks c.key && q c) s t
+    ∙ (λ i. overlay t (only (λ c. grouped (c.family == f) (c.key == k) (has_key ks c.key) (q c) i) s))
+
+pub copied_none : (q : Cell → Bool) (s t : Contents) (f : ℕ) → overlay t (only (λ c. (c.family == f) && has_key [] c.key && q c) s) ≡ t
+copied_none q s t f = λ i c. at (c.family == f) (q c) (s c) (t c) i
+  where
+    at : (b a : Bool) (u o : Option Worth) → over o (cond (b && false && a) u None) ≡ o
+    at true a u o = refl
+    at false a u o = refl
 
 -- ---- one step of a walk over a set, where `rest` is what is left before it, and `then` what is left behind it
 pub clear_step : (here then rest : Cell → Bool) (s s' e : Contents) → rest ≡ (λ c. here c || then c) → only (λ c. not (rest c)) s ≡ e

@@ -1,8 +1,8 @@
 //! Sets of cells, by whole families and by single cells.
 
-ghost use Rattle.std.specs.Prelude.{◌≡◌, ◌==◌, ◌||◌, false, OnOk, OnErr};
+ghost use Rattle.std.specs.Prelude.{◌≡◌, ◌==◌, ◌&&◌, ◌||◌, not, false, OnOk, OnErr};
 ghost use Rattle.flu_model.specs.Contents.{is_same_cell};
-ghost use Rattle.flu_cells.specs.Sets.{is_in};
+ghost use Rattle.flu_cells.specs.Sets.{is_in, is_in_but, has_family};
 
 use flu_model::Cell;
 use std::alloc::{AllocError, Global};
@@ -18,6 +18,8 @@ pub struct CellSet {
 }
 
 impl CellSet {
+    ghost use Rattle.flu_cells.specs.declared.sets.CellSet.{CellSet};
+
     /// The set without any cell. It takes no memory.
     pub fn new(alloc: Global) -> CellSet
         ensures { (c : Cell) → is_in result c ≡ false }
@@ -31,6 +33,7 @@ impl CellSet {
     /// Puts a cell in. Where memory is refused, the set has the cells that it had.
     pub fn add(&mut self, c: Cell) -> Result<(), AllocError>
         ensures ok { OnOk result ((d : Cell) → is_in self.new d ≡ (is_in self.old d || is_same_cell c d)) }
+        ensures single { OnOk result ((other : CellSet) (d : Cell) → is_in_but other self.new d ≡ (is_in_but other self.old d || is_same_cell c d)) }
         ensures err { OnErr result ((d : Cell) → is_in self.new d ≡ is_in self.old d) }
     {
         self.single.insert(c)?;
@@ -40,10 +43,19 @@ impl CellSet {
     /// Puts all cells of a family in. Where memory is refused, the set has the cells that it had.
     pub fn add_family(&mut self, family: u32) -> Result<(), AllocError>
         ensures ok { OnOk result ((d : Cell) → is_in self.new d ≡ (is_in self.old d || (d.family == family))) }
+        ensures whole { OnOk result ((other : CellSet) (d : Cell)
+            → is_in_but other self.new d ≡ (is_in_but other self.old d || (not (is_in other d) && (d.family == family)))) }
         ensures err { OnErr result ((d : Cell) → is_in self.new d ≡ is_in self.old d) }
     {
         self.whole.insert(family)?;
         Ok(())
+    }
+
+    /// Whether all cells of a family were put in at once.
+    pub fn has_family(&self, family: u32) -> bool
+        ensures { result ≡ has_family self.now family }
+    {
+        self.whole.contains(&family)
     }
 
     /// Whether a cell is in the set. Neither the families nor the cells are gone through.

@@ -1,40 +1,39 @@
 //! A state, which holds a value in each cell that is not neutral (`docs/MODEL.md`).
 
-ghost use Rattle.std.specs.BTreeMap as tree;
-ghost use Rattle.std.specs.Prelude.{◌≡◌, ◌+◌, ◌*◌, ◌<◌, ◌≤◌, ◌==◌, ◌&&◌, ℕ, map, not, true, false, is_some, Some, None, OnOk, OnErr, IfOk, IsOk, IsSome};
-ghost use Rattle.std.specs.Prelude.{IfSome, IfNone};
-ghost use Rattle.std.specs.List.{filter};
+ghost use Rattle.std.specs.Prelude.{◌≡◌, ◌&&◌, ◌+◌, ◌*◌, ◌<◌, ◌≤◌, ◌==◌, ℕ, not, true, false, Some, None, OnOk, OnErr, IfOk, IsOk, IsSome, IfSome, IfNone};
 ghost use Rattle.flu_model.specs.Contents.{cell, is_same_cell, nothing_held, with_worth, held_sum, added, raised, held_keys, key_count, without_family, join};
 ghost use Rattle.flu_model.specs.Contents.{joined_worth};
-ghost use Rattle.flu_model.specs.Order.{cell_cmp};
-ghost use Rattle.flu_dense.specs.Holding.{value_at};
+ghost use Rattle.flu_dense.specs.Holding.{value_at, value_for};
 ghost use Rattle.flu_dense.specs.Values.{with_value};
-ghost use Rattle.flu_cells.specs.Entries.{is_near, slot_of, slot_keys, near_held, far_held, contents_of, overlay, IsWithoutNeutral, HasKeysInRange};
-ghost use Rattle.flu_cells.specs.Entries.{HasFarAlone, IsWorthKept, entries_of_family};
+ghost use Rattle.flu_cells.specs.Entries.{is_near, slot_of, near_held, has_place, place_of, far_held, contents_of, overlay};
+ghost use Rattle.flu_cells.specs.Entries.{IsWithoutNeutral, HasKeysInRange, HasFarAlone, IsWorthKept};
 
 use crate::sets::CellSet;
-use flu_dense::Dense;
+use flu_dense::{Dense, Sparse};
 use flu_model::{Cell, Worth};
 use std::alloc::{AllocError, Global};
-use std::collections::BTreeMap;
 
-// The greatest key of a keyed family.
-const LAST_KEY: u32 = 65_535;
+// How many keys a keyed family has.
+const KEYS: u32 = 65_536;
 
 // The families and keys below this have slots in a table.
 const NEAR: u32 = 64;
+
+// How many places a family has: one for each number that a key can have.
+const PLACES: u64 = 4_294_967_296;
 
 /// What each cell holds: a finite map from cells to values that are not neutral. A cell that is not in it is neutral.
 ///
 /// Contracts see it as the function `held` from each cell to what it holds, if anything. Two facts always hold of it: no
 /// cell holds a neutral value (a sum of 0), and each cell that holds something has a key from 0 to 65,535.
 ///
-/// The cells with a family and a key below 64 are in a table, in which each is found in constant time, and all others in an
-/// ordered map.
+/// The cells with a family and a key below 64 are in a table, in which each is found in constant time, and all others in
+/// tables of 4,096 keys of a family each, of which those that are in use alone take memory.
 #[derive(Drop)]
 pub struct State {
     near: Dense<Worth>,
-    far: BTreeMap<Cell, Worth>,
+    // The cell of family f and key k has the place 2^32 * f + k.
+    far: Sparse<Worth>,
     alloc: Global,
     pub ghost without_neutral: { IsWithoutNeutral (contents_of near far) },
     pub ghost keys_in_range: { HasKeysInRange (contents_of near far) },
@@ -43,7 +42,7 @@ pub struct State {
 
 impl State {
     ghost use Rattle.flu_cells.specs.Holding.{held};
-    ghost use Rattle.flu_cells.specs.Sets.{within, outside, only, Moves};
+    ghost use Rattle.flu_cells.specs.Sets.{is_in, is_in_but, within, outside, only, Moves};
 
     /// The state in which every cell is neutral. It takes no memory.
     pub fn new(alloc: Global) -> State
@@ -51,7 +50,7 @@ impl State {
     {
         State {
             near: Dense::new(alloc),
-            far: BTreeMap::new(alloc),
+            far: Sparse::new(alloc),
             alloc,
         }
     }
@@ -62,7 +61,7 @@ impl State {
     {
         match near_slot(c) {
             Some(slot) => self.near.get(slot),
-            None => self.far.get(&c).copied(),
+            None => self.far.get(far_place(c)),
         }
     }
 
@@ -126,13 +125,16 @@ impl State {
         }
     }
 
-    /// The keys of a family whose cells are not neutral, rising. Only that family's cells are gone through.
+    /// The keys of a family whose cells are not neutral, rising. Only those cells are gone through.
     pub fn keys(&self, family: u32) -> Result<Vec<u32>, AllocError>
         ensures { IfOk result (λ v. v.items ≡ held_keys (held self.now) family) }
     {
-        let mut keys = self.near_keys(family)?;
-        let far = keys_of_family(self.alloc, &self.far, family)?;
-        keys.extend_from_slice(far.as_slice())?;
+        let mut keys = Vec::new(self.alloc);
+        let mut from = 0;
+        while let Some(key) = self.next_key(family, from) {
+            keys.push(key)?;
+            from = key + 1;
+        }
         Ok(keys)
     }
 
@@ -172,14 +174,14 @@ impl State {
         Ok(taken)
     }
 
-    /// A state whose cells of a set hold what they hold here; its other cells are neutral. The set is gone through, and of
-    /// the cells those that are copied.
-    pub fn copy_of(&self, wanted: &CellSet) -> Result<State, AllocError>
-        ensures { IfOk result (λ s. held s ≡ within wanted.now (held self.now)) }
+    /// A state whose cells of a set hold what they hold here, where the set's whole families are without the cells of another
+    /// set; its other cells are neutral. The first set is gone through, and of the cells of its families those that hold something.
+    pub fn copy_of(&self, wanted: &CellSet, but: &CellSet) -> Result<State, AllocError>
+        ensures { IfOk result (λ s. held s ≡ only (is_in_but but.now wanted.now) (held self.now)) }
     {
         let mut copy = State::new(self.alloc);
         for family in &wanted.whole {
-            copy.copy_family(self, *family)?;
+            copy.copy_family(self, *family, but)?;
         }
         for cell in &wanted.single {
             copy.copy_cell(self, *cell)?;
@@ -187,13 +189,13 @@ impl State {
         Ok(copy)
     }
 
-    /// Makes the cells of a set neutral. The set is gone through, and of the cells those that hold something. It takes no
-    /// memory.
-    pub fn clear_all(&mut self, unwanted: &CellSet)
-        ensures { held self.new ≡ outside unwanted.now (held self.old) }
+    /// Makes the cells of a set neutral, where the set's whole families are without the cells of another set. The first set is
+    /// gone through, and of the cells of its families those that hold something. It takes no memory.
+    pub fn clear_all(&mut self, unwanted: &CellSet, but: &CellSet)
+        ensures { held self.new ≡ only (λ c. not (is_in_but but.now unwanted.now c)) (held self.old) }
     {
         for family in &unwanted.whole {
-            self.clear_family(*family);
+            self.clear_family_but(*family, but);
         }
         for cell in &unwanted.single {
             self.clear(*cell);
@@ -206,7 +208,7 @@ impl State {
     {
         Ok(State {
             near: self.near.copy()?,
-            far: copy_of_map(&self.far)?,
+            far: self.far.copy()?,
             alloc: self.alloc,
         })
     }
@@ -236,15 +238,47 @@ impl State {
         }
     }
 
-    // Makes the cells of a family hold what they hold in another state, if that is something.
-    fn copy_family(&mut self, other: &State, family: u32) -> Result<(), AllocError>
-        ensures { OnOk result (held self.new ≡ overlay (held self.old) (only (λ c. c.family == family) (held other.now))) }
+    // Makes the cells of a family but those of a set hold what they hold in another state, if that is something.
+    fn copy_family(&mut self, other: &State, family: u32, but: &CellSet) -> Result<(), AllocError>
+        ensures { OnOk result (held self.new
+            ≡ overlay (held self.old) (only (λ c. (c.family == family) && not (is_in but.now c)) (held other.now))) }
     {
         let keys = other.keys(family)?;
         for key in keys.as_slice() {
-            self.copy_cell(other, Cell { family, key: *key })?;
+            self.copy_cell_but(other, Cell { family, key: *key }, but)?;
         }
         Ok(())
+    }
+
+    // The same for one cell.
+    fn copy_cell_but(&mut self, other: &State, cell: Cell, but: &CellSet) -> Result<(), AllocError>
+        ensures { OnOk result (held self.new
+            ≡ overlay (held self.old) (only (λ c. is_same_cell c cell && not (is_in but.now c)) (held other.now))) }
+    {
+        if but.has(cell) {
+            return Ok(());
+        }
+        self.copy_cell(other, cell)
+    }
+
+    // Makes the cells of a family but those of a set neutral. Only those that hold something are gone through.
+    fn clear_family_but(&mut self, family: u32, but: &CellSet)
+        ensures { held self.new ≡ only (λ c. not ((c.family == family) && not (is_in but.now c))) (held self.old) }
+    {
+        let mut from = 0;
+        while let Some(key) = self.next_key(family, from) {
+            self.clear_cell_but(Cell { family, key }, but);
+            from = key + 1;
+        }
+    }
+
+    // The same for one cell.
+    fn clear_cell_but(&mut self, cell: Cell, but: &CellSet)
+        ensures { held self.new ≡ only (λ c. not (is_same_cell c cell && not (is_in but.now c))) (held self.old) }
+    {
+        if !but.has(cell) {
+            self.clear(cell);
+        }
     }
 
     // Makes a cell hold what it holds in another state, if that is something.
@@ -291,17 +325,39 @@ impl State {
         }
     }
 
-    // Joins what a map holds to this state.
-    fn absorb_far(&mut self, mut cells: BTreeMap<Cell, Worth>) -> Result<(), AllocError>
-        requires clean { IsWithoutNeutral (far_held cells) }
-        requires keys { HasKeysInRange (far_held cells) }
-        ensures ok { OnOk result (held self.new ≡ join (held self.old) (far_held cells)) }
-        ensures empty { far_held cells ≡ nothing_held → IsOk result }
+    // Joins what the tables of further keys hold to this state.
+    fn absorb_far(&mut self, mut far: Sparse<Worth>) -> Result<(), AllocError>
+        requires clean { IsWithoutNeutral (far_held far) }
+        requires keys { HasKeysInRange (far_held far) }
+        ensures ok { OnOk result (held self.new ≡ join (held self.old) (far_held far)) }
+        ensures empty { far_held far ≡ nothing_held → IsOk result }
     {
-        while let Some((cell, theirs)) = cells.pop_first() {
-            self.hold(cell, joined(self.get(cell), theirs))?;
+        let mut from = 0;
+        // the last place of all is that of no key
+        while let Some(place) = far.next(from, u64::MAX) {
+            self.absorb_place(&mut far, place)?;
+            from = place + 1;
         }
         Ok(())
+    }
+
+    // Joins what tables hold in a place to this state, and takes it out there.
+    fn absorb_place(&mut self, far: &mut Sparse<Worth>, place: u64) -> Result<(), AllocError>
+        requires clean { IsWithoutNeutral (far_held far.old) }
+        requires keys { HasKeysInRange (far_held far.old) }
+        ensures ok { OnOk result (join (held self.new) (far_held far.new) ≡ join (held self.old) (far_held far.old)) }
+        ensures left { value_for far.new ≡ with_value (value_for far.old) place None }
+    {
+        match far.unset(place) {
+            Some(theirs) => {
+                let cell = Cell {
+                    family: (place / PLACES) as u32,
+                    key: (place % PLACES) as u32,
+                };
+                self.hold(cell, joined(self.get(cell), theirs))
+            }
+            None => Ok(()),
+        }
     }
 
     // The first key of a family from a key on whose cell holds something.
@@ -332,20 +388,6 @@ impl State {
         }
     }
 
-    // The keys of a family's cells that have a slot and hold something, rising.
-    fn near_keys(&self, family: u32) -> Result<Vec<u32>, AllocError>
-        ensures { IfOk result (λ v. v.items
-            ≡ filter (λ k. is_near (cell family k) && is_some (held self.now (cell family k))) slot_keys) }
-    {
-        let mut keys = Vec::new(self.alloc);
-        let mut from = 0;
-        while let Some(key) = self.near_key(family, from) {
-            keys.push(key)?;
-            from = key + 1;
-        }
-        Ok(keys)
-    }
-
     // Takes out what a cell holds.
     fn take(&mut self, c: Cell) -> Option<Worth>
         ensures worth { result ≡ held self.old c }
@@ -353,7 +395,7 @@ impl State {
     {
         match near_slot(c) {
             Some(slot) => self.near.unset(slot),
-            None => self.far.remove(&c),
+            None => self.far.unset(far_place(c)),
         }
     }
 
@@ -382,10 +424,7 @@ impl State {
     {
         match near_slot(c) {
             Some(slot) => self.near.set(slot, w),
-            None => {
-                self.far.insert(c, w)?;
-                Ok(())
-            }
+            None => self.far.set(far_place(c), w),
         }
     }
 }
@@ -453,55 +492,22 @@ fn sum_worth(n: i128) -> Option<Worth>
     if n == 0 { None } else { Some(Worth::Sum(n)) }
 }
 
-// A map that holds the same.
-fn copy_of_map(cells: &BTreeMap<Cell, Worth>) -> Result<BTreeMap<Cell, Worth>, AllocError>
-    ensures { IfOk result (λ m. far_held m ≡ far_held cells.now) }
+// The place of a cell in the tables of further keys.
+fn far_place(c: Cell) -> u64
+    ensures place { result ≡ place_of c }
+    ensures has { has_place c ≡ true }
 {
-    Ok(cells.clone()?)
+    PLACES * u64::from(c.family) + u64::from(c.key)
 }
 
-// The keys of a family's cells in a map, rising: only the cells of that family are gone through.
-fn keys_of_family(
-    alloc: Global,
-    cells: &BTreeMap<Cell, Worth>,
-    family: u32,
-) -> Result<Vec<u32>, AllocError>
-    ensures ordered { tree.IsOrdered cell_cmp cells.now }
-    ensures listed { IfOk result (λ v. v.items ≡ map (λ e. e.0.key) (entries_of_family cells.now family)) }
+// The first key of a family from a key on whose cell has a value in the tables of further keys.
+fn far_key(far: &Sparse<Worth>, family: u32, from: u32) -> Option<u32>
+    ensures found { IfSome result (λ k. (from ≤ k) × (k < key_count) × IsSome (far_held far.now (cell family k))) }
+    ensures least { IfSome result (λ k. (j : ℕ) → from ≤ j → j < k → far_held far.now (cell family j) ≡ None) }
+    ensures none { IfNone result ((j : ℕ) → from ≤ j → j < key_count → far_held far.now (cell family j) ≡ None) }
 {
-    cells
-        .range(first_cell(family)..=last_cell(family))
-        .map(|(c, _)| c.key)
-        .collect(alloc)
-}
-
-// The first key of a family from a key on that a map has.
-fn far_key(cells: &BTreeMap<Cell, Worth>, family: u32, from: u32) -> Option<u32>
-    ensures found { IfSome result (λ k. (from ≤ k) × IsSome (far_held cells.now (cell family k))) }
-    ensures least { IfSome result (λ k. (j : ℕ) → from ≤ j → j < k → far_held cells.now (cell family j) ≡ None) }
-    ensures none { IfNone result ((j : ℕ) → from ≤ j → j < key_count → far_held cells.now (cell family j) ≡ None) }
-{
-    if from > LAST_KEY {
-        return None;
-    }
-    let first = Cell { family, key: from };
-    match cells.range(first..=last_cell(family)).next() {
-        Some((cell, _)) => Some(cell.key),
-        None => None,
-    }
-}
-
-fn first_cell(family: u32) -> Cell
-    ensures { result ≡ cell family 0 }
-{
-    Cell { family, key: 0 }
-}
-
-fn last_cell(family: u32) -> Cell
-    ensures { result ≡ cell family 65535 }
-{
-    Cell {
-        family,
-        key: LAST_KEY,
-    }
+    let first = far_place(Cell { family, key: from });
+    let end = far_place(Cell { family, key: KEYS });
+    let place = far.next(first, end)?;
+    Some((place % PLACES) as u32)
 }

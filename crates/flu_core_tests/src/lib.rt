@@ -1,4 +1,4 @@
-//! Tests of the rules of jobs, of states and their tables, and of the values of expressions. It has no code of its own.
+//! Tests of the rules of jobs, of states and their tables, of the values of expressions and of updates. It has no code of its own.
 #![tactic(auto)]
 
 #[cfg(test)]
@@ -8,4 +8,8 @@ mod states;
 #[cfg(test)]
 mod tables;
 #[cfg(test)]
+mod updates;
+#[cfg(test)]
 mod values;
+#[cfg(test)]
+mod versions;

@@ -132,7 +132,8 @@ fn versions_and_names(rt: HostRuntime) -> Result<(), Fail> {
         ("a small job", Change::Nothing, true),
         ("version 2", Change::Version(2), true),
         ("version 0", Change::Version(0), false),
-        ("version 3", Change::Version(3), false),
+        ("version 3", Change::Version(3), true),
+        ("version 4", Change::Version(4), false),
         ("an underscore", Change::Name("_"), true),
         ("no name", Change::Name(""), false),
         ("a digit first", Change::Name("9to5"), false),
@@ -173,6 +174,11 @@ fn families_cells_and_amounts(rt: HostRuntime) -> Result<(), Fail> {
         (
             "the key of an unkeyed kind",
             Change::Keys(true, false, At::OwnKey),
+            false,
+        ),
+        (
+            "an item of a kind without items",
+            Change::Keys(true, true, At::OwnItem),
             false,
         ),
         (
@@ -315,6 +321,7 @@ fn kind(
     Ok(Kind {
         name,
         keyed,
+        has_item: false,
         has_value,
         actions: List::of(actions),
     })

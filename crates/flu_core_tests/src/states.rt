@@ -176,12 +176,34 @@ fn the_cells_of_a_set_are_copied_and_cleared(rt: HostRuntime) -> Result<(), Fail
     for (cell, is_in) in cases {
         assert_eq!(rt; set.has(cell), is_in, "{cell:?}");
     }
-    let copied = state.copy_of(&set)?;
+    let no_others = CellSet::new(rt.alloc());
+    let copied = state.copy_of(&set, &no_others)?;
     assert_eq!(rt; worths(&copied), [None, MAX, None, SECOND]);
     let mut cleared = state.copy()?;
-    cleared.clear_all(&set);
+    cleared.clear_all(&set, &no_others);
     assert_eq!(rt; worths(&cleared), [SUM, None, FIRST, None]);
     assert_eq!(rt; worths(&state), [SUM, MAX, FIRST, SECOND]);
+    Ok(())
+}
+
+#[test]
+fn cells_of_a_whole_family_are_left_out(rt: HostRuntime) -> Result<(), Fail> {
+    let mut state = of_four(rt.alloc())?;
+    state.raise(high(3), 4)?;
+    let set = of_two(rt.alloc())?;
+    assert_eq!(rt;
+        (set.has_family(HIGH), set.has_family(COUNT.family)),
+        (true, false)
+    );
+    let mut others = CellSet::new(rt.alloc());
+    others.add(high(0))?;
+    others.add(seen(2))?;
+    let copied = state.copy_of(&set, &others)?;
+    assert_eq!(rt; worths(&copied), [None, None, None, SECOND]);
+    assert_eq!(rt; copied.get(high(3)), Some(Worth::Max(4)));
+    state.clear_all(&set, &others);
+    assert_eq!(rt; worths(&state), [SUM, MAX, FIRST, None]);
+    assert_eq!(rt; state.get(high(3)), None);
     Ok(())
 }
 

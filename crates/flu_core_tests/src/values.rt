@@ -25,11 +25,12 @@ fn at_time(time: u64) -> Event {
     Event {
         time,
         itag: Itag(0),
+        item: 7,
         value: -6,
     }
 }
 
-/// An expression's value in a state at an event with the key 9.
+/// An expression's value in a state at an event with the key 9 and the item 7.
 fn value(e: &Expr, s: &State) -> i64 {
     value_of(e, s, &at_time(5), 9)
 }
@@ -70,6 +71,46 @@ fn arithmetic_is_clamped_at_both_ends(rt: HostRuntime) -> Result<(), Fail> {
     ];
     for (op, a, b, want) in cases {
         assert_eq!(rt; of_two(rt.alloc(), op, a, b)?, want, "{op:?} {a} {b}");
+    }
+    Ok(())
+}
+
+#[test]
+fn quotients_are_cut_toward_0_and_remainders_have_the_sign_of_the_left(
+    rt: HostRuntime,
+) -> Result<(), Fail> {
+    // the left number, the right one, the quotient and the remainder
+    let cases = [
+        (7, 2, 3, 1),
+        (7, -2, -3, 1),
+        (-7, 2, -3, -1),
+        (-7, -2, 3, -1),
+        (1, 2, 0, 1),
+        (-1, 2, 0, -1),
+        (6, 3, 2, 0),
+        (0, 5, 0, 0),
+        (7, 0, 0, 0),
+        (-7, 0, 0, 0),
+        (0, 0, 0, 0),
+        (i64::MIN, -1, i64::MAX, 0),
+        (i64::MIN, 1, i64::MIN, 0),
+        (i64::MIN, i64::MIN, 1, 0),
+        (i64::MIN, i64::MAX, -1, -1),
+        (i64::MAX, -1, -9223372036854775807, 0),
+        (i64::MAX, i64::MIN, 0, i64::MAX),
+        (i64::MIN, 0, 0, 0),
+    ];
+    for (a, b, quotient, remainder) in cases {
+        assert_eq!(rt;
+            of_two(rt.alloc(), Op::Divide, a, b)?,
+            quotient,
+            "{a} / {b}"
+        );
+        assert_eq!(rt;
+            of_two(rt.alloc(), Op::Remainder, a, b)?,
+            remainder,
+            "{a} % {b}"
+        );
     }
     Ok(())
 }
@@ -151,6 +192,15 @@ fn maxima_and_last_values_are_read_at_their_keys(rt: HostRuntime) -> Result<(), 
         family: 2,
         at: At::Fixed(8),
     };
+    // the item is 7, so the last value at it is held, and no maximum
+    let seen_of_item = CellRef {
+        family: 2,
+        at: At::OwnItem,
+    };
+    let high_of_item = CellRef {
+        family: 1,
+        at: At::OwnItem,
+    };
     let cases = [
         (Expr::Read(HIGH), i64::MIN),
         (Expr::Has(HIGH), 1),
@@ -158,8 +208,11 @@ fn maxima_and_last_values_are_read_at_their_keys(rt: HostRuntime) -> Result<(), 
         (Expr::Has(SEEN), 1),
         (Expr::Read(fixed), 0),
         (Expr::Has(fixed), 0),
+        (Expr::Has(seen_of_item), 1),
+        (Expr::Has(high_of_item), 0),
         (Expr::Value, -6),
         (Expr::Key, 9),
+        (Expr::Item, 7),
         (Expr::Time, 5),
     ];
     for (e, want) in cases {

@@ -1,4 +1,5 @@
 pub mod BitLemmas
 pub mod ListLemmas
 pub mod RowLemmas
+pub mod PartLemmas
 pub mod TableLemmas

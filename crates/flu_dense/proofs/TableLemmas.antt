@@ -1,15 +1,17 @@
 -- What a table holds, as its rows change.
-use Rattle.std.proofs.Common.{◌≡◌, ◌<◌, ◌≤◌, ◌≢◌, ◌++◌, ◌+◌, ◌*◌, ◌/◌, ◌%◌, ℕ, true, false, cond, Option, Some, None, List, [], ◌∷◌, length, set, refl, sym, ap}
+use Rattle.std.proofs.Common.{◌≡◌, ◌<◌, ◌≤◌, ◌≢◌, ◌++◌, ◌+◌, ◌*◌, ◌/◌, ◌%◌, ℕ, Bool, true, false, cond, Option, Some, None, List, [], ◌∷◌, length, set, refl, sym, ap}
 use Rattle.std.proofs.Common.{subst, ◌∙◌, arith}
-use Rattle.std.specs.Prelude.{◌==◌, nat_lt, slice_get, is_some, IsSome}
+use Rattle.std.specs.Prelude.{◌==◌, ◌&&◌, ◌||◌, not, nat_lt, slice_get, is_some, IsSome, IfNone}
 use Rattle.std.proofs.Math.ListN.{length-append}
 use Rattle.std.proofs.lemmas.Bool.{eqb-false, ne_eqb, ltb-false}
 use Rattle.std.proofs.lemmas.Option.{slice_get_past}
 use Rattle.flu_lemmas.proofs.Places.{slice_get-behind}
 use Rattle.flu_lemmas.proofs.Searches.{eq_true}
-use Rattle.flu_lemmas.proofs.Tests.{true_eq, true_lt}
+use Rattle.flu_lemmas.proofs.Tests.{true_eq, true_lt, and_left, and_right}
+use Rattle.flu_dense.specs.declared.mask.Mask.{Mask}
 use Rattle.flu_dense.specs.declared.row.Row.{Row}
-use Rattle.flu_dense.specs.Tables.{value_in, value_in_row, value_of, HasSlotsInRange}
+use Rattle.flu_dense.specs.Masks.{has}
+use Rattle.flu_dense.specs.Tables.{value_in, value_in_row, value_of, HasSlotsInRange, IsEmptyBeside}
 use Rattle.flu_dense.specs.Values.{with_value}
 use Rattle.flu_lemmas.proofs.Replaced.{slice_get-set_same, slice_get-set_other}
 use Rattle.flu_dense.proofs.ListLemmas.{slice_get-append}
@@ -82,6 +84,35 @@ row_same {V} rows slot row then is lt same_values = λ i s. at s i
           | false ↦ λ e. other_row rows slot s then (eqb-false (s / 64) (slot / 64) e)
         ] refl
 
+-- ---- the rows that hold something
+pub empty_beside-same : {V : Type 0} (m : Mask) (f h : ℕ → Option V) → h ≡ f → IsEmptyBeside m f → IsEmptyBeside m h
+empty_beside-same m f h same beside s lt out = ap (λ v. v s) same ∙ beside s lt out
+
+-- a value that is set in a row, which is among them then
+pub empty_beside-set : {V : Type 0} (m n : Mask) (f : ℕ → Option V) (slot : ℕ) (v : Option V) → ((j : ℕ) → has n j ≡ ((j == slot / 64) || has m j))
+    → IsEmptyBeside m f → IsEmptyBeside n (with_value f slot v)
+empty_beside-set {V} m n f slot v more beside s lt out =
+    elim (s / 64 == slot / 64) as (λ b. (s / 64 == slot / 64) ≡ b → (b || has m (s / 64)) ≡ false → with_value f slot v s ≡ None) [
+      | true ↦ λ e never. cc
+      | false ↦ λ e rest.
+          ap (λ b. cond b v (f s)) (ne_eqb s slot (λ same. eqb-false (s / 64) (slot / 64) e (ap (λ n. n / 64) same))) ∙ beside s lt rest
+    ] refl (sym (more (s / 64)) ∙ out)
+
+-- a value that is unset in a row, which is not among them then if it holds nothing
+pub empty_beside-unset : {V : Type 0} (m n : Mask) (f h : ℕ → Option V) (slot : ℕ) (gone : Bool)
+    → ((j : ℕ) → j < 64 → has n j ≡ (not ((j == slot / 64) && gone) && has m j)) → h ≡ with_value f slot None
+    → (gone ≡ true → (s : ℕ) → s / 64 ≡ slot / 64 → h s ≡ None)
+    → IsEmptyBeside m f → IsEmptyBeside n h
+empty_beside-unset {V} m n f h slot gone less changed none beside s lt out =
+    elim ((s / 64 == slot / 64) && gone) as (λ b. ((s / 64 == slot / 64) && gone) ≡ b → (not b && has m (s / 64)) ≡ false → h s ≡ None) [
+      | true ↦ λ e any. none (and_right _ _ e) s (true_eq (s / 64) (slot / 64) (and_left _ _ e))
+      | false ↦ λ e rest. ap (λ v. v s) changed ∙ still (s == slot) (beside s lt rest)
+    ] refl (sym (less (s / 64) (omega arith)) ∙ out)
+  where
+    still : (b : Bool) → f s ≡ None → cond b None (f s) ≡ None
+    still true e = refl
+    still false e = e
+
 -- a slot whose row is not there holds nothing, so nothing is to be changed where it is to hold nothing
 pub none_changed : {V : Type 0} (m : ℕ → Option V) (slot : ℕ) → m slot ≡ None → m ≡ with_value m slot None
 none_changed m slot none = λ i s. at s i
@@ -126,6 +157,10 @@ is_past rows s some le = let none : is_some (value_of rows s) ≡ false = ap is_
 
 pub row_there : {V : Type 0} (rows : List (Row V)) (s : ℕ) → IsSome (value_of rows s) → s / 64 < length rows
 row_there rows s some = let h : length rows ≤ s / 64 → ⊥ = is_past rows s some in grind (arith, h)
+
+pub none_anyway : {T P : Type 0} (o : Option T) → P → IfNone o P
+none_anyway None p = p
+none_anyway (Some x) p = tt
 
 -- ---- the slots of a row, in order
 in_row_from : (at s : ℕ) → at ≤ s → s < at / 64 * 64 + 64 → (s / 64 ≡ at / 64) × (at % 64 ≤ s % 64)

@@ -46,6 +46,14 @@ impl Mask {
         }
     }
 
+    /// The set, without a number if that is gone.
+    pub(crate) fn without_if(self, k: u32, gone: bool) -> Mask
+        requires { k < 64 }
+        ensures { (j : ℕ) → j < 64 → has result j ≡ (not ((j == k) && gone) && has self j) }
+    {
+        if gone { self.without(k) } else { self }
+    }
+
     /// The least number of the set that is at least `from`.
     pub(crate) fn next(self, from: u32) -> Option<u32>
         requires { from < 64 }

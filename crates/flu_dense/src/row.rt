@@ -1,6 +1,6 @@
 //! Rows of 64 places.
 
-ghost use Rattle.std.specs.Prelude.{◌≡◌, ℕ, ◌<◌, ◌≤◌, ◌==◌, None, Some, IsOk, IsSome, OnOk, OnErr, IfOk, IfSome, IfNone, length};
+ghost use Rattle.std.specs.Prelude.{◌≡◌, ℕ, true, ◌<◌, ◌≤◌, ◌==◌, None, Some, IsOk, IsSome, OnOk, OnErr, IfOk, IfSome, IfNone, length};
 ghost use Rattle.flu_dense.specs.Rows.{HasValues};
 ghost use Rattle.flu_dense.specs.Values.{with_value};
 
@@ -41,6 +41,13 @@ impl<V: Copy> Row<V> {
         } else {
             None
         }
+    }
+
+    /// Whether no place is held.
+    pub(crate) fn is_empty(&self) -> bool
+        ensures { result ≡ true → (k : ℕ) → k < 64 → value_in self.now k ≡ None }
+    {
+        self.next(0).is_none()
     }
 
     /// The first place from `from` on that is held.

@@ -1,14 +1,18 @@
 //! Tables of 4,096 slots.
 
-ghost use Rattle.std.specs.Prelude.{◌≡◌, ℕ, ◌+◌, ◌*◌, ◌<◌, ◌≤◌, None, Some, IsOk, IsSome, OnOk, OnErr, IfOk, IfSome, IfNone, length};
-ghost use Rattle.flu_dense.specs.Tables.{value_of, HasSlotsInRange};
+ghost use Rattle.std.specs.Prelude.{◌≡◌, ℕ, ◌+◌, ◌*◌, ◌/◌, ◌<◌, ◌≤◌, None, Some, IsOk, IsSome, OnOk, OnErr, IfOk, IfSome, IfNone, length};
+ghost use Rattle.flu_dense.specs.Tables.{value_of, HasSlotsInRange, IsEmptyBeside};
 ghost use Rattle.flu_dense.specs.Values.{with_value};
 
+use crate::mask::Mask;
 use crate::row::Row;
 use std::alloc::{AllocError, Global};
 
 // How many slots a row has.
 const ROW: u32 = 64;
+
+// How many slots a table has.
+const SLOTS: u32 = 4096;
 
 /// A finite map from slots, the numbers from 0 to 4,095, to values. A value is looked up, set and unset in constant time. The
 /// slots are in rows of 64; a row takes memory up to the last of its slots that was ever held, and the table up to the last
@@ -19,8 +23,11 @@ const ROW: u32 = 64;
 pub struct Dense<V: Copy> {
     // The row r has the slots from 64 * r on.
     rows: Vec<Row<V>>,
+    // The rows that hold something.
+    filled: Mask,
     alloc: Global,
     ghost few_rows: { length rows.items ≤ 64 },
+    ghost empty_beside: { IsEmptyBeside filled (value_of rows.items) },
     pub ghost in_range: { HasSlotsInRange (value_of rows.items) },
 }
 
@@ -33,6 +40,7 @@ impl<V: Copy> Dense<V> {
     {
         Dense {
             rows: Vec::new(alloc),
+            filled: Mask::none(),
             alloc,
         }
     }
@@ -48,8 +56,8 @@ impl<V: Copy> Dense<V> {
         }
     }
 
-    /// The first slot from `from` on that is held; `from` is at most 4,096. Rows that hold nothing are gone through, and of
-    /// others no slot.
+    /// The first slot from `from` on that is held; `from` is at most 4,096. Rows that hold nothing are passed over, and of
+    /// others no slot is gone through.
     pub fn next(&self, from: u32) -> Option<u32>
         requires { from ≤ 4096 }
         ensures found { IfSome result (λ s. (from ≤ s) × (s < 4096) × IsSome (value_at self.now s)) }
@@ -57,12 +65,12 @@ impl<V: Copy> Dense<V> {
         ensures none { IfNone result ((k : ℕ) → from ≤ k → value_at self.now k ≡ None) }
     {
         let mut at = from;
-        while let Some(row) = self.rows.get((at / ROW) as usize) {
-            let start = at / ROW * ROW;
-            if let Some(place) = row.next(at % ROW) {
-                return Some(start + place);
+        while at < SLOTS {
+            let start = self.filled_from(at)?;
+            if let Some(slot) = self.next_in_row(start) {
+                return Some(slot);
             }
-            at = start + ROW;
+            at = start / ROW * ROW + ROW;
         }
         None
     }
@@ -76,9 +84,11 @@ impl<V: Copy> Dense<V> {
         ensures err { OnErr result (value_at self.new ≡ value_at self.old) }
         ensures held { IsSome (value_at self.old slot) → IsOk result }
     {
-        let row = (slot / ROW) as usize;
-        self.reach(row)?;
-        self.rows[row].set(slot % ROW, value)
+        let row = slot / ROW;
+        self.reach(row as usize)?;
+        self.rows[row as usize].set(slot % ROW, value)?;
+        self.filled = self.filled.with(row);
+        Ok(())
     }
 
     /// Makes a slot below 4,096 hold nothing, and gives what it held. It takes no memory.
@@ -87,10 +97,10 @@ impl<V: Copy> Dense<V> {
         ensures value { result ≡ value_at self.old slot }
         ensures left { value_at self.new ≡ with_value (value_at self.old) slot None }
     {
-        match self.rows.get_mut((slot / ROW) as usize) {
-            Some(row) => row.unset(slot % ROW),
-            None => None,
-        }
+        let row = self.rows.get_mut((slot / ROW) as usize)?;
+        let value = row.unset(slot % ROW);
+        self.filled = self.filled.without_if(slot / ROW, row.is_empty());
+        value
     }
 
     /// A table that holds the same. The rows are gone through, up to the last slot of each that was ever held.
@@ -103,8 +113,32 @@ impl<V: Copy> Dense<V> {
         }
         Ok(Dense {
             rows,
+            filled: self.filled,
             alloc: self.alloc,
         })
+    }
+
+    // The first slot from a slot on whose row holds something, as far as can be told without its row.
+    fn filled_from(&self, at: u32) -> Option<u32>
+        requires { at < 4096 }
+        ensures found { IfSome result (λ s. (at ≤ s) × (s < 4096)) }
+        ensures before { IfSome result (λ s. (k : ℕ) → at ≤ k → k < s → value_at self.now k ≡ None) }
+        ensures none { IfNone result ((k : ℕ) → at ≤ k → value_at self.now k ≡ None) }
+    {
+        let row = self.filled.next(at / ROW)?;
+        Some(at.max(row * ROW))
+    }
+
+    // The first slot of a row from a slot on that is held.
+    fn next_in_row(&self, at: u32) -> Option<u32>
+        requires { at < 4096 }
+        ensures found { IfSome result (λ s. (at ≤ s) × (s < 4096) × IsSome (value_at self.now s)) }
+        ensures least { IfSome result (λ s. (k : ℕ) → at ≤ k → k < s → value_at self.now k ≡ None) }
+        ensures none { IfNone result ((k : ℕ) → at ≤ k → k / 64 ≡ at / 64 → value_at self.now k ≡ None) }
+    {
+        let row = self.rows.get((at / ROW) as usize)?;
+        let place = row.next(at % ROW)?;
+        Some(at / ROW * ROW + place)
     }
 
     // Sees that there is a row.
@@ -118,5 +152,15 @@ impl<V: Copy> Dense<V> {
             self.rows.push(Row::new(self.alloc))?;
         }
         Ok(())
+    }
+}
+
+impl<V: Copy> Clone for Dense<V> {
+    ghost use Rattle.flu_dense.specs.Holding.{value_at};
+
+    ghost is_clone = { λ d e. value_at e ≡ value_at d };
+
+    fn clone(&self) -> Result<Dense<V>, AllocError> {
+        self.copy()
     }
 }

@@ -1,142 +1,198 @@
--- The cells that actions name are those that they use, but for the cells of families that they flush.
-use Rattle.std.proofs.Common.{◌≡◌, ℕ, Bool, true, false, cond, Option, Some, None, List, [], ◌∷◌, ◌⊎◌, inl, inr, refl, sym, ap, ◌∙◌, arith}
+-- The cells that actions name are those that they use; where they use a family as a whole, its first cell stands for those that nothing names.
+use Rattle.std.proofs.Common.{◌≡◌, ℕ, Bool, true, false, cond, Option, Some, None, List, [], ◌∷◌, ◌++◌, ◌⊎◌, inl, inr, refl, ◌∙◌}
 use Rattle.std.specs.Prelude.{◌==◌, ◌||◌}
 use Rattle.std.specs.List.{list_any}
-use Rattle.std.proofs.Math.Bool.{or-false}
 use Rattle.std.proofs.lemmas.Bool.{or_left, or_right, or_cases}
-use Rattle.std.proofs.lemmas.Grind.{common_steps}
 use Rattle.std.proofs.lemmas.List.Folds.{list_any-append}
+use Rattle.flu_lemmas.proofs.Numbers.{same_turns}
+use Rattle.flu_lemmas.proofs.Tests.{and_left, both}
 use Rattle.flu_model.specs.declared.events.Cell.{Cell}
+use Rattle.flu_model.specs.declared.jobs.At.{At}
+use Rattle.flu_model.specs.declared.jobs.At.TheVariants.{Alone, OwnKey, OwnItem, Fixed}
+use Rattle.flu_model.specs.declared.jobs.CellRef.{CellRef}
 use Rattle.flu_model.specs.declared.jobs.Expr.{Expr}
-use Rattle.flu_model.specs.declared.jobs.Expr.TheVariants.{Lit, Value, Key, Time, Read, Has, Neg', Not', Two'}
+use Rattle.flu_model.specs.declared.jobs.Expr.TheVariants.{Lit, Value, Key, Item, Time, Read, Has, Neg', Not', Two'}
 use Rattle.flu_model.specs.declared.jobs.Piece.{Piece}
-use Rattle.flu_model.specs.declared.jobs.Piece.TheVariants.{Plain, Value as ValueField, Key as KeyField, Time as TimeField, Read as ReadField, CellValue}
+use Rattle.flu_model.specs.declared.jobs.Piece.TheVariants.{Plain, Value as ValueField, Key as KeyField, Item as ItemField, Time as TimeField}
+use Rattle.flu_model.specs.declared.jobs.Piece.TheVariants.{Read as ReadField, CellValue, FamilyCell}
 use Rattle.flu_model.specs.declared.jobs.Act.{Act}
-use Rattle.flu_model.specs.declared.jobs.Act.TheVariants.{Add, Raise, Set, Clear, Emit, Flush}
+use Rattle.flu_model.specs.declared.jobs.Act.TheVariants.{Add, Raise, Set, Clear, ClearFamily, Emit, Flush}
 use Rattle.flu_model.specs.declared.jobs.Action.{Action}
-use Rattle.flu_lemmas.proofs.Booleans.{or_true}
-use Rattle.flu_model.specs.declared.modes.Mode.TheVariants.{None as NoMode, Add as AddMode, Raise as RaiseMode, Own}
+use Rattle.flu_model.specs.declared.modes.Mode.TheVariants.{None as NoMode}
 use Rattle.flu_model.specs.Contents.{cell, is_same_cell}
+use Rattle.flu_model.specs.Expressions.{key_of, cell_of}
 use Rattle.flu_model.specs.Modes.{means, expr_reads, guard_reads, piece_reads, act_reads, action_reads}
 use Rattle.flu_model.specs.Modes.{act_overwrites, act_adds, act_raises, mode_from, mode_among}
 use Rattle.flu_deps.specs.LoopNamed.{expr_cells, guard_cells, piece_cells, pieces_cells, act_cells, action_cells, actions_cells}
+use Rattle.flu_deps.proofs.ModeLemmas.{Grows, mode_grows}
 
 -- whether c is among some cells
 abbrev pub names : Cell → List Cell → Bool
 names c cs = list_any (λ d. is_same_cell d c) cs
 
--- whether an act flushes a family
-abbrev pub flushes : ℕ → Act → Bool
-flushes f (Add r e) = false
-flushes f (Raise r e) = false
-flushes f (Set r e) = false
-flushes f (Clear r) = false
-flushes f (Emit qs) = false
-flushes f (Flush g qs) = f == g
+-- the first cell of the family of a cell
+abbrev pub first : Cell → Cell
+first c = cell c.family 0
 
--- ---- what is read is named
-expr_named : (key : ℕ) (c : Cell) (e : Expr) → expr_reads key c e ≡ names c (expr_cells key e)
-expr_named key c (Lit n) = refl
-expr_named key c Value = refl
-expr_named key c Key = refl
-expr_named key c Time = refl
-expr_named key c (Read r) = sym (or-false (means key c r))
-expr_named key c (Has r) = sym (or-false (means key c r))
-expr_named key c (Neg' p e) = expr_named key c e
-expr_named key c (Not' p e) = expr_named key c e
-expr_named key c (Two' op p a q b) = (λ i. expr_named key c a i || expr_named key c b i)
-    ∙ sym (list_any-append (λ d. is_same_cell d c) (expr_cells key a) (expr_cells key b))
+-- a cell is named, or the first cell of its family is named and is used in the same way
+abbrev pub Shown : Cell → List Cell → Bool → Type 0
+Shown c cs first_used = (names c cs ≡ true) ⊎ ((names (first c) cs ≡ true) × (first_used ≡ true))
 
-guard_named : (key : ℕ) (c : Cell) (g : Option Expr) → guard_reads key c g ≡ names c (guard_cells key g)
-guard_named key c None = refl
-guard_named key c (Some e) = expr_named key c e
+shown_more : (c : Cell) (cs ds : List Cell) (x y : Bool) → ((d : Cell) → names d cs ≡ true → names d ds ≡ true) → (x ≡ true → y ≡ true) → Shown c cs x
+    → Shown c ds y
+shown_more c cs ds x y more used (inl named) = inl (more c named)
+shown_more c cs ds x y more used (inr whole) = inr (more (first c) whole.0, used whole.1)
 
-piece_named : (key : ℕ) (c : Cell) (q : Piece) → piece_reads key c q ≡ names c (piece_cells key q)
-piece_named key c (Plain t) = refl
-piece_named key c ValueField = refl
-piece_named key c KeyField = refl
-piece_named key c TimeField = refl
-piece_named key c (ReadField r) = sym (or-false (means key c r))
-piece_named key c CellValue = refl
+named_left : (cs ds : List Cell) (d : Cell) → names d cs ≡ true → names d (cs ++ ds) ≡ true
+named_left cs ds d e = list_any-append (λ x. is_same_cell x d) cs ds ∙ or_left (names d cs) (names d ds) e
 
-pieces_named : (key : ℕ) (c : Cell) (qs : List Piece) → list_any (piece_reads key c) qs ≡ names c (pieces_cells key qs)
-pieces_named key c [] = refl
-pieces_named key c (q ∷ qs) = (λ i. piece_named key c q i || pieces_named key c qs i)
-    ∙ sym (list_any-append (λ d. is_same_cell d c) (piece_cells key q) (pieces_cells key qs))
+named_right : (cs ds : List Cell) (d : Cell) → names d ds ≡ true → names d (cs ++ ds) ≡ true
+named_right cs ds d e = list_any-append (λ x. is_same_cell x d) cs ds ∙ or_right (names d cs) (names d ds) e
 
-act_read : (key : ℕ) (c : Cell) (a : Act) → act_reads key c a ≡ true → names c (act_cells key a) ≡ true
-act_read key c (Add r e) read = or_right (means key c r) (names c (expr_cells key e)) (sym (expr_named key c e) ∙ read)
-act_read key c (Raise r e) read = or_right (means key c r) (names c (expr_cells key e)) (sym (expr_named key c e) ∙ read)
-act_read key c (Set r e) read = or_right (means key c r) (names c (expr_cells key e)) (sym (expr_named key c e) ∙ read)
-act_read key c (Clear r) read = cc
-act_read key c (Emit qs) read = sym (pieces_named key c qs) ∙ read
-act_read key c (Flush f qs) read =
-    or_right (is_same_cell (cell f 0) c) (names c (pieces_cells key qs)) (sym (pieces_named key c qs) ∙ read)
+named_behind : (c : Cell) (ds : List Cell) (d : Cell) → names d ds ≡ true → names d (c ∷ ds) ≡ true
+named_behind c ds d e = or_right (is_same_cell c d) (names d ds) e
 
--- ---- what an act adds to or raises is named, and what it overwrites is named or of a family that it flushes
-act_overwritten : (key : ℕ) (c : Cell) (a : Act) → act_overwrites key c a ≡ true → (names c (act_cells key a) ≡ true) ⊎ (flushes c.family a ≡ true)
-act_overwritten key c (Add r e) own = cc
-act_overwritten key c (Raise r e) own = cc
-act_overwritten key c (Set r e) own = inl (or_left (means key c r) (names c (expr_cells key e)) own)
-act_overwritten key c (Clear r) own = inl (or_left (means key c r) false own)
-act_overwritten key c (Emit qs) own = cc
-act_overwritten key c (Flush f qs) own = inr own
+-- what a reference means; by the event's item it means its whole family
+ref_shown : (key : ℕ) (c : Cell) (family : ℕ) (at : At) (rest : List Cell) → means key c (record { family = family; at = at }) ≡ true
+    → Shown c (cell family (key_of at key 0) ∷ rest) (means key (first c) (record { family = family; at = at }))
+ref_shown key c family Alone rest meant = inl (or_left (is_same_cell (cell family 0) c) (names c rest) meant)
+ref_shown key c family OwnKey rest meant = inl (or_left (is_same_cell (cell family key) c) (names c rest) meant)
+ref_shown key c family OwnItem rest meant =
+    let same : (family == c.family) ≡ true = and_left (family == c.family) true meant in
+    inr (or_left (is_same_cell (cell family 0) (first c)) (names (first c) rest) (both (family == c.family) true same refl), meant)
+ref_shown key c family (Fixed k) rest meant = inl (or_left (is_same_cell (cell family k) c) (names c rest) meant)
 
-act_added : (key : ℕ) (c : Cell) (a : Act) → act_adds key c a ≡ true → names c (act_cells key a) ≡ true
-act_added key c (Add r e) add = or_left (means key c r) (names c (expr_cells key e)) add
-act_added key c (Raise r e) add = cc
-act_added key c (Set r e) add = cc
-act_added key c (Clear r) add = cc
-act_added key c (Emit qs) add = cc
-act_added key c (Flush f qs) add = cc
+whole_shown : (c : Cell) (f : ℕ) (rest : List Cell) → (c.family == f) ≡ true → Shown c (cell f 0 ∷ rest) (c.family == f)
+whole_shown c f rest same =
+    inr (or_left (is_same_cell (cell f 0) (first c)) (names (first c) rest) (both (f == c.family) true (same_turns f c.family ∙ same) refl), same)
 
-act_raised : (key : ℕ) (c : Cell) (a : Act) → act_raises key c a ≡ true → names c (act_cells key a) ≡ true
-act_raised key c (Add r e) raise = cc
-act_raised key c (Raise r e) raise = or_left (means key c r) (names c (expr_cells key e)) raise
-act_raised key c (Set r e) raise = cc
-act_raised key c (Clear r) raise = cc
-act_raised key c (Emit qs) raise = cc
-act_raised key c (Flush f qs) raise = cc
+-- ---- what is read
+expr_shown : (key : ℕ) (c : Cell) (e : Expr) → expr_reads key c e ≡ true → Shown c (expr_cells key e) (expr_reads key (first c) e)
+expr_shown key c (Lit n) reads = cc
+expr_shown key c Value reads = cc
+expr_shown key c Key reads = cc
+expr_shown key c Item reads = cc
+expr_shown key c Time reads = cc
+expr_shown key c (Read r) reads = ref_shown key c r.family r.at [] reads
+expr_shown key c (Has r) reads = ref_shown key c r.family r.at [] reads
+expr_shown key c (Neg' p e) reads = expr_shown key c e reads
+expr_shown key c (Not' p e) reads = expr_shown key c e reads
+expr_shown key c (Two' op p a q b) reads =
+    let cs = expr_cells key a in
+    let ds = expr_cells key b in
+    let x = expr_reads key (first c) a in
+    let y = expr_reads key (first c) b in
+    elim (or_cases (expr_reads key c a) (expr_reads key c b) reads) [
+      | inl left ↦ shown_more c cs (cs ++ ds) x (x || y) (named_left cs ds) (or_left x y) (expr_shown key c a left)
+      | inr right ↦ shown_more c ds (cs ++ ds) y (x || y) (named_right cs ds) (or_right x y) (expr_shown key c b right)
+    ]
+
+guard_shown : (key : ℕ) (c : Cell) (g : Option Expr) → guard_reads key c g ≡ true → Shown c (guard_cells key g) (guard_reads key (first c) g)
+guard_shown key c None reads = cc
+guard_shown key c (Some e) reads = expr_shown key c e reads
+
+piece_shown : (key : ℕ) (c : Cell) (q : Piece) → piece_reads key c q ≡ true → Shown c (piece_cells key q) (piece_reads key (first c) q)
+piece_shown key c (Plain t) reads = cc
+piece_shown key c ValueField reads = cc
+piece_shown key c KeyField reads = cc
+piece_shown key c ItemField reads = cc
+piece_shown key c TimeField reads = cc
+piece_shown key c (ReadField r) reads = ref_shown key c r.family r.at [] reads
+piece_shown key c CellValue reads = cc
+piece_shown key c (FamilyCell f) reads = whole_shown c f [] reads
+
+pieces_shown : (key : ℕ) (c : Cell) (qs : List Piece) → list_any (piece_reads key c) qs ≡ true
+    → Shown c (pieces_cells key qs) (list_any (piece_reads key (first c)) qs)
+pieces_shown key c [] reads = cc
+pieces_shown key c (q ∷ qs) reads =
+    let cs = piece_cells key q in
+    let ds = pieces_cells key qs in
+    let x = piece_reads key (first c) q in
+    let y = list_any (piece_reads key (first c)) qs in
+    elim (or_cases (piece_reads key c q) (list_any (piece_reads key c) qs) reads) [
+      | inl here ↦ shown_more c cs (cs ++ ds) x (x || y) (named_left cs ds) (or_left x y) (piece_shown key c q here)
+      | inr later ↦ shown_more c ds (cs ++ ds) y (x || y) (named_right cs ds) (or_right x y) (pieces_shown key c qs later)
+    ]
+
+behind : (key : ℕ) (c : Cell) (r : CellRef) (e : Expr) → expr_reads key c e ≡ true → Shown c (cell_of r key 0 ∷ expr_cells key e) (expr_reads key (first c) e)
+behind key c r e reads =
+    let x = expr_reads key (first c) e in
+    shown_more c (expr_cells key e) (cell_of r key 0 ∷ expr_cells key e) x x (named_behind (cell_of r key 0) (expr_cells key e)) (λ h. h)
+    (expr_shown key c e reads)
+
+act_read_shown : (key : ℕ) (c : Cell) (a : Act) → act_reads key c a ≡ true → Shown c (act_cells key a) (act_reads key (first c) a)
+act_read_shown key c (Add r e) reads = behind key c r e reads
+act_read_shown key c (Raise r e) reads = behind key c r e reads
+act_read_shown key c (Set r e) reads = behind key c r e reads
+act_read_shown key c (Clear r) reads = cc
+act_read_shown key c (ClearFamily f) reads = cc
+act_read_shown key c (Emit qs) reads = pieces_shown key c qs reads
+act_read_shown key c (Flush f qs) reads =
+    let x = list_any (piece_reads key (first c)) qs in
+    shown_more c (pieces_cells key qs) (cell f 0 ∷ pieces_cells key qs) x x (named_behind (cell f 0) (pieces_cells key qs)) (λ h. h)
+    (pieces_shown key c qs reads)
+
+-- ---- what is overwritten, added to and raised
+act_overwritten_shown : (key : ℕ) (c : Cell) (a : Act) → act_overwrites key c a ≡ true → Shown c (act_cells key a) (act_overwrites key (first c) a)
+act_overwritten_shown key c (Add r e) own = cc
+act_overwritten_shown key c (Raise r e) own = cc
+act_overwritten_shown key c (Set r e) own = ref_shown key c r.family r.at (expr_cells key e) own
+act_overwritten_shown key c (Clear r) own = ref_shown key c r.family r.at [] own
+act_overwritten_shown key c (ClearFamily f) own = whole_shown c f [] own
+act_overwritten_shown key c (Emit qs) own = cc
+act_overwritten_shown key c (Flush f qs) own = whole_shown c f (pieces_cells key qs) own
+
+act_added_shown : (key : ℕ) (c : Cell) (a : Act) → act_adds key c a ≡ true → Shown c (act_cells key a) (act_adds key (first c) a)
+act_added_shown key c (Add r e) add = ref_shown key c r.family r.at (expr_cells key e) add
+act_added_shown key c (Raise r e) add = cc
+act_added_shown key c (Set r e) add = cc
+act_added_shown key c (Clear r) add = cc
+act_added_shown key c (ClearFamily f) add = cc
+act_added_shown key c (Emit qs) add = cc
+act_added_shown key c (Flush f qs) add = cc
+
+act_raised_shown : (key : ℕ) (c : Cell) (a : Act) → act_raises key c a ≡ true → Shown c (act_cells key a) (act_raises key (first c) a)
+act_raised_shown key c (Add r e) raise = cc
+act_raised_shown key c (Raise r e) raise = ref_shown key c r.family r.at (expr_cells key e) raise
+act_raised_shown key c (Set r e) raise = cc
+act_raised_shown key c (Clear r) raise = cc
+act_raised_shown key c (ClearFamily f) raise = cc
+act_raised_shown key c (Emit qs) raise = cc
+act_raised_shown key c (Flush f qs) raise = cc
 
 -- ---- actions
-in_act : (key : ℕ) (c : Cell) (a : Action) → names c (act_cells key a.act) ≡ true → names c (action_cells key a) ≡ true
-in_act key c a named = list_any-append (λ d. is_same_cell d c) (guard_cells key a.guard) (act_cells key a.act)
-    ∙ or_right (names c (guard_cells key a.guard)) (names c (act_cells key a.act)) named
+in_act : (key : ℕ) (c : Cell) (a : Action) (x y : Bool) → (x ≡ true → y ≡ true) → Shown c (act_cells key a.act) x → Shown c (action_cells key a) y
+in_act key c a x y used shown =
+    shown_more c (act_cells key a.act) (action_cells key a) x y (named_right (guard_cells key a.guard) (act_cells key a.act)) used shown
 
-action_read : (key : ℕ) (c : Cell) (a : Action) → action_reads key c a ≡ true → names c (action_cells key a) ≡ true
-action_read key c a read =
-    elim (or_cases (guard_reads key c a.guard) (act_reads key c a.act) read) [
+action_read_shown : (key : ℕ) (c : Cell) (a : Action) → action_reads key c a ≡ true → Shown c (action_cells key a) (action_reads key (first c) a)
+action_read_shown key c a reads =
+    let x = guard_reads key (first c) a.guard in
+    let y = act_reads key (first c) a.act in
+    elim (or_cases (guard_reads key c a.guard) (act_reads key c a.act) reads) [
       | inl guard ↦
-          list_any-append (λ d. is_same_cell d c) (guard_cells key a.guard) (act_cells key a.act)
-          ∙ or_left (names c (guard_cells key a.guard)) (names c (act_cells key a.act)) (sym (guard_named key c a.guard) ∙ guard)
-      | inr act ↦ in_act key c a (act_read key c a.act act)
+          shown_more c (guard_cells key a.guard) (action_cells key a) x (x || y) (named_left (guard_cells key a.guard) (act_cells key a.act)) (or_left x y)
+          (guard_shown key c a.guard guard)
+      | inr act ↦ in_act key c a y (x || y) (or_right x y) (act_read_shown key c a.act act)
     ]
 
-action_overwritten : (key : ℕ) (c : Cell) (a : Action) → act_overwrites key c a.act ≡ true
-    → (names c (action_cells key a) ≡ true) ⊎ (flushes c.family a.act ≡ true)
-action_overwritten key c a own =
-    elim (act_overwritten key c a.act own) [
-      | inl named ↦ inl (in_act key c a named)
-      | inr flushed ↦ inr flushed
+-- what some action uses, if each that does so shows it
+some_shown : (key : ℕ) (c : Cell) (test : Cell → Action → Bool) → ((a : Action) → test c a ≡ true → Shown c (action_cells key a) (test (first c) a))
+    → (all : List Action) → list_any (test c) all ≡ true → Shown c (actions_cells key all) (list_any (test (first c)) all)
+some_shown key c test one [] any = cc
+some_shown key c test one (a ∷ all) any =
+    let cs = action_cells key a in
+    let ds = actions_cells key all in
+    let x = test (first c) a in
+    let y = list_any (test (first c)) all in
+    elim (or_cases (test c a) (list_any (test c) all) any) [
+      | inl here ↦ shown_more c cs (cs ++ ds) x (x || y) (named_left cs ds) (or_left x y) (one a here)
+      | inr later ↦ shown_more c ds (cs ++ ds) y (x || y) (named_right cs ds) (or_right x y) (some_shown key c test one all later)
     ]
 
--- what some action uses, if each that does so names the cell or flushes its family
-some_used : (key : ℕ) (c : Cell) (test : Action → Bool)
-    → ((a : Action) → test a ≡ true → (names c (action_cells key a) ≡ true) ⊎ (flushes c.family a.act ≡ true)) → (all : List Action) → list_any test all ≡ true
-    → (names c (actions_cells key all) ≡ true) ⊎ (list_any (λ (a : Action). flushes c.family a.act) all ≡ true)
-some_used key c test one [] any = cc
-some_used key c test one (a ∷ all) any =
-    let split = list_any-append (λ d. is_same_cell d c) (action_cells key a) (actions_cells key all) in
-    elim (or_cases (test a) (list_any test all) any) [
-      | inl here ↦ elim (one a here) [
-        | inl named ↦ inl (split ∙ or_left (names c (action_cells key a)) (names c (actions_cells key all)) named)
-        | inr flushed ↦ inr (or_left (flushes c.family a.act) (list_any (λ (a : Action). flushes c.family a.act) all) flushed)
-      ]
-      | inr later ↦ elim (some_used key c test one all later) [
-        | inl named ↦ inl (split ∙ or_right (names c (action_cells key a)) (names c (actions_cells key all)) named)
-        | inr flushed ↦ inr (or_right (flushes c.family a.act) (list_any (λ (a : Action). flushes c.family a.act) all) flushed)
-      ]
-    ]
+not_named : (c : Cell) (cs : List Cell) (x : Bool) → (names c cs ≡ true → ⊥) → Shown c cs x → (names (first c) cs ≡ true) × (x ≡ true)
+not_named c cs x none (inl named) = absurd (none named)
+not_named c cs x none (inr whole) = whole
 
 by_test : (v : ℕ) (r o a x : Bool) {G : Type 0} → (mode_from v r o a x ≡ NoMode → ⊥) → (r ≡ true → G) → (o ≡ true → G) → (a ≡ true → G)
     → (x ≡ true → G) → G
@@ -144,68 +200,55 @@ by_test v true o a x used read own add raise = read refl
 by_test v false true a x used read own add raise = own refl
 by_test v false false true x used read own add raise = add refl
 by_test v false false false true used read own add raise = raise refl
-by_test v false false false false used read own add raise = absurd (used (elim (v == 2) as (λ b. cond b NoMode NoMode ≡ NoMode) [ true ↦ refl | false ↦ refl ]))
+by_test v false false false false used read own add raise = absurd (used (elim (v == 1) as (λ b. cond b NoMode NoMode ≡ NoMode) [ true ↦ refl | false ↦ refl ]))
 
--- a cell on which the actions have a mode is named by them, or of a family that they flush
-pub used_is_named : (v : ℕ) (all : List Action) (key : ℕ) (c : Cell) → (mode_among v all key c ≡ NoMode → ⊥)
-    → (names c (actions_cells key all) ≡ true) ⊎ (list_any (λ (a : Action). flushes c.family a.act) all ≡ true)
-used_is_named v all key c used =
-    by_test v (list_any (action_reads key c) all) (list_any (λ (a : Action). act_overwrites key c a.act) all)
-    (list_any (λ (a : Action). act_adds key c a.act) all) (list_any (λ (a : Action). act_raises key c a.act) all) used
-    (some_used key c (action_reads key c) (λ a e. inl (action_read key c a e)) all)
-    (some_used key c (λ (a : Action). act_overwrites key c a.act) (action_overwritten key c) all)
-    (some_used key c (λ (a : Action). act_adds key c a.act) (λ a e. inl (in_act key c a (act_added key c a.act e))) all)
-    (some_used key c (λ (a : Action). act_raises key c a.act) (λ a e. inl (in_act key c a (act_raised key c a.act e))) all)
+-- ---- a cell that actions use and do not name
+module _ (v : ℕ) (all : List Action) (key : ℕ) (c : Cell) (none : names c (actions_cells key all) ≡ true → ⊥) where
+  abbrev reads : Cell → Bool
+  reads d = list_any (action_reads key d) all
 
--- ---- families that are flushed
-flush_overwrites : (key f k : ℕ) (a : Act) → flushes f a ≡ true → act_overwrites key (cell f k) a ≡ true
-flush_overwrites key f k (Add r e) flushed = cc
-flush_overwrites key f k (Raise r e) flushed = cc
-flush_overwrites key f k (Set r e) flushed = cc
-flush_overwrites key f k (Clear r) flushed = cc
-flush_overwrites key f k (Emit qs) flushed = cc
-flush_overwrites key f k (Flush g qs) flushed = flushed
+  abbrev overwrites : Cell → Bool
+  overwrites d = list_any (λ (a : Action). act_overwrites key d a.act) all
 
-flush_names : (key f : ℕ) (a : Act) → flushes f a ≡ true → names (cell f 0) (act_cells key a) ≡ true
-flush_names key f (Add r e) flushed = cc
-flush_names key f (Raise r e) flushed = cc
-flush_names key f (Set r e) flushed = cc
-flush_names key f (Clear r) flushed = cc
-flush_names key f (Emit qs) flushed = cc
-flush_names key f (Flush g qs) flushed =
-    let same : is_same_cell (cell g 0) (cell f 0) ≡ true = grind (arith, common_steps) in
-    or_left (is_same_cell (cell g 0) (cell f 0)) (names (cell f 0) (pieces_cells key qs)) same
+  abbrev adds : Cell → Bool
+  adds d = list_any (λ (a : Action). act_adds key d a.act) all
 
-any_overwrites : (key f k : ℕ) (all : List Action) → list_any (λ (a : Action). flushes f a.act) all ≡ true
-    → list_any (λ (a : Action). act_overwrites key (cell f k) a.act) all ≡ true
-any_overwrites key f k [] any = cc
-any_overwrites key f k (a ∷ all) any =
-    elim (or_cases (flushes f a.act) (list_any (λ (a : Action). flushes f a.act) all) any) [
-      | inl here ↦ or_left (act_overwrites key (cell f k) a.act) _ (flush_overwrites key f k a.act here)
-      | inr later ↦ or_right (act_overwrites key (cell f k) a.act) _ (any_overwrites key f k all later)
-    ]
+  abbrev raises : Cell → Bool
+  raises d = list_any (λ (a : Action). act_raises key d a.act) all
 
-overwritten_is_owned : (v : ℕ) (r a x : Bool) → mode_from v r true a x ≡ Own
-overwritten_is_owned v r a x =
-    elim (v == 2) as (λ b. cond b Own (cond (r || true) Own (cond a AddMode (cond x RaiseMode NoMode))) ≡ Own) [
-      | true ↦ refl
-      | false ↦ ap (λ b. cond b Own (cond a AddMode (cond x RaiseMode NoMode))) (or_true r)
-    ]
+  abbrev FirstToo : Bool → Type 0
+  FirstToo used = (names (first c) (actions_cells key all) ≡ true) × (used ≡ true)
 
--- all cells of such a family are owned, and its first one is named
-pub flushed_is_owned : (v : ℕ) (all : List Action) (key f k : ℕ) → list_any (λ (a : Action). flushes f a.act) all ≡ true → mode_among v all key (cell f k) ≡ Own
-flushed_is_owned v all key f k any =
-    let read : Bool = list_any (action_reads key (cell f k)) all in
-    let add : Bool = list_any (λ (a : Action). act_adds key (cell f k) a.act) all in
-    let raise : Bool = list_any (λ (a : Action). act_raises key (cell f k) a.act) all in
-    ap (λ b. mode_from v read b add raise) (any_overwrites key f k all any) ∙ overwritten_is_owned v read add raise
+  if_read : reads c ≡ true → FirstToo (reads (first c))
+  if_read any =
+      not_named c (actions_cells key all) (reads (first c)) none (some_shown key c (action_reads key) (action_read_shown key c) all any)
 
-pub flushed_is_named : (all : List Action) (key f : ℕ) → list_any (λ (a : Action). flushes f a.act) all ≡ true → names (cell f 0) (actions_cells key all) ≡ true
-flushed_is_named [] key f any = cc
-flushed_is_named (a ∷ all) key f any =
-    list_any-append (λ d. is_same_cell d (cell f 0)) (action_cells key a) (actions_cells key all)
-    ∙ (elim (or_cases (flushes f a.act) (list_any (λ (a : Action). flushes f a.act) all) any) [
-      | inl here ↦ or_left (names (cell f 0) (action_cells key a)) (names (cell f 0) (actions_cells key all))
-          (in_act key (cell f 0) a (flush_names key f a.act here))
-      | inr later ↦ or_right (names (cell f 0) (action_cells key a)) (names (cell f 0) (actions_cells key all)) (flushed_is_named all key f later)
-    ])
+  if_overwritten : overwrites c ≡ true → FirstToo (overwrites (first c))
+  if_overwritten any =
+      not_named c (actions_cells key all) (overwrites (first c)) none
+      (some_shown key c (λ d (a : Action). act_overwrites key d a.act)
+      (λ a h. in_act key c a (act_overwrites key (first c) a.act) (act_overwrites key (first c) a.act) (λ e. e) (act_overwritten_shown key c a.act h)) all any)
+
+  if_added : adds c ≡ true → FirstToo (adds (first c))
+  if_added any =
+      not_named c (actions_cells key all) (adds (first c)) none
+      (some_shown key c (λ d (a : Action). act_adds key d a.act)
+      (λ a h. in_act key c a (act_adds key (first c) a.act) (act_adds key (first c) a.act) (λ e. e) (act_added_shown key c a.act h)) all any)
+
+  if_raised : raises c ≡ true → FirstToo (raises (first c))
+  if_raised any =
+      not_named c (actions_cells key all) (raises (first c)) none
+      (some_shown key c (λ d (a : Action). act_raises key d a.act)
+      (λ a h. in_act key c a (act_raises key (first c) a.act) (act_raises key (first c) a.act) (λ e. e) (act_raised_shown key c a.act h)) all any)
+
+  -- the first cell of its family is named
+  pub first_is_named : (mode_among v all key c ≡ NoMode → ⊥) → names (first c) (actions_cells key all) ≡ true
+  first_is_named used =
+      by_test v (reads c) (overwrites c) (adds c) (raises c) used (λ e. (if_read e).0) (λ e. (if_overwritten e).0) (λ e. (if_added e).0)
+      (λ e. (if_raised e).0)
+
+  -- and is used in each way in which the cell is
+  pub first_grows : (adds (first c) ≡ true → raises (first c) ≡ true → ⊥) → Grows (mode_among v all key c) (mode_among v all key (first c))
+  first_grows apart =
+      mode_grows v (reads c) (overwrites c) (adds c) (raises c) (reads (first c)) (overwrites (first c)) (adds (first c)) (raises (first c))
+      (λ e. (if_read e).1) (λ e. (if_overwritten e).1) (λ e. (if_added e).1) (λ e. (if_raised e).1) apart

@@ -13,7 +13,7 @@ use Rattle.flu_model.specs.declared.jobs.Program.{Program}
 use Rattle.flu_model.specs.declared.modes.Mode.{Mode}
 use Rattle.flu_model.specs.declared.modes.Mode.TheVariants.{None as NoMode, Add as AddMode, Raise as RaiseMode, Read as ReadMode, Own as OwnMode}
 use Rattle.flu_model.specs.Itags.{count_of_itags}
-use Rattle.flu_model.specs.Modes.{action_reads, act_overwrites, act_adds, act_raises, mode_in_version_1, mode_in_version_2, mode_from, mode_of, modes_conflict}
+use Rattle.flu_model.specs.Modes.{action_reads, act_overwrites, act_adds, act_raises, mode_in_version_1, mode_with_reads, mode_from, mode_of, modes_conflict}
 use Rattle.flu_model.specs.Rules.{tag_fits}
 use Rattle.flu_deps.specs.declared.visits.Way.{Way}
 use Rattle.flu_deps.specs.declared.visits.Way.TheVariants.{Read, Add, Raise, Overwrite}
@@ -42,17 +42,17 @@ Carry v r o a x RaiseMode = Wit v Writes r o a x × Wit v Raises r o a x
 Carry v r o a x ReadMode = Wit v Needs r o a x
 Carry v r o a x OwnMode = Wit v Needs r o a x × Wit v Writes r o a x
 
-carried_2 : (v : ℕ) (r o a x : Bool) → Carry v r o a x (mode_in_version_2 r o a x)
-carried_2 v r true a x = (record { way = Overwrite; holds = refl; is = refl }, record { way = Overwrite; holds = refl; is = refl })
-carried_2 v true false true x = (record { way = Read; holds = refl; is = refl }, record { way = Add; holds = refl; is = refl })
-carried_2 v true false false true = (record { way = Read; holds = refl; is = refl }, record { way = Raise; holds = refl; is = refl })
-carried_2 v true false false false = record { way = Read; holds = refl; is = refl }
-carried_2 v false false true x = (record { way = Add; holds = refl; is = refl }, record { way = Add; holds = refl; is = refl })
-carried_2 v false false false true = (record { way = Raise; holds = refl; is = refl }, record { way = Raise; holds = refl; is = refl })
-carried_2 v false false false false = tt
+carried_after : (v : ℕ) (r o a x : Bool) → Carry v r o a x (mode_with_reads r o a x)
+carried_after v r true a x = (record { way = Overwrite; holds = refl; is = refl }, record { way = Overwrite; holds = refl; is = refl })
+carried_after v true false true x = (record { way = Read; holds = refl; is = refl }, record { way = Add; holds = refl; is = refl })
+carried_after v true false false true = (record { way = Read; holds = refl; is = refl }, record { way = Raise; holds = refl; is = refl })
+carried_after v true false false false = record { way = Read; holds = refl; is = refl }
+carried_after v false false true x = (record { way = Add; holds = refl; is = refl }, record { way = Add; holds = refl; is = refl })
+carried_after v false false false true = (record { way = Raise; holds = refl; is = refl }, record { way = Raise; holds = refl; is = refl })
+carried_after v false false false false = tt
 
-carried_1 : (v : ℕ) (r o a x : Bool) → (v == 2) ≡ false → Carry v r o a x (mode_in_version_1 r o a x)
-carried_1 v true o a x e = (record { way = Read; holds = refl; is = refl }, record { way = Read; holds = refl; is = ap not e })
+carried_1 : (v : ℕ) (r o a x : Bool) → (v == 1) ≡ true → Carry v r o a x (mode_in_version_1 r o a x)
+carried_1 v true o a x e = (record { way = Read; holds = refl; is = refl }, record { way = Read; holds = refl; is = e })
 carried_1 v false true a x e = (record { way = Overwrite; holds = refl; is = refl }, record { way = Overwrite; holds = refl; is = refl })
 carried_1 v false false true x e = (record { way = Add; holds = refl; is = refl }, record { way = Add; holds = refl; is = refl })
 carried_1 v false false false true e = (record { way = Raise; holds = refl; is = refl }, record { way = Raise; holds = refl; is = refl })
@@ -60,9 +60,9 @@ carried_1 v false false false false e = tt
 
 carried : (v : ℕ) (r o a x : Bool) → Carry v r o a x (mode_from v r o a x)
 carried v r o a x =
-    elim (v == 2) as (λ b. (v == 2) ≡ b → Carry v r o a x (cond b (mode_in_version_2 r o a x) (mode_in_version_1 r o a x))) [
-      | true ↦ λ e. carried_2 v r o a x
-      | false ↦ λ e. carried_1 v r o a x e
+    elim (v == 1) as (λ b. (v == 1) ≡ b → Carry v r o a x (cond b (mode_in_version_1 r o a x) (mode_with_reads r o a x))) [
+      | true ↦ λ e. carried_1 v r o a x e
+      | false ↦ λ e. carried_after v r o a x
     ] refl
 
 data IsPair : Class → Class → Type 0 where

@@ -1,35 +1,25 @@
 -- The first conflict of two tags is the first among the cells that their kinds' actions name.
-use Rattle.std.proofs.Common.{◌≡◌, true, false, Option, Some, None, List, [], ◌∷◌, ◌++◌, inl, inr, refl, sym, ap, subst, ◌∙◌}
+use Rattle.std.proofs.Common.{◌≡◌, true, false, Option, Some, None, List, [], ◌∷◌, ◌++◌, refl, sym, ap, subst, ◌∙◌}
 use Rattle.std.specs.Prelude.{slice_get, IfSome, IfNone}
 use Rattle.std.specs.List.{list_all}
 use Rattle.std.proofs.lemmas.Bool.{or_left, or_right}
 use Rattle.std.proofs.lemmas.List.Folds.{list_any-append}
-use Rattle.flu_lemmas.proofs.Tests.{false_if_not}
+use Rattle.flu_lemmas.proofs.Tests.{false_if_not, not_both}
 use Rattle.flu_model.specs.declared.events.Cell.{Cell}
 use Rattle.flu_model.specs.declared.events.Tag.{Tag}
 use Rattle.flu_model.specs.declared.jobs.Action.{Action}
 use Rattle.flu_model.specs.declared.jobs.Program.{Program}
-use Rattle.flu_model.specs.declared.modes.Mode.{Mode}
-use Rattle.flu_model.specs.declared.modes.Mode.TheVariants.{None as NoMode, Add as AddMode, Raise as RaiseMode, Read as ReadMode, Own}
-use Rattle.flu_model.specs.Contents.{cell, is_same_cell}
+use Rattle.flu_model.specs.Contents.{is_same_cell}
 use Rattle.flu_model.specs.Updates.{actions_of}
-use Rattle.flu_model.specs.Modes.{mode_of, modes_conflict}
+use Rattle.flu_model.specs.Modes.{mode_of}
 use Rattle.flu_model.specs.Order.{is_cell_before}
 use Rattle.flu_deps.specs.Conflicts.{conflicts_on, IsFirstConflict}
 use Rattle.flu_deps.specs.LoopNamed.{actions_cells, best_among}
 use Rattle.flu_deps.proofs.BestLemmas.{best_among-append, best_is_one, IsReached, best_reaches, reached_some, reached_none}
-use Rattle.flu_deps.proofs.CellLemmas.{names, used_is_named, flushed_is_owned, flushed_is_named}
+use Rattle.flu_deps.proofs.CellLemmas.{names, first, first_is_named, first_grows}
+use Rattle.flu_deps.proofs.ModeLemmas.{left_used, conflict_grows}
+use Rattle.flu_deps.proofs.SortLemmas.{one_sort}
 use Rattle.flu_deps.proofs.CellOrder.{cells_rank, not_before_itself, first_of_family}
-
-left_used : (m n : Mode) → modes_conflict m n ≡ true → m ≡ NoMode → ⊥
-left_used m n e none = let f : modes_conflict NoMode n ≡ true = ap (λ k. modes_conflict k n) (sym none) ∙ e in cc
-
-right_used : (m n : Mode) → modes_conflict m n ≡ true → n ≡ NoMode → ⊥
-right_used NoMode n e none = cc
-right_used AddMode n e none = let f : modes_conflict AddMode NoMode ≡ true = ap (modes_conflict AddMode) (sym none) ∙ e in cc
-right_used RaiseMode n e none = let f : modes_conflict RaiseMode NoMode ≡ true = ap (modes_conflict RaiseMode) (sym none) ∙ e in cc
-right_used ReadMode n e none = let f : modes_conflict ReadMode NoMode ≡ true = ap (modes_conflict ReadMode) (sym none) ∙ e in cc
-right_used Own n e none = let f : modes_conflict Own NoMode ≡ true = ap (modes_conflict Own) (sym none) ∙ e in cc
 
 all_true : (cs : List Cell) → list_all (λ c. true) cs ≡ true
 all_true [] = refl
@@ -73,20 +63,22 @@ module _ (p : Program) (a b : Tag) where
 
   covered : (c : Cell) → conflicts_on p a b c ≡ true → Covered c
   covered c e =
-      elim (used_is_named p.version first_actions a.key c (left_used (mode_of p a c) (mode_of p b c) e)) [
-        | inl one ↦ record { at = c; is_named = in_first c one; conflicts = e; not_behind = not_before_itself c }
-        | inr flushed ↦ elim (used_is_named p.version second_actions b.key c (right_used (mode_of p a c) (mode_of p b c) e)) [
-          | inl other ↦ record { at = c; is_named = in_second c other; conflicts = e; not_behind = not_before_itself c }
-          | inr too ↦ record {
-            at = cell c.family 0;
-            is_named = in_first (cell c.family 0) (flushed_is_named first_actions a.key c.family flushed);
-            conflicts =
-                (λ i. modes_conflict (flushed_is_owned p.version first_actions a.key c.family 0 flushed i)
-                (flushed_is_owned p.version second_actions b.key c.family 0 too i));
-            not_behind = first_of_family c;
-          }
-        ]
-      ]
+      elim (names c named) as (λ n. names c named ≡ n → Covered c) [
+        | true ↦ λ is. record { at = c; is_named = is; conflicts = e; not_behind = not_before_itself c }
+        | false ↦ λ none.
+            let not_first : names c (actions_cells a.key first_actions) ≡ true → ⊥ = λ h. not_both (names c named) (in_first c h) none in
+            let not_second : names c (actions_cells b.key second_actions) ≡ true → ⊥ = λ h. not_both (names c named) (in_second c h) none in record {
+              at = first c;
+              is_named =
+                  in_first (first c)
+                  (first_is_named p.version first_actions a.key c not_first (left_used (mode_of p a c) (mode_of p b c) e));
+              conflicts =
+                  conflict_grows (mode_of p a c) (mode_of p b c) (mode_of p a (first c)) (mode_of p b (first c))
+                  (first_grows p.version first_actions a.key c not_first (one_sort p a.kind a.key (first c)))
+                  (first_grows p.version second_actions b.key c not_second (one_sort p b.kind b.key (first c))) e;
+              not_behind = first_of_family c;
+            }
+      ] refl
 
   module _ (found : Option Cell) (is : found ≡ best_among (conflicts_on p a b) None named) where
     reached : (c : Cell) → names c named ≡ true → conflicts_on p a b c ≡ true → IsReached found c

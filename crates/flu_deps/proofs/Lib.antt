@@ -1,4 +1,6 @@
 pub mod CellOrder
+pub mod ModeLemmas
+pub mod SortLemmas
 pub mod CellLemmas
 pub mod BestLemmas
 pub mod ConflictLemmas

@@ -7,17 +7,16 @@ use Rattle.flu_lemmas.proofs.Numbers.{same_turns}
 use Rattle.flu_lemmas.proofs.Tests.{and_left, and_right, both}
 use Rattle.flu_model.specs.declared.events.Cell.{Cell}
 use Rattle.flu_model.specs.declared.jobs.At.{At}
-use Rattle.flu_model.specs.declared.jobs.At.TheVariants.{Alone, OwnKey, Fixed as FixedKey}
+use Rattle.flu_model.specs.declared.jobs.At.TheVariants.{Alone, OwnKey, OwnItem, Fixed as FixedKey}
 use Rattle.flu_model.specs.declared.jobs.CellRef.{CellRef}
 use Rattle.flu_model.specs.declared.jobs.Expr.{Expr}
-use Rattle.flu_model.specs.declared.jobs.Expr.TheVariants.{Lit, Value, Key, Time, Read as ReadCell, Has, Neg', Not', Two'}
+use Rattle.flu_model.specs.declared.jobs.Expr.TheVariants.{Lit, Value, Key, Item, Time, Read as ReadCell, Has, Neg', Not', Two'}
 use Rattle.flu_model.specs.declared.jobs.Piece.{Piece}
-use Rattle.flu_model.specs.declared.jobs.Piece.TheVariants.{Plain, Value as ValueField, Key as KeyField, Time as TimeField, Read as ReadField, CellValue}
+use Rattle.flu_model.specs.declared.jobs.Piece.TheVariants.{Plain, Value as ValueField, Key as KeyField, Item as ItemField, Time as TimeField}
+use Rattle.flu_model.specs.declared.jobs.Piece.TheVariants.{Read as ReadField, CellValue, FamilyCell}
 use Rattle.flu_model.specs.declared.jobs.Act.{Act}
-use Rattle.flu_model.specs.declared.jobs.Act.TheVariants.{Add as AddAct, Raise as RaiseAct, Set, Clear, Emit, Flush}
+use Rattle.flu_model.specs.declared.jobs.Act.TheVariants.{Add as AddAct, Raise as RaiseAct, Set, Clear, ClearFamily, Emit, Flush}
 use Rattle.flu_model.specs.declared.jobs.Action.{Action}
-use Rattle.flu_model.specs.Contents.{is_same_cell}
-use Rattle.flu_model.specs.Expressions.{cell_of}
 use Rattle.flu_model.specs.Modes.{means, expr_reads, guard_reads, piece_reads, act_reads, action_reads, act_overwrites, act_adds, act_raises}
 use Rattle.flu_deps.specs.declared.visits.Way.{Way}
 use Rattle.flu_deps.specs.declared.visits.Way.TheVariants.{Read, Add, Raise, Overwrite}
@@ -34,9 +33,10 @@ at_place key n All = true
 abbrev pub covers : ℕ → Cell → ℕ → Place → Bool
 covers key c family place = (family == c.family) && at_place key c.key place
 
-at_covers : (key : ℕ) (c : Cell) (family : ℕ) (at : At) → is_same_cell (cell_of (record { family = family; at = at }) key) c ≡ covers key c family (place_of at)
+at_covers : (key : ℕ) (c : Cell) (family : ℕ) (at : At) → means key c (record { family = family; at = at }) ≡ covers key c family (place_of at)
 at_covers key c family Alone = refl
 at_covers key c family OwnKey = refl
+at_covers key c family OwnItem = refl
 at_covers key c family (FixedKey n) = refl
 
 -- something that is touched in this way covers the cell: it passes each test that all touches pass
@@ -55,6 +55,15 @@ ref_found holds key c r way meant passes = record {
   passes = passes;
 }
 
+whole_found : (holds : Test → Bool) (key : ℕ) (c : Cell) (f : ℕ) (way : Way) → (c.family == f) ≡ true
+    → ((test : Test) → holds test ≡ true → test way f All ≡ true) → FoundIn holds key c way
+whole_found holds key c f way same passes = record {
+  family = f;
+  place = All;
+  covered = both (f == c.family) true (same_turns f c.family ∙ same) refl;
+  passes = passes;
+}
+
 widened : (holds more : Test → Bool) (key : ℕ) (c : Cell) (way : Way) → ((test : Test) → more test ≡ true → holds test ≡ true) → FoundIn holds key c way
     → FoundIn more key c way
 widened holds more key c way weaker found = record {
@@ -69,6 +78,7 @@ expr_found : (key : ℕ) (c : Cell) (e : Expr) → expr_reads key c e ≡ true �
 expr_found key c (Lit n) reads = cc
 expr_found key c Value reads = cc
 expr_found key c Key reads = cc
+expr_found key c Item reads = cc
 expr_found key c Time reads = cc
 expr_found key c (ReadCell r) reads = ref_found (λ test. expr_all test (ReadCell r)) key c r Read reads (λ test h. h)
 expr_found key c (Has r) reads = ref_found (λ test. expr_all test (Has r)) key c r Read reads (λ test h. h)
@@ -92,9 +102,11 @@ piece_found : (key : ℕ) (c : Cell) (q : Piece) → piece_reads key c q ≡ tru
 piece_found key c (Plain t) reads = cc
 piece_found key c ValueField reads = cc
 piece_found key c KeyField reads = cc
+piece_found key c ItemField reads = cc
 piece_found key c TimeField reads = cc
 piece_found key c (ReadField r) reads = ref_found (λ test. piece_all test (ReadField r)) key c r Read reads (λ test h. h)
 piece_found key c CellValue reads = cc
+piece_found key c (FamilyCell f) reads = whole_found (λ test. piece_all test (FamilyCell f)) key c f Read reads (λ test h. h)
 
 -- of a list, where some element has it
 some_found : {X : Type 0} (all : Test → X → Bool) (key : ℕ) (c : Cell) (way : Way) (uses : X → Bool)
@@ -131,6 +143,7 @@ act_read_found key c (AddAct r e) reads = behind Add key c r e reads
 act_read_found key c (RaiseAct r e) reads = behind Raise key c r e reads
 act_read_found key c (Set r e) reads = behind Overwrite key c r e reads
 act_read_found key c (Clear r) reads = cc
+act_read_found key c (ClearFamily f) reads = cc
 act_read_found key c (Emit qs) reads = pieces_found key c qs reads
 act_read_found key c (Flush f qs) reads =
     widened (λ test. list_all (piece_all test) qs) (λ test. act_all test (Flush f qs)) key c Read
@@ -142,19 +155,17 @@ act_overwritten_found key c (AddAct r e) own = cc
 act_overwritten_found key c (RaiseAct r e) own = cc
 act_overwritten_found key c (Set r e) own = in_front Overwrite key c r e own
 act_overwritten_found key c (Clear r) own = ref_found (λ test. act_all test (Clear r)) key c r Overwrite own (λ test h. h)
+act_overwritten_found key c (ClearFamily f) own = whole_found (λ test. act_all test (ClearFamily f)) key c f Overwrite own (λ test h. h)
 act_overwritten_found key c (Emit qs) own = cc
-act_overwritten_found key c (Flush f qs) own = record {
-  family = f;
-  place = All;
-  covered = both (f == c.family) true (same_turns f c.family ∙ own) refl;
-  passes = λ test h. and_left (test Overwrite f All) (list_all (piece_all test) qs) h;
-}
+act_overwritten_found key c (Flush f qs) own =
+    whole_found (λ test. act_all test (Flush f qs)) key c f Overwrite own (λ test h. and_left (test Overwrite f All) (list_all (piece_all test) qs) h)
 
 act_added_found : (key : ℕ) (c : Cell) (a : Act) → act_adds key c a ≡ true → FoundIn (λ test. act_all test a) key c Add
 act_added_found key c (AddAct r e) add = in_front Add key c r e add
 act_added_found key c (RaiseAct r e) add = cc
 act_added_found key c (Set r e) add = cc
 act_added_found key c (Clear r) add = cc
+act_added_found key c (ClearFamily f) add = cc
 act_added_found key c (Emit qs) add = cc
 act_added_found key c (Flush f qs) add = cc
 
@@ -163,6 +174,7 @@ act_raised_found key c (AddAct r e) raise = cc
 act_raised_found key c (RaiseAct r e) raise = in_front Raise key c r e raise
 act_raised_found key c (Set r e) raise = cc
 act_raised_found key c (Clear r) raise = cc
+act_raised_found key c (ClearFamily f) raise = cc
 act_raised_found key c (Emit qs) raise = cc
 act_raised_found key c (Flush f qs) raise = cc
 

@@ -3,13 +3,14 @@ use Rattle.std.specs.Prelude.{ℕ, ◌%◌, Bool, true, false, not, ◌==◌, �
 use Rattle.std.specs.List.{list_all}
 use Rattle.std.specs.Int.{bit_at}
 use Rattle.flu_model.specs.declared.jobs.At.{At}
-use Rattle.flu_model.specs.declared.jobs.At.TheVariants.{Alone, OwnKey, Fixed as FixedKey}
+use Rattle.flu_model.specs.declared.jobs.At.TheVariants.{Alone, OwnKey, OwnItem, Fixed as FixedKey}
 use Rattle.flu_model.specs.declared.jobs.Expr.{Expr}
-use Rattle.flu_model.specs.declared.jobs.Expr.TheVariants.{Lit, Value, Key, Time, Read as ReadCell, Has, Neg', Not', Two'}
+use Rattle.flu_model.specs.declared.jobs.Expr.TheVariants.{Lit, Value, Key, Item, Time, Read as ReadCell, Has, Neg', Not', Two'}
 use Rattle.flu_model.specs.declared.jobs.Piece.{Piece}
-use Rattle.flu_model.specs.declared.jobs.Piece.TheVariants.{Plain, Value as ValueField, Key as KeyField, Time as TimeField, Read as ReadField, CellValue}
+use Rattle.flu_model.specs.declared.jobs.Piece.TheVariants.{Plain, Value as ValueField, Key as KeyField, Item as ItemField, Time as TimeField}
+use Rattle.flu_model.specs.declared.jobs.Piece.TheVariants.{Read as ReadField, CellValue, FamilyCell}
 use Rattle.flu_model.specs.declared.jobs.Act.{Act}
-use Rattle.flu_model.specs.declared.jobs.Act.TheVariants.{Add as AddAct, Raise as RaiseAct, Set, Clear, Emit, Flush}
+use Rattle.flu_model.specs.declared.jobs.Act.TheVariants.{Add as AddAct, Raise as RaiseAct, Set, Clear, ClearFamily, Emit, Flush}
 use Rattle.flu_model.specs.declared.jobs.Action.{Action}
 use Rattle.flu_deps.specs.declared.visits.Way.{Way}
 use Rattle.flu_deps.specs.declared.visits.Way.TheVariants.{Read, Add, Raise, Overwrite}
@@ -29,6 +30,7 @@ Test = Way → ℕ → Place → Bool
 abbrev pub place_of : At → Place
 place_of Alone = Fixed 0
 place_of OwnKey = Own
+place_of OwnItem = All
 place_of (FixedKey k) = Fixed k
 
 -- all that is touched passes a test
@@ -36,6 +38,7 @@ abbrev pub expr_all : Test → Expr → Bool
 expr_all test (Lit n) = true
 expr_all test Value = true
 expr_all test Key = true
+expr_all test Item = true
 expr_all test Time = true
 expr_all test (ReadCell r) = test Read r.family (place_of r.at)
 expr_all test (Has r) = test Read r.family (place_of r.at)
@@ -51,15 +54,18 @@ abbrev pub piece_all : Test → Piece → Bool
 piece_all test (Plain t) = true
 piece_all test ValueField = true
 piece_all test KeyField = true
+piece_all test ItemField = true
 piece_all test TimeField = true
 piece_all test (ReadField r) = test Read r.family (place_of r.at)
 piece_all test CellValue = true
+piece_all test (FamilyCell f) = test Read f All
 
 abbrev pub act_all : Test → Act → Bool
 act_all test (AddAct r e) = test Add r.family (place_of r.at) && expr_all test e
 act_all test (RaiseAct r e) = test Raise r.family (place_of r.at) && expr_all test e
 act_all test (Set r e) = test Overwrite r.family (place_of r.at) && expr_all test e
 act_all test (Clear r) = test Overwrite r.family (place_of r.at)
+act_all test (ClearFamily f) = test Overwrite f All
 act_all test (Emit ps) = list_all (piece_all test) ps
 act_all test (Flush f ps) = test Overwrite f All && list_all (piece_all test) ps
 
@@ -72,7 +78,7 @@ in_class version Needs Read = true
 in_class version Needs Add = false
 in_class version Needs Raise = false
 in_class version Needs Overwrite = true
-in_class version Writes Read = not (version == 2)
+in_class version Writes Read = version == 1
 in_class version Writes Add = true
 in_class version Writes Raise = true
 in_class version Writes Overwrite = true

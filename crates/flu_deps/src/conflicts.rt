@@ -1,6 +1,7 @@
 //! Where two tags conflict.
 
 ghost use Rattle.std.specs.Prelude.{◌≡◌, ◌&&◌, IfSome, IfNone, IsTrue};
+ghost use Rattle.flu_model.specs.Contents.{cell};
 ghost use Rattle.flu_model.specs.Modes as modes;
 ghost use Rattle.flu_model.specs.Rules.{tag_fits};
 ghost use Rattle.flu_model.specs.Sorts.{is_cell_of};
@@ -19,8 +20,8 @@ struct Pair {
 }
 
 /// The first cell, by family as declared and then by key, on which two tags conflict, dependent or not: both use it, and
-/// they neither both only add to it, nor both only raise it, nor, in version 2, both only read it. None if there is no such
-/// cell.
+/// they neither both only add to it, nor both only raise it, nor, in the versions after version 1, both only read it. None if there
+/// is no such cell.
 ///
 /// The cell is one of the job's if the tags are. It takes no memory.
 pub fn conflict(p: &Program, a: Tag, b: Tag) -> Option<Cell>
@@ -34,7 +35,8 @@ pub fn conflict(p: &Program, a: Tag, b: Tag) -> Option<Cell>
 }
 
 // Each of the functions below returns the first of the cell so far and the cells that its last argument names, for a tag with
-// the key, and on which the two tags conflict.
+// the key, and on which the two tags conflict. A reference by the event's item names the first cell of its family, that of item 0: it
+// means them all, and the first stands for those that nothing else names.
 
 fn among_actions(
     p: &Program,
@@ -86,17 +88,14 @@ fn among_act(p: &Program, pair: Pair, best: Option<Cell>, key: u32, act: &Act) -
 {
     match act {
         Act::Add(r, e) | Act::Raise(r, e) | Act::Set(r, e) => {
-            let best = better(p, pair, best, cell_of(*r, key));
+            let best = better(p, pair, best, cell_of(*r, key, 0));
             among_expr(p, pair, best, key, e)
         }
-        Act::Clear(r) => better(p, pair, best, cell_of(*r, key)),
+        Act::Clear(r) => better(p, pair, best, cell_of(*r, key, 0)),
+        Act::ClearFamily(family) => better(p, pair, best, first_of(*family)),
         Act::Emit(pieces) => among_pieces(p, pair, best, key, pieces.items()),
         Act::Flush(family, pieces) => {
-            let first = Cell {
-                family: *family,
-                key: 0,
-            };
-            let best = better(p, pair, best, first);
+            let best = better(p, pair, best, first_of(*family));
             among_pieces(p, pair, best, key, pieces.items())
         }
     }
@@ -122,8 +121,14 @@ fn among_piece(p: &Program, pair: Pair, best: Option<Cell>, key: u32, piece: &Pi
     ensures { result ≡ best_among (conflicts_on p.now pair.a pair.b) best (piece_cells key piece.now) }
 {
     match piece {
-        Piece::Read(r) => better(p, pair, best, cell_of(*r, key)),
-        Piece::Plain(_) | Piece::Value | Piece::Key | Piece::Time | Piece::CellValue => best,
+        Piece::Read(r) => better(p, pair, best, cell_of(*r, key, 0)),
+        Piece::FamilyCell(family) => better(p, pair, best, first_of(*family)),
+        Piece::Plain(_)
+        | Piece::Value
+        | Piece::Key
+        | Piece::Item
+        | Piece::Time
+        | Piece::CellValue => best,
     }
 }
 
@@ -132,14 +137,21 @@ fn among_expr(p: &Program, pair: Pair, best: Option<Cell>, key: u32, e: &Expr) -
     ensures { result ≡ best_among (conflicts_on p.now pair.a pair.b) best (expr_cells key e.now) }
 {
     match e {
-        Expr::Lit(_) | Expr::Value | Expr::Key | Expr::Time => best,
-        Expr::Read(r) | Expr::Has(r) => better(p, pair, best, cell_of(*r, key)),
+        Expr::Lit(_) | Expr::Value | Expr::Key | Expr::Item | Expr::Time => best,
+        Expr::Read(r) | Expr::Has(r) => better(p, pair, best, cell_of(*r, key, 0)),
         Expr::Neg(inner) | Expr::Not(inner) => among_expr(p, pair, best, key, inner),
         Expr::Two(_, left, right) => {
             let best = among_expr(p, pair, best, key, left);
             among_expr(p, pair, best, key, right)
         }
     }
+}
+
+// The first cell of a family, which stands for all those that are touched only as cells of the whole family.
+fn first_of(family: u32) -> Cell
+    ensures { result ≡ cell family 0 }
+{
+    Cell { family, key: 0 }
 }
 
 // The cell so far, or another one if the tags conflict on it and it is before that.

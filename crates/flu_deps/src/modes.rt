@@ -2,17 +2,16 @@
 
 ghost use Rattle.std.specs.Prelude.{◌≡◌, ◌==◌, slice_get};
 ghost use Rattle.std.specs.List.{list_any};
-ghost use Rattle.flu_model.specs.Contents.{is_same_cell};
-ghost use Rattle.flu_model.specs.Expressions as meaning;
 ghost use Rattle.flu_model.specs.Modes as modes;
 
-use flu_model::{Act, Action, Cell, CellRef, Expr, Mode, Piece, Program, Tag, actions_of, cell_of};
+use flu_model::{Act, Action, At, Cell, CellRef, Expr, Mode, Piece, Program, Tag, actions_of};
 
 /// The mode of a tag on a cell, by whether its kind's actions read the cell (in an expression, a guard or a text), overwrite it
-/// (by `set`, `clear` or `flush`), add to it or raise it; `key` is the tag's key.
+/// (by `set`, `clear` or `flush`), add to it or raise it; `key` is the tag's key. What is named by the event's item is every cell of
+/// the family.
 ///
-/// In version 1 of the job's language it is Own if they read or overwrite the cell; in version 2 it is Own if they overwrite it, or
-/// read it and add to it or raise it, and Read if they only read it. Otherwise it is Add, Raise or None. It takes no memory.
+/// In version 1 of the job's language it is Own if they read or overwrite the cell; in the versions after it it is Own if they
+/// overwrite it, or read it and add to it or raise it, and Read if they only read it. Otherwise it is Add, Raise or None. It takes no memory.
 pub fn mode(p: &Program, t: Tag, c: Cell) -> Mode
     ensures { result ≡ modes.mode_of p.now t c }
 {
@@ -26,10 +25,10 @@ fn mode_among(version: u32, actions: &[Action], key: u32, c: Cell) -> Mode
     let overwrites = some_overwrites(actions, key, c);
     let adds = some_adds(actions, key, c);
     let raises = some_raises(actions, key, c);
-    if version == 2 {
-        mode_in_version_2(reads, overwrites, adds, raises)
-    } else {
+    if version == 1 {
         mode_in_version_1(reads, overwrites, adds, raises)
+    } else {
+        mode_with_reads(reads, overwrites, adds, raises)
     }
 }
 
@@ -43,8 +42,8 @@ fn mode_in_version_1(reads: bool, overwrites: bool, adds: bool, raises: bool) ->
     }
 }
 
-fn mode_in_version_2(reads: bool, overwrites: bool, adds: bool, raises: bool) -> Mode
-    ensures { result ≡ modes.mode_in_version_2 reads overwrites adds raises }
+fn mode_with_reads(reads: bool, overwrites: bool, adds: bool, raises: bool) -> Mode
+    ensures { result ≡ modes.mode_with_reads reads overwrites adds raises }
 {
     if overwrites || (reads && (adds || raises)) {
         Mode::Own
@@ -102,7 +101,7 @@ fn overwrites(act: &Act, key: u32, c: Cell) -> bool
 {
     match act {
         Act::Set(r, _) | Act::Clear(r) => means(*r, key, c),
-        Act::Flush(family, _) => c.family == *family,
+        Act::ClearFamily(family) | Act::Flush(family, _) => c.family == *family,
         Act::Add(_, _) | Act::Raise(_, _) | Act::Emit(_) => false,
     }
 }
@@ -112,8 +111,12 @@ fn adds(act: &Act, key: u32, c: Cell) -> bool
 {
     match act {
         Act::Add(r, _) => means(*r, key, c),
-        Act::Raise(_, _) | Act::Set(_, _) | Act::Clear(_) | Act::Emit(_) | Act::Flush(_, _) =>
-            false,
+        Act::Raise(_, _)
+        | Act::Set(_, _)
+        | Act::Clear(_)
+        | Act::ClearFamily(_)
+        | Act::Emit(_)
+        | Act::Flush(_, _) => false,
     }
 }
 
@@ -122,7 +125,12 @@ fn raises(act: &Act, key: u32, c: Cell) -> bool
 {
     match act {
         Act::Raise(r, _) => means(*r, key, c),
-        Act::Add(_, _) | Act::Set(_, _) | Act::Clear(_) | Act::Emit(_) | Act::Flush(_, _) => false,
+        Act::Add(_, _)
+        | Act::Set(_, _)
+        | Act::Clear(_)
+        | Act::ClearFamily(_)
+        | Act::Emit(_)
+        | Act::Flush(_, _) => false,
     }
 }
 
@@ -131,7 +139,7 @@ fn act_reads(act: &Act, key: u32, c: Cell) -> bool
 {
     match act {
         Act::Add(_, e) | Act::Raise(_, e) | Act::Set(_, e) => reads(e, key, c),
-        Act::Clear(_) => false,
+        Act::Clear(_) | Act::ClearFamily(_) => false,
         Act::Emit(pieces) | Act::Flush(_, pieces) => some_piece_reads(pieces.items(), key, c),
     }
 }
@@ -150,7 +158,7 @@ fn reads(e: &Expr, key: u32, c: Cell) -> bool
     ensures { result ≡ modes.expr_reads key c e.now }
 {
     match e {
-        Expr::Lit(_) | Expr::Value | Expr::Key | Expr::Time => false,
+        Expr::Lit(_) | Expr::Value | Expr::Key | Expr::Item | Expr::Time => false,
         Expr::Read(r) | Expr::Has(r) => means(*r, key, c),
         Expr::Neg(inner) | Expr::Not(inner) => reads(inner, key, c),
         Expr::Two(_, left, right) => reads(left, key, c) || reads(right, key, c),
@@ -168,7 +176,13 @@ fn piece_reads(piece: &Piece, key: u32, c: Cell) -> bool
 {
     match piece {
         Piece::Read(r) => means(*r, key, c),
-        Piece::Plain(_) | Piece::Value | Piece::Key | Piece::Time | Piece::CellValue => false,
+        Piece::FamilyCell(family) => c.family == *family,
+        Piece::Plain(_)
+        | Piece::Value
+        | Piece::Key
+        | Piece::Item
+        | Piece::Time
+        | Piece::CellValue => false,
     }
 }
 
@@ -176,6 +190,17 @@ fn piece_reads(piece: &Piece, key: u32, c: Cell) -> bool
 fn means(r: CellRef, key: u32, c: Cell) -> bool
     ensures { result ≡ modes.means key c r }
 {
-    let meant = cell_of(r, key);
-    meant.family == c.family && meant.key == c.key
+    r.family == c.family && is_at(r.at, key, c.key)
+}
+
+// For a tag with the first key, whether a cell with the second one is meant.
+fn is_at(at: At, own: u32, key: u32) -> bool
+    ensures { result ≡ modes.is_at at own key }
+{
+    match at {
+        At::Alone => 0 == key,
+        At::OwnKey => own == key,
+        At::OwnItem => true,
+        At::Fixed(fixed) => fixed == key,
+    }
 }

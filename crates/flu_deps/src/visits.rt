@@ -41,7 +41,7 @@ fn in_class(version: u32, class: Class, way: Way) -> bool
 {
     match class {
         Class::Needs => matches!(way, Way::Read | Way::Overwrite),
-        Class::Writes => version != 2 || !matches!(way, Way::Read),
+        Class::Writes => version == 1 || !matches!(way, Way::Read),
         Class::Adds => matches!(way, Way::Add),
         Class::Raises => matches!(way, Way::Raise),
     }
@@ -69,6 +69,7 @@ fn place_of(at: At) -> Place
     match at {
         At::Alone => Place::Fixed(0),
         At::OwnKey => Place::Own,
+        At::OwnItem => Place::All,
         At::Fixed(key) => Place::Fixed(key),
     }
 }
@@ -216,7 +217,7 @@ impl Visit {
         ensures follows { Follows self.old self.new }
     {
         match e {
-            Expr::Lit(_) | Expr::Value | Expr::Key | Expr::Time => {}
+            Expr::Lit(_) | Expr::Value | Expr::Key | Expr::Item | Expr::Time => {}
             Expr::Read(r) | Expr::Has(r) => self.cell(Way::Read, *r),
             Expr::Neg(inner) | Expr::Not(inner) => self.expr(inner),
             Expr::Two(_, left, right) => {
@@ -242,7 +243,13 @@ impl Visit {
     {
         match piece {
             Piece::Read(r) => self.cell(Way::Read, *r),
-            Piece::Plain(_) | Piece::Value | Piece::Key | Piece::Time | Piece::CellValue => {}
+            Piece::FamilyCell(family) => self.touch(Way::Read, *family, Place::All),
+            Piece::Plain(_)
+            | Piece::Value
+            | Piece::Key
+            | Piece::Item
+            | Piece::Time
+            | Piece::CellValue => {}
         }
     }
 
@@ -272,6 +279,7 @@ impl Visit {
             Act::Raise(r, e) => self.change(Way::Raise, *r, e),
             Act::Set(r, e) => self.change(Way::Overwrite, *r, e),
             Act::Clear(r) => self.cell(Way::Overwrite, *r),
+            Act::ClearFamily(family) => self.touch(Way::Overwrite, *family, Place::All),
             Act::Emit(pieces) => self.pieces(pieces.items()),
             Act::Flush(family, pieces) => {
                 self.touch(Way::Overwrite, *family, Place::All);

@@ -36,7 +36,7 @@ fn action_cost(action: &Action) -> u64 {
 fn act_cost(act: &Act) -> u64 {
     match act {
         Act::Add(_, expr) | Act::Raise(_, expr) | Act::Set(_, expr) => expr_cost(expr),
-        Act::Clear(_) => 0,
+        Act::Clear(_) | Act::ClearFamily(_) => 0,
         Act::Emit(pieces) | Act::Flush(_, pieces) => text_cost(pieces.items()),
     }
 }
@@ -52,7 +52,13 @@ fn expr_cost(expr: &Expr) -> u64 {
 // How many nodes an expression has.
 fn terms(expr: &Expr) -> u64 {
     match expr {
-        Expr::Lit(_) | Expr::Value | Expr::Key | Expr::Time | Expr::Read(_) | Expr::Has(_) => 1,
+        Expr::Lit(_)
+        | Expr::Value
+        | Expr::Key
+        | Expr::Item
+        | Expr::Time
+        | Expr::Read(_)
+        | Expr::Has(_) => 1,
         Expr::Neg(inner) | Expr::Not(inner) => terms(inner).saturating_add(1),
         Expr::Two(_, left, right) => {
             let both = terms(left).saturating_add(terms(right));

@@ -27,7 +27,7 @@ use Rattle.flu_fork.specs.Classes.{some_has, is_needed, is_copied, below}
 use Rattle.flu_fork.specs.Fitting.{Fits}
 use Rattle.flu_fork.specs.Parts.{left_part, right_part, joined_state, joined_counts, ArePaired}
 use Rattle.flu_fork.specs.Lots.{job, nodes, setting_of}
-use Rattle.flu_fork.specs.Tables.{IsRight, IsRightAt, count_by, counts_by}
+use Rattle.flu_fork.specs.Tables.{is_copied_by, IsRight, IsRightAt, count_by, counts_by}
 use Rattle.flu_lemmas.proofs.Ranges.{map_range_alike}
 use Rattle.flu_lemmas.proofs.Places.{slice_get_push}
 
@@ -83,7 +83,7 @@ left_at law false write w = with_nothing law w
 
 pub left_is : JoinsSplits → (p : Program) (nodes : List Node) (r : ℕ) (table : Right) (s t : Contents) → IsRight p nodes r table
     → t ≡ cells.within table.needed s
-    → join (cells.outside table.needed s) (cells.within table.copied t) ≡ left_part p nodes r s
+    → join (cells.outside table.needed s) (cells.only (is_copied_by table.copied) t) ≡ left_part p nodes r s
 left_is law p nodes r table s t is taken = λ i c.
     ((λ j. joined_worth (cond (not (is.needed c j)) (s c) None) (cond (is.copied c j) (taken j c) None))
     ∙ (λ j. joined_worth (cond (not (need c)) (s c) None) (cond (is_copied p (below p nodes r) c) (cond (is.needed c j) (s c) None) None))
@@ -101,9 +101,9 @@ kept_where_not true o = refl
 kept_where_not false o = refl
 
 pub joined_is : (p : Program) (nodes : List Node) (r : ℕ) (table : Right) (s t : Contents) → IsRight p nodes r table
-    → join s (cells.outside table.copied t) ≡ joined_state p nodes r s t
+    → join s (cells.only (λ c. not (is_copied_by table.copied c)) t) ≡ joined_state p nodes r s t
 joined_is p nodes r table s t is = λ i c.
-    joined_worth (s c) ((kept_where_not (cells.is_in table.copied c) (t c) ∙ ap (λ b. cond b None (t c)) (is.copied c)) i)
+    joined_worth (s c) ((kept_where_not (is_copied_by table.copied c) (t c) ∙ ap (λ b. cond b None (t c)) (is.copied c)) i)
 
 -- ---- what fits, in other words for the same
 

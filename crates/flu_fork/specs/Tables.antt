@@ -7,23 +7,28 @@ use Rattle.flu_model.specs.declared.modes.Mode.{Mode}
 use Rattle.flu_model.specs.declared.plans.Node.{Node}
 use Rattle.flu_model.specs.Itags.{count_of_itags}
 use Rattle.flu_deps.specs.Owned.{kids_at}
-use Rattle.flu_cells.specs.Sets.{is_in}
+use Rattle.flu_cells.specs.Sets.{is_in, is_in_but}
 use Rattle.flu_cells.specs.declared.sets.CellSet.{CellSet}
 use Rattle.flu_fork.specs.Classes.{below, some_has, is_needed, is_copied}
+use Rattle.flu_fork.specs.declared.rights.Copied.{Copied}
 use Rattle.flu_fork.specs.declared.rights.Right.{Right}
 
 -- the cells on which some itag of a node's subtree has such a mode
 abbrev pub IsSetOf : Program → List Node → ℕ → (Mode → Bool) → CellSet → Type 0
 IsSetOf p nodes w test set = (c : Cell) → is_in set c ≡ some_has p test (below p nodes w) c
 
+-- the cell is one of those that are copied
+abbrev pub is_copied_by : Copied → Cell → Bool
+is_copied_by k c = is_in_but k.written k.read c
+
 -- those that are copied to a node, if that is a right child
-abbrev pub IsCopiedSet : Program → List Node → ℕ → CellSet → Type 0
-IsCopiedSet p nodes right set = (c : Cell) → is_in set c ≡ is_copied p (below p nodes right) c
+abbrev pub IsCopiedSet : Program → List Node → ℕ → Copied → Type 0
+IsCopiedSet p nodes right k = (c : Cell) → is_copied_by k c ≡ is_copied p (below p nodes right) c
 
 -- the cells that some itag of a node's subtree needs, those of them that are copied, and whether each itag is of that subtree
 pub record IsRight (p : Program) (nodes : List Node) (right : ℕ) (table : Right) : Type 0 where
   pub needed : (c : Cell) → is_in table.needed c ≡ is_needed p (below p nodes right) c
-  pub copied : (c : Cell) → is_in table.copied c ≡ is_copied p (below p nodes right) c
+  pub copied : (c : Cell) → is_copied_by table.copied c ≡ is_copied p (below p nodes right) c
   pub itags : table.itags.items ≡ map (below p nodes right) (range_with_len 0 (count_of_itags p))
 
 -- those of the right child of a node, if it has one

@@ -1,11 +1,11 @@
 //! How a lot is parted between the children of a node, and how their lots come together again.
 
-ghost use Rattle.std.specs.Prelude.{◌≡◌, ◌<◌, ℕ, Some, length, IsSome, IfOk};
+ghost use Rattle.std.specs.Prelude.{◌≡◌, ◌<◌, ℕ, not, Some, length, IsSome, IfOk};
 ghost use Rattle.flu_model.specs.Contents as contents;
 ghost use Rattle.flu_cells.specs.Holding.{held};
-ghost use Rattle.flu_cells.specs.Sets.{within, outside};
+ghost use Rattle.flu_cells.specs.Sets.{only, within, outside};
 ghost use Rattle.flu_fork.specs.Lots.{nodes, kids, LotFits, LotsPaired, CountsNothing, HasParts, HasCounts, PartsFitKids, IsJoined, HasJoinedCounts};
-ghost use Rattle.flu_fork.specs.Tables.{counts_by, count_by};
+ghost use Rattle.flu_fork.specs.Tables.{is_copied_by, counts_by, count_by};
 
 use crate::case::Case;
 use crate::counts::{Counts, no_counts};
@@ -61,7 +61,7 @@ pub fn fork(alloc: Global, case: &Case, node: u32, lot: Lot) -> Result<(Lot, Lot
 /// one as well.
 pub(crate) fn part(alloc: Global, right: &Right, lot: Lot) -> Result<(Lot, Lot), AllocError>
     ensures left { IfOk result (λ parts. held parts.0.state ≡ contents.join (outside right.now.needed (held lot.state))
-        (within right.now.copied (held parts.1.state))) }
+        (only (is_copied_by right.now.copied) (held parts.1.state))) }
     ensures right { IfOk result (λ parts. held parts.1.state ≡ within right.now.needed (held lot.state)) }
     ensures counts { IfOk result (HasCounts lot) }
 {
@@ -71,7 +71,7 @@ pub(crate) fn part(alloc: Global, right: &Right, lot: Lot) -> Result<(Lot, Lot),
         upto,
     } = lot;
     let taken = state.take_out(&right.needed)?;
-    state.absorb(taken.copy_of(&right.copied)?)?;
+    state.absorb(taken.copy_of(&right.copied.read, &right.copied.written)?)?;
     let other = Lot {
         state: taken,
         since: upto.copy(alloc)?,
@@ -106,7 +106,8 @@ pub fn join(alloc: Global, case: &Case, node: u32, left: Lot, right: Lot) -> Res
 /// Two lots together, where the right one's cells of a set are dropped, and the events of some itags are counted as in the right
 /// one, all others as in the left one.
 pub(crate) fn merge(alloc: Global, table: &Right, left: Lot, right: Lot) -> Result<Lot, AllocError>
-    ensures state { IfOk result (λ lot. held lot.state ≡ contents.join (held left.state) (outside table.now.copied (held right.state))) }
+    ensures state { IfOk result (λ lot. held lot.state
+        ≡ contents.join (held left.state) (only (λ c. not (is_copied_by table.now.copied c)) (held right.state))) }
     ensures since { IfOk result (λ lot. lot.since ≡ left.since) }
     ensures upto { IfOk result (λ lot. lot.upto ≡ counts_by table.now.itags.items left.upto right.upto) }
 {
@@ -121,7 +122,7 @@ pub(crate) fn merge(alloc: Global, table: &Right, left: Lot, right: Lot) -> Resu
         upto: others_upto,
     } = right;
     let upto = counts_by(alloc, table.itags.as_slice(), &upto, &others_upto)?;
-    others.clear_all(&table.copied);
+    others.clear_all(&table.copied.read, &table.copied.written);
     state.absorb(others)?;
     Ok(Lot { state, since, upto })
 }

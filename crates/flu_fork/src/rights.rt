@@ -1,18 +1,18 @@
 //! What goes to the right child of a node: the cells that some itag of its subtree needs, which of them are copied, and these itags.
 
-ghost use Rattle.std.specs.Prelude.{◌≡◌, ◌<◌, ◌&&◌, false, map, not, slice_get, length, IfOk, OnOk};
+ghost use Rattle.std.specs.Prelude.{◌≡◌, ◌≢◌, ◌<◌, ◌&&◌, ◌||◌, false, map, not, slice_get, length, IfOk, OnOk};
 ghost use Rattle.std.specs.List.{list_any, range_with_len};
 ghost use Rattle.flu_model.specs.declared.events.Cell.{Cell};
 ghost use Rattle.flu_model.specs.Itags.{count_of_itags, tag_of_itag};
 ghost use Rattle.flu_model.specs.Modes.{mode_of, action_reads};
 ghost use Rattle.flu_model.specs.Owners.{subtree_owns};
 ghost use Rattle.flu_model.specs.Updates as updates;
-ghost use Rattle.flu_cells.specs.Sets.{is_in};
+ghost use Rattle.flu_cells.specs.Sets.{is_in, is_in_but};
 ghost use Rattle.flu_deps.specs.Validated.{plan_of, IsValidFor};
 ghost use Rattle.flu_laws.specs.Uses.{needs, writes};
 ghost use Rattle.flu_fork.specs.Classes.{below, mode_by};
 ghost use Rattle.flu_fork.specs.Gathering.{GrowsBy, reads_by};
-ghost use Rattle.flu_fork.specs.Tables.{IsSetOf, IsCopiedSet, IsRight, IsRightAt, AreTables};
+ghost use Rattle.flu_fork.specs.Tables.{is_copied_by, IsSetOf, IsCopiedSet, IsRight, IsRightAt, AreTables};
 
 use crate::gathering::{add_reads, add_targets};
 use crate::laws::nothing_is_copied;
@@ -22,12 +22,20 @@ use flu_laws::modes_are_of_actions;
 use flu_model::{Itag, Program, Tag, itag_count, tag_of};
 use std::alloc::{AllocError, Global};
 
+/// The cells that are copied: those that some itag of a node's subtree reads and none there writes. The whole families of `read`
+/// count without the cells of `written`.
+#[derive(Drop)]
+pub struct Copied {
+    pub read: CellSet,
+    pub written: CellSet,
+}
+
 /// The cells that some itag of a node's subtree needs, those of them that no itag there writes, so that they are copied and not
 /// moved, and for each itag whether it is of that subtree.
 #[derive(Drop)]
 pub struct Right {
     pub needed: CellSet,
-    pub copied: CellSet,
+    pub copied: Copied,
     pub itags: Vec<bool>,
 }
 
@@ -108,32 +116,43 @@ fn add_needed(set: &mut CellSet, nothing: &CellSet, p: &Program, t: Tag) -> Resu
 }
 
 // The cells that are copied to a node, if that is a right child.
-fn copied_below(alloc: Global, p: &Program, v: &Valid, w: u32) -> Result<CellSet, AllocError>
+fn copied_below(alloc: Global, p: &Program, v: &Valid, w: u32) -> Result<Copied, AllocError>
     requires { IsValidFor p.now v.now }
     ensures { IfOk result (IsCopiedSet p.now (plan_of v.now).nodes w) }
 {
-    if p.version != 2 {
+    if p.version == 1 {
         nothing_is_copied();
-        return Ok(CellSet::new(alloc));
+        return Ok(no_copies(alloc));
     }
     read_alone(alloc, p, v, w)
 }
 
-// The same in a job of version 2: what some itag of the subtree reads, but what some itag there writes.
-fn read_alone(alloc: Global, p: &Program, v: &Valid, w: u32) -> Result<CellSet, AllocError>
+// No cell is copied.
+fn no_copies(alloc: Global) -> Copied
+    ensures { (c : Cell) → is_copied_by result c ≡ false }
+{
+    Copied {
+        read: CellSet::new(alloc),
+        written: CellSet::new(alloc),
+    }
+}
+
+// The same in a job that is not of version 1: what some itag of the subtree reads, but what some itag there writes.
+fn read_alone(alloc: Global, p: &Program, v: &Valid, w: u32) -> Result<Copied, AllocError>
     requires valid { IsValidFor p.now v.now }
-    requires version { p.now.version ≡ 2 }
+    requires version { p.now.version ≢ 1 }
     ensures { IfOk result (IsCopiedSet p.now (plan_of v.now).nodes w) }
 {
     modes_are_of_actions();
     let written = written_below(alloc, p, v, w)?;
-    read_below(alloc, p, v, w, &written)
+    let read = read_below(alloc, p, v, w, &written)?;
+    Ok(Copied { read, written })
 }
 
-// The cells that some itag of a node's subtree writes, in a job of version 2.
+// The cells that some itag of a node's subtree writes, in a job that is not of version 1.
 fn written_below(alloc: Global, p: &Program, v: &Valid, w: u32) -> Result<CellSet, AllocError>
     requires valid { IsValidFor p.now v.now }
-    requires version { p.now.version ≡ 2 }
+    requires version { p.now.version ≢ 1 }
     ensures { IfOk result (IsSetOf p.now (plan_of v.now).nodes w writes) }
 {
     let mut set = CellSet::new(alloc);
@@ -153,7 +172,7 @@ fn add_written_below(
 ) -> Result<(), AllocError>
     requires valid { IsValidFor p.now v.now }
     requires in_range { i.0 < count_of_itags p.now }
-    requires version { p.now.version ≡ 2 }
+    requires version { p.now.version ≢ 1 }
     ensures { OnOk result (GrowsBy set.old set.new (λ c. subtree_owns p.now (plan_of v.now).nodes w i && writes (mode_of p.now (tag_of_itag p.now i) c))) }
 {
     if !is_below(p, v, w, i) {
@@ -164,14 +183,14 @@ fn add_written_below(
 
 // Adds the cells that a tag writes.
 fn add_written(set: &mut CellSet, p: &Program, t: Tag) -> Result<(), AllocError>
-    requires { p.now.version ≡ 2 }
+    requires { p.now.version ≢ 1 }
     ensures { OnOk result (GrowsBy set.old set.new (λ c. writes (mode_of p.now t c))) }
 {
     modes_are_of_actions();
     add_targets(set, true, p, t)
 }
 
-// The cells that some itag of a node's subtree reads, but those of another set.
+// The cells that some itag of a node's subtree reads, but those of another set, without which whole families count.
 fn read_below(
     alloc: Global,
     p: &Program,
@@ -180,7 +199,7 @@ fn read_below(
     written: &CellSet,
 ) -> Result<CellSet, AllocError>
     requires { IsValidFor p.now v.now }
-    ensures { IfOk result (λ set. (c : Cell) → is_in set c ≡ list_any
+    ensures { IfOk result (λ set. (c : Cell) → is_in_but written.now set c ≡ list_any
         (λ i. below p.now (plan_of v.now).nodes w i && (not (is_in written.now c) && reads_by p.now i c)) (range_with_len 0 (count_of_itags p.now))) }
 {
     let mut set = CellSet::new(alloc);
@@ -201,7 +220,8 @@ fn add_read_below(
 ) -> Result<(), AllocError>
     requires valid { IsValidFor p.now v.now }
     requires in_range { i.0 < count_of_itags p.now }
-    ensures { OnOk result (GrowsBy set.old set.new (λ c. subtree_owns p.now (plan_of v.now).nodes w i && (not (is_in written.now c) && reads_by p.now i.0 c))) }
+    ensures { OnOk result ((c : Cell) → is_in_but written.now set.new c ≡ (is_in_but written.now set.old c
+        || (subtree_owns p.now (plan_of v.now).nodes w i && (not (is_in written.now c) && reads_by p.now i.0 c)))) }
 {
     if !is_below(p, v, w, i) {
         return Ok(());
@@ -213,7 +233,7 @@ fn add_read_below(
 fn nothing(alloc: Global) -> Right {
     Right {
         needed: CellSet::new(alloc),
-        copied: CellSet::new(alloc),
+        copied: no_copies(alloc),
         itags: Vec::new(alloc),
     }
 }

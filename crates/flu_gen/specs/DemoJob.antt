@@ -53,13 +53,13 @@ abbrev pub tick_actions : List Action
 tick_actions = always (Flush 0 (Plain (codes "page ") ∷ KeyField ∷ Plain (codes " views ") ∷ CellValue ∷ [])) ∷ []
 
 abbrev pub keyed_kind : List ℕ → List Action → Kind
-keyed_kind name actions = record { name = name; keyed = true; has_value = true; actions = actions }
+keyed_kind name actions = record { name = name; keyed = true; has_item = false; has_value = true; actions = actions }
 
 abbrev pub demo_kinds : List Kind
 demo_kinds =
     keyed_kind (codes "view") view_actions
     ∷ keyed_kind (codes "update") update_actions
-    ∷ record { name = codes "tick"; keyed = false; has_value = false; actions = tick_actions } ∷ []
+    ∷ record { name = codes "tick"; keyed = false; has_item = false; has_value = false; actions = tick_actions } ∷ []
 
 -- ---- dependencies
 abbrev pub depend : ℕ → ℕ → Bool → Depend

@@ -45,7 +45,7 @@ abbrev pub value_drawn : ℕ → ℕ
 value_drawn draw = draw % 100
 
 abbrev pub event_at : ℕ → ℕ → ℕ → Event
-event_at time itag value = record { time = time; itag = record { 0 = itag }; value = pos value }
+event_at time itag value = record { time = time; itag = record { 0 = itag }; item = 0; value = pos value }
 
 -- the event of a draw at a time
 abbrev pub drawn_event : ℕ → ℕ → Event

@@ -35,6 +35,7 @@ fn drawn_event(time: u64, draw: u32) -> Event
     Event {
         time,
         itag: itag_drawn(draw),
+        item: 0,
         value: i64::from(draw % 100),
     }
 }

@@ -159,6 +159,7 @@ fn keyed_kind(alloc: Global, name: &str, actions: List<Action>) -> Result<Kind, 
     Ok(Kind {
         name,
         keyed: true,
+        has_item: false,
         has_value: true,
         actions,
     })
@@ -172,6 +173,7 @@ fn kinds(alloc: Global) -> Result<List<Kind>, AllocError>
     let tick = Kind {
         name: name_of(alloc, "tick")?,
         keyed: false,
+        has_item: false,
         has_value: false,
         actions: tick_actions(alloc)?,
     };

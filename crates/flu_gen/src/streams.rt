@@ -101,6 +101,7 @@ fn tick(time: u64, clock: u32) -> Item
     Item::Event(Event {
         time,
         itag: Itag(clock),
+        item: 0,
         value: 0,
     })
 }

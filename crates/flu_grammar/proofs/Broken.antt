@@ -1,21 +1,23 @@
 -- Each fault that a look at a part of a written job finds is by a rule that the part breaks.
 use Rattle.std.proofs.Common.{◌≡◌, ◌≢◌, ℕ, zero, suc, ◌+◌, ◌<◌, ◌≤◌, Bool, true, false, cond, List, [], ◌∷◌, ◌++◌}
 use Rattle.std.proofs.Common.{length, Option, Some, None, Ok, Err, refl, sym, ap, subst, ◌∙◌, length-append, arith}
-use Rattle.std.specs.Prelude.{Result, ◌&&◌, nat_lt, nat_le, slice_get}
+use Rattle.std.specs.Prelude.{Result, ◌==◌, ◌&&◌, nat_lt, nat_le, slice_get, is_some, if◌then◌else◌}
 use Rattle.std.specs.List.{list_all, list_any}
 use Rattle.std.proofs.lemmas.Grind.{common_steps}
 use Rattle.flu_lemmas.specs.Loops.{◌>>=◌, ◌>>◌, each}
 use Rattle.flu_lemmas.proofs.Loops.{bind_ok, collect}
-use Rattle.flu_lemmas.proofs.Tests.{not_both, and_left, and_right}
+use Rattle.flu_lemmas.proofs.Searches.{eq_true}
+use Rattle.flu_lemmas.proofs.Tests.{not_both, and_left, and_right, both}
 use Rattle.flu_lemmas.proofs.Elements.{passes_at, fails_at}
 use Rattle.flu_model.specs.declared.limits.What.TheVariants.{Key, Actions, Height}
 use Rattle.flu_model.specs.declared.jobs.Family.{Family}
 use Rattle.flu_model.specs.declared.jobs.Sort.{Sort}
 use Rattle.flu_model.specs.declared.jobs.At.TheVariants as at
+use Rattle.flu_model.specs.declared.jobs.Piece.{Piece as JobPiece}
 use Rattle.flu_model.specs.declared.jobs.Piece.TheVariants as piece
 use Rattle.flu_model.specs.Contents.{key_count}
-use Rattle.flu_model.specs.Erasure.{PlainAction, Literal, EventValue, EventKey, EventTime, CellRead}
-use Rattle.flu_model.specs.Erasure.{CellHeld, Negative, Negation, Operation, Clearing, Emitting, Flushing}
+use Rattle.flu_model.specs.Erasure.{PlainAction, Literal, EventValue, EventKey, EventItem, EventTime, CellRead}
+use Rattle.flu_model.specs.Erasure.{CellHeld, Negative, Negation, Operation, Clearing, ClearingFamily, Emitting, Flushing}
 use Rattle.flu_text.specs.declared.written.WrittenSpan.{WrittenSpan}
 use Rattle.flu_text.specs.declared.written.WrittenNumber.{WrittenNumber}
 use Rattle.flu_syntax.specs.declared.tree.WrittenKey.{WrittenKey}
@@ -31,28 +33,35 @@ use Rattle.flu_parse.specs.declared.names.KindHead.{KindHead}
 use Rattle.flu_parse.specs.declared.pieces.WrittenPiece.{WrittenPiece}
 use Rattle.flu_parse.specs.declared.pieces.WrittenPiece.TheVariants as w
 use Rattle.flu_parse.specs.Faults.{Found, unless}
-use Rattle.flu_parse.specs.Naming.{Naming, look_up, known, family_of}
+use Rattle.flu_parse.specs.Naming.{Naming, takes_items, look_up, known, family_of}
 use Rattle.flu_parse.specs.Cells.{resolved_key, is_wanted, brackets_fit, family_for, at_of, resolved_cell}
-use Rattle.flu_parse.specs.Terms.{height, first_part, first_token, term_of, expression_of}
-use Rattle.flu_parse.specs.Templates.{Template, template_at, known_name, known_names, own_key_fits, read_fits, piece_fits, piece_of, pieces_of, template_of}
-use Rattle.flu_parse.specs.Actions.{sort_for, act_with, resolved_act, guard_of, action_of, with_action, resolved_actions}
+use Rattle.flu_parse.specs.Terms.{height, is_alone, is_item, op_fits, first_part, first_token, term_of, expression_of}
+use Rattle.flu_parse.specs.Templates.{Template, template_at, known_name, known_names, own_key_fits, read_fits, piece_fits, family_piece}
+use Rattle.flu_parse.specs.Templates.{piece_of, pieces_of, may_be_printed, template_of}
+use Rattle.flu_parse.specs.Actions.{sort_for, act_with, clears_whole, resolved_act, guard_of, action_of, with_action, resolved_actions}
 use Rattle.flu_grammar.specs.Actions.{MeansAction}
 use Rattle.flu_grammar.specs.Templates.{AreCut}
 use Rattle.flu_grammar.specs.Faults.{NoneIsNamed}
-use Rattle.flu_grammar.specs.Broken.{family_name, IsFamily, has_brackets, BreaksKey, key_of_unkeyed, key_too_great, BreaksCell, cell_unknown}
-use Rattle.flu_grammar.specs.Broken.{cell_of_other_sort, cell_brackets, cell_key, BreaksTerm, value_of_none, key_of_unkeyed_kind, in_read, in_held}
-use Rattle.flu_grammar.specs.Broken.{inside_parentheses, in_negative, in_negation, on_the_left, on_the_right, BreaksExpression, in_term, too_high}
-use Rattle.flu_grammar.specs.Broken.{BreaksPiece, piece_value, piece_key, piece_brackets, piece_own_key, BreaksTemplate, field_unknown, no_pieces}
+use Rattle.flu_grammar.specs.Means.{HasItems}
+use Rattle.flu_grammar.specs.Cells.{family_name}
+use Rattle.flu_grammar.specs.Broken.{IsFamily, has_brackets, BreaksKey, key_of_unkeyed, item_of_none, key_too_great, BreaksCell, cell_unknown}
+use Rattle.flu_grammar.specs.Broken.{cell_of_other_sort, cell_brackets, cell_key, BreaksTerm, value_of_none, key_of_unkeyed_kind, item_of_no_items, in_read}
+use Rattle.flu_grammar.specs.Broken.{in_held, inside_parentheses, in_negative, in_negation, on_the_left, on_the_right, division, BreaksExpression, in_term}
+use Rattle.flu_grammar.specs.Broken.{too_high, BreaksPiece, piece_value, piece_key, piece_item, piece_brackets, piece_own_key, piece_own_item}
+use Rattle.flu_grammar.specs.Broken.{BreaksTemplate, field_unknown, family_unknown, no_pieces, printed_too_long, ClearsWhole}
 use Rattle.flu_grammar.specs.Broken.{wrong_piece, field_key, BreaksDeed, in_cell, in_amount, in_cleared, in_emitted, flushed_unknown, flushed_unkeyed}
 use Rattle.flu_grammar.specs.Broken.{in_flushed, BreaksAction, in_deed, in_guard, BreaksActions, in_action, too_many_actions}
 use Rattle.flu_grammar.proofs.FaultKinds.{FaultsAre, no_fault, faults_bind}
 use Rattle.flu_grammar.proofs.Heads.{looked_up}
 use Rattle.flu_grammar.proofs.Cuts.{template_cut, cut_template}
 use Rattle.flu_grammar.proofs.Fields.{is_formless, told, formed, all_formed}
-use Rattle.flu_grammar.proofs.JobTemplates.{fit_formed}
-use Rattle.flu_grammar.proofs.JobActions.{actions_mean}
-use Rattle.flu_grammar.proofs.Lists.{some_same, pairs_length}
-use Rattle.flu_grammar.proofs.JobCells.{family_head, KnowFamilies, known_is, wants_sort, look_up_found}
+use Rattle.flu_grammar.proofs.Items.{divides_before}
+use Rattle.flu_grammar.proofs.Looks.{found_each}
+use Rattle.flu_grammar.proofs.JobTerms.{item_is, no_item}
+use Rattle.flu_grammar.proofs.JobTemplates.{pieces_mean, fit_formed, prints}
+use Rattle.flu_grammar.proofs.JobActions.{keyed_family, actions_mean}
+use Rattle.flu_grammar.proofs.Lists.{some_same, no_some, pairs_length}
+use Rattle.flu_grammar.proofs.JobCells.{family_head, KnowFamilies, under_head, takes, known_is, wants_sort, look_up_found}
 
 -- ---- looks, with what they found before
 
@@ -70,6 +79,11 @@ module _ {E : Type 0} (P : E → Type 0) where
       → FaultsAre P (cond {A = Result (Unit {0}) E} b (Ok tt) (Err fault) >> rest)
   faults_where true fault rest p q e h = q refl e h
   faults_where false fault rest p q e h = let same : fault ≡ e = cc in subst P same (p refl)
+
+  -- one look or another, as a test says
+  pub faults_choice : {A : Type 0} (b : Bool) (r s : Result A E) → (b ≡ true → FaultsAre P r) → (b ≡ false → FaultsAre P s) → FaultsAre P (cond b r s)
+  faults_choice true r s p q = p refl
+  faults_choice false r s p q = q refl
 
   pub faults_thens : {A B : Type 0} (r : Result A E) (g : Result B E) → FaultsAre P r → ((x : A) → r ≡ Ok x → FaultsAre P g) → FaultsAre P (r >> g)
   faults_thens (Ok x) g a b e h = b x refl e h
@@ -160,26 +174,31 @@ number_breaks P n great =
     faults_where P (nat_lt (written_value n.value) key_count) (f.OverLimit Key (written_value n.value)) (Ok (written_value n.value))
     (λ fails. great (not_less (written_value n.value) key_count fails)) (λ yes. no_fault P (written_value n.value))
 
-key_breaks : (under : KindHead) (key : WrittenKey) → FaultsAre (BreaksKey under.keyed key) (at_of under key)
-key_breaks under k.Alone = no_fault (BreaksKey under.keyed k.Alone) at.Alone
-key_breaks under (k.OwnKey place) =
-    faults_where (BreaksKey under.keyed (k.OwnKey place)) under.keyed (f.WrongShape place) (Ok at.OwnKey) (λ fails. key_of_unkeyed place fails)
-    (λ yes. no_fault (BreaksKey under.keyed (k.OwnKey place)) at.OwnKey)
-key_breaks under (k.Fixed n) =
-    faults_bind (BreaksKey under.keyed (k.Fixed n)) (resolved_key n) (λ key. Ok (at.Fixed key))
-    (number_breaks (BreaksKey under.keyed (k.Fixed n)) n (λ great. key_too_great n great))
-    (λ key. no_fault (BreaksKey under.keyed (k.Fixed n)) (at.Fixed key))
+no_items : (n : Naming) (under : KindHead) → takes_items n under ≡ false → ¬ HasItems (under_head n under)
+no_items n under fails has = not_both (takes_items n under) (takes n under has) fails
+
+key_breaks : (n : Naming) (under : KindHead) (key : WrittenKey) → FaultsAre (BreaksKey (under_head n under) key) (at_of n under key)
+key_breaks n under k.Alone = no_fault (BreaksKey (under_head n under) k.Alone) at.Alone
+key_breaks n under (k.OwnKey place) =
+    faults_where (BreaksKey (under_head n under) (k.OwnKey place)) under.keyed (f.WrongShape place) (Ok at.OwnKey) (λ fails. key_of_unkeyed place fails)
+    (λ yes. no_fault (BreaksKey (under_head n under) (k.OwnKey place)) at.OwnKey)
+key_breaks n under (k.OwnItem place) =
+    faults_where (BreaksKey (under_head n under) (k.OwnItem place)) (takes_items n under) (f.WrongShape place) (Ok at.OwnItem)
+    (λ fails. item_of_none place (no_items n under fails)) (λ yes. no_fault (BreaksKey (under_head n under) (k.OwnItem place)) at.OwnItem)
+key_breaks n under (k.Fixed m) =
+    faults_bind (BreaksKey (under_head n under) (k.Fixed m)) (resolved_key m) (λ key. Ok (at.Fixed key))
+    (number_breaks (BreaksKey (under_head n under) (k.Fixed m)) m (λ great. key_too_great m great))
+    (λ key. no_fault (BreaksKey (under_head n under) (k.Fixed m)) (at.Fixed key))
 
 brackets_apart : (keyed : Bool) (key : WrittenKey) → brackets_fit keyed key ≡ false → keyed ≢ has_brackets key
 brackets_apart true k.Alone fails same = absurd cc
 brackets_apart false k.Alone fails same = absurd cc
 brackets_apart true (k.OwnKey place) fails same = absurd cc
 brackets_apart false (k.OwnKey place) fails same = absurd cc
+brackets_apart true (k.OwnItem place) fails same = absurd cc
+brackets_apart false (k.OwnItem place) fails same = absurd cc
 brackets_apart true (k.Fixed n) fails same = absurd cc
 brackets_apart false (k.Fixed n) fails same = absurd cc
-
-no_some : {X : Type 0} (x : X) → None ≡ Some x → ⊥
-no_some x e = cc
 
 module _ (text : List ℕ) (n : Naming) (families : List Family) (knows : KnowFamilies n families) where
   -- ---- families
@@ -207,7 +226,7 @@ module _ (text : List ℕ) (n : Naming) (families : List Family) (knows : KnowFa
     -- ---- cells
 
     abbrev Cell : Option Sort → WrittenRef → JobFault → Type 0
-    Cell wanted r fault = BreaksCell text families under.keyed wanted r fault
+    Cell wanted r fault = BreaksCell text families (under_head n under) wanted r fault
 
     family_breaks : (wanted : Option Sort) (r : WrittenRef) → FaultsAre (Cell wanted r) (family_for text n wanted r)
     family_breaks wanted r =
@@ -227,16 +246,16 @@ module _ (text : List ℕ) (n : Naming) (families : List Family) (knows : KnowFa
 
     cell_breaks : (wanted : Option Sort) (r : WrittenRef) → FaultsAre (Cell wanted r) (resolved_cell text n under wanted r)
     cell_breaks wanted r =
-        faults_bind (Cell wanted r) (family_for text n wanted r) (λ h. at_of under r.key >>= λ a. Ok (record { family = h.number; at = a }))
+        faults_bind (Cell wanted r) (family_for text n wanted r) (λ h. at_of n under r.key >>= λ a. Ok (record { family = h.number; at = a }))
         (family_breaks wanted r)
-        (λ h. faults_bind (Cell wanted r) (at_of under r.key) (λ a. Ok (record { family = h.number; at = a }))
-        (faults_weaker (Cell wanted r) (BreaksKey under.keyed r.key) (at_of under r.key) (λ e broken. cell_key e broken) (key_breaks under r.key))
+        (λ h. faults_bind (Cell wanted r) (at_of n under r.key) (λ a. Ok (record { family = h.number; at = a }))
+        (faults_weaker (Cell wanted r) (BreaksKey (under_head n under) r.key) (at_of n under r.key) (λ e broken. cell_key e broken) (key_breaks n under r.key))
         (λ a. no_fault (Cell wanted r) (record { family = h.number; at = a })))
 
     -- ---- expressions
 
     abbrev Term : Tree → JobFault → Type 0
-    Term e fault = BreaksTerm text families under.keyed under.has_value e fault
+    Term e fault = BreaksTerm text families (under_head n under) e fault
 
     token_breaks : (e : Tree) → FaultsAre (Term e) (first_token text n under e)
     unfolding first_token
@@ -245,14 +264,19 @@ module _ (text : List ℕ) (n : Naming) (families : List Family) (knows : KnowFa
     token_breaks (KeyTree at) = fault_where (Term (KeyTree at)) under.keyed (f.WrongShape at) (λ fails. key_of_unkeyed_kind at fails)
     token_breaks (TimeTree at) = no_fault (Term (TimeTree at)) tt
     token_breaks (ReadTree r) =
-        faults_bind (Term (ReadTree r)) (family_for text n None r) (λ _. Ok tt)
-        (faults_weaker (Term (ReadTree r)) (Cell None r) (family_for text n None r) (λ e broken. in_read r e broken) (family_breaks None r))
-        (λ _. no_fault (Term (ReadTree r)) tt)
+        faults_choice (Term (ReadTree r)) (is_item text n r) (unless (takes_items n under) (f.WrongShape r.family.from))
+        (family_for text n None r >>= λ _. Ok tt)
+        (λ item. fault_where (Term (ReadTree r)) (takes_items n under) (f.WrongShape r.family.from)
+        (λ fails. item_of_no_items r (item_is text n r item) (no_items n under fails)))
+        (λ other. faults_bind (Term (ReadTree r)) (family_for text n None r) (λ _. Ok tt)
+        (faults_weaker (Term (ReadTree r)) (Cell None r) (family_for text n None r) (λ e broken. in_read r e (no_item text n r other) broken)
+        (family_breaks None r))
+        (λ _. no_fault (Term (ReadTree r)) tt))
     token_breaks (HasTree at r) = no_fault (Term (HasTree at r)) tt
     token_breaks (ParenTree at e) = no_fault (Term (ParenTree at e)) tt
     token_breaks (NegTree at e) = no_fault (Term (NegTree at e)) tt
     token_breaks (NotTree at e) = no_fault (Term (NotTree at e)) tt
-    token_breaks (TwoTree op a b) = no_fault (Term (TwoTree op a b)) tt
+    token_breaks (TwoTree op at a b) = no_fault (Term (TwoTree op at a b)) tt
 
     -- what the first part of an expression breaks, the expression does
     first_breaks : (e : Tree) (fault : JobFault) → Term (first_part e) fault → Term e fault
@@ -265,7 +289,7 @@ module _ (text : List ℕ) (n : Naming) (families : List Family) (knows : KnowFa
     first_breaks (ParenTree at e) fault broken = broken
     first_breaks (NegTree at e) fault broken = broken
     first_breaks (NotTree at e) fault broken = broken
-    first_breaks (TwoTree op a b) fault broken = on_the_left op a b fault (first_breaks a fault broken)
+    first_breaks (TwoTree op at a b) fault broken = on_the_left op at a b fault (first_breaks a fault broken)
 
     term_breaks : (e : Tree) → FaultsAre (Term e) (term_of text n under e)
     unfolding term_of
@@ -278,9 +302,14 @@ module _ (text : List ℕ) (n : Naming) (families : List Family) (knows : KnowFa
         (λ yes. no_fault (Term (KeyTree at)) EventKey)
     term_breaks (TimeTree at) = no_fault (Term (TimeTree at)) EventTime
     term_breaks (ReadTree r) =
-        faults_bind (Term (ReadTree r)) (resolved_cell text n under None r) (λ c. Ok (CellRead c))
-        (faults_weaker (Term (ReadTree r)) (Cell None r) (resolved_cell text n under None r) (λ e broken. in_read r e broken) (cell_breaks None r))
-        (λ c. no_fault (Term (ReadTree r)) (CellRead c))
+        faults_choice (Term (ReadTree r)) (is_item text n r) (unless (takes_items n under) (f.WrongShape r.family.from) >> Ok EventItem)
+        (resolved_cell text n under None r >>= λ c. Ok (CellRead c))
+        (λ item. faults_where (Term (ReadTree r)) (takes_items n under) (f.WrongShape r.family.from) (Ok EventItem)
+        (λ fails. item_of_no_items r (item_is text n r item) (no_items n under fails)) (λ yes. no_fault (Term (ReadTree r)) EventItem))
+        (λ other. faults_bind (Term (ReadTree r)) (resolved_cell text n under None r) (λ c. Ok (CellRead c))
+        (faults_weaker (Term (ReadTree r)) (Cell None r) (resolved_cell text n under None r) (λ e broken. in_read r e (no_item text n r other) broken)
+        (cell_breaks None r))
+        (λ c. no_fault (Term (ReadTree r)) (CellRead c)))
     term_breaks (HasTree at r) =
         faults_bind (Term (HasTree at r)) (resolved_cell text n under None r) (λ c. Ok (CellHeld c))
         (faults_weaker (Term (HasTree at r)) (Cell None r) (resolved_cell text n under None r) (λ e broken. in_held at r e broken) (cell_breaks None r))
@@ -295,15 +324,18 @@ module _ (text : List ℕ) (n : Naming) (families : List Family) (knows : KnowFa
         faults_bind (Term (NotTree at e)) (term_of text n under e) (λ t. Ok (Negation t))
         (faults_weaker (Term (NotTree at e)) (Term e) (term_of text n under e) (λ fault broken. in_negation at e fault broken) (term_breaks e))
         (λ t. no_fault (Term (NotTree at e)) (Negation t))
-    term_breaks (TwoTree op a b) =
-        faults_bind (Term (TwoTree op a b)) (term_of text n under a) (λ s. term_of text n under b >>= λ t. Ok (Operation op s t))
-        (faults_weaker (Term (TwoTree op a b)) (Term a) (term_of text n under a) (λ fault broken. on_the_left op a b fault broken) (term_breaks a))
-        (λ s. faults_bind (Term (TwoTree op a b)) (term_of text n under b) (λ t. Ok (Operation op s t))
-        (faults_weaker (Term (TwoTree op a b)) (Term b) (term_of text n under b) (λ fault broken. on_the_right op a b fault broken) (term_breaks b))
-        (λ t. no_fault (Term (TwoTree op a b)) (Operation op s t)))
+    term_breaks (TwoTree op at a b) =
+        let P = Term (TwoTree op at a b) in
+        faults_bind P (term_of text n under a) (λ s. unless (op_fits n op) (f.WrongShape at) >> (term_of text n under b >>= λ t. Ok (Operation op s t)))
+        (faults_weaker P (Term a) (term_of text n under a) (λ fault broken. on_the_left op at a b fault broken) (term_breaks a))
+        (λ s. faults_where P (op_fits n op) (f.WrongShape at) (term_of text n under b >>= λ t. Ok (Operation op s t))
+        (λ fails. (let older = divides_before n.version op fails in division op at a b older.1 older.0))
+        (λ yes. faults_bind P (term_of text n under b) (λ t. Ok (Operation op s t))
+        (faults_weaker P (Term b) (term_of text n under b) (λ fault broken. on_the_right op at a b fault broken) (term_breaks b))
+        (λ t. no_fault P (Operation op s t))))
 
     abbrev Expression : Tree → JobFault → Type 0
-    Expression e fault = BreaksExpression text families under.keyed under.has_value e fault
+    Expression e fault = BreaksExpression text families (under_head n under) e fault
 
     expression_breaks : (e : Tree) → FaultsAre (Expression e) (expression_of text n under e)
     unfolding expression_of
@@ -317,15 +349,15 @@ module _ (text : List ℕ) (n : Naming) (families : List Family) (knows : KnowFa
 
     -- ---- templates
 
-    module _ (in_flush : Bool) (s : WrittenSpan) where
+    module _ (flushed : Option ℕ) (s : WrittenSpan) where
       abbrev OfTemplate : JobFault → Type 0
-      OfTemplate fault = BreaksTemplate text families under.keyed under.has_value in_flush s fault
+      OfTemplate fault = BreaksTemplate text families (under_head n under) flushed s fault
 
       abbrev Piece : WrittenPiece → Type 0
-      Piece q = BreaksPiece text families under.keyed under.has_value in_flush q
+      Piece q = BreaksPiece text families (under_head n under) (is_some flushed) q
 
       abbrev parts : List WrittenPiece
-      parts = (template_at text in_flush s).pieces
+      parts = (template_at text n.version (is_some flushed) s).pieces
 
       -- a name that a field gives
       name_breaks : (i : ℕ) (q : WrittenPiece) → slice_get parts i ≡ Some q → FaultsAre OfTemplate (known_name text n s.from q)
@@ -333,11 +365,16 @@ module _ (text : List ℕ) (n : Naming) (families : List Family) (knows : KnowFa
       name_breaks i (w.Plain t) here = no_fault OfTemplate tt
       name_breaks i w.Value here = no_fault OfTemplate tt
       name_breaks i w.Key here = no_fault OfTemplate tt
+      name_breaks i w.Item here = no_fault OfTemplate tt
       name_breaks i w.Time here = no_fault OfTemplate tt
       name_breaks i w.CellValue here = no_fault OfTemplate tt
       name_breaks i (w.Read r) here =
           faults_bind OfTemplate (known s.from (look_up (name_of text r.family) n.families)) (λ _. Ok tt)
           (known_where OfTemplate s.from (look_up (name_of text r.family) n.families) (λ none. field_unknown i r here (none_declared r.family none)))
+          (λ _. no_fault OfTemplate tt)
+      name_breaks i (w.Family t) here =
+          faults_bind OfTemplate (known s.from (look_up (name_of text t) n.families)) (λ _. Ok tt)
+          (known_where OfTemplate s.from (look_up (name_of text t) n.families) (λ none. family_unknown i t here (none_declared t none)))
           (λ _. no_fault OfTemplate tt)
       name_breaks i w.Formless here = no_fault OfTemplate tt
 
@@ -347,129 +384,172 @@ module _ (text : List ℕ) (n : Naming) (families : List Family) (knows : KnowFa
           name_breaks (length found.before) found.x (element_there parts found.before found.after found.x found.is) e found.fault
 
       -- a reference that does not fit, to a family that is declared
-      read_breaks : (r : WrittenRef) (h : FamilyHead) → look_up (name_of text r.family) n.families ≡ Some h → read_fits under r.key (Some h) ≡ false
+      read_breaks : (r : WrittenRef) (h : FamilyHead) → look_up (name_of text r.family) n.families ≡ Some h → read_fits n under r.key (Some h) ≡ false
           → Piece (w.Read r)
       read_breaks r h is fails = by (brackets_fit h.keyed r.key) refl fails
         where
-          own : (key : WrittenKey) → r.key ≡ key → own_key_fits under key ≡ false → Piece (w.Read r)
+          own : (key : WrittenKey) → r.key ≡ key → own_key_fits n under key ≡ false → Piece (w.Read r)
           own k.Alone at fails = absurd cc
           own (k.OwnKey place) at fails = piece_own_key r place at fails
+          own (k.OwnItem place) at fails = piece_own_item r place at (no_items n under fails)
           own (k.Fixed m) at fails = absurd cc
 
-          by : (b : Bool) → brackets_fit h.keyed r.key ≡ b → (b && own_key_fits under r.key) ≡ false → Piece (w.Read r)
+          by : (b : Bool) → brackets_fit h.keyed r.key ≡ b → (b && own_key_fits n under r.key) ≡ false → Piece (w.Read r)
           by false apart fails =
               let x = declared r.family h is in piece_brackets r x.family x.is (λ same. brackets_apart h.keyed r.key apart (sym x.keyed ∙ same))
           by true fits fails = own r.key refl fails
 
       -- a piece that does not fit, where the names of fields are known
-      piece_breaks : (q : WrittenPiece) → known_name text n s.from q ≡ Ok tt → piece_fits text n under in_flush q ≡ false → is_formless q ≡ false → Piece q
+      piece_breaks : (q : WrittenPiece) → known_name text n s.from q ≡ Ok tt → piece_fits text n under (is_some flushed) q ≡ false → is_formless q ≡ false
+          → Piece q
       unfolding known_name
       piece_breaks (w.Plain t) named fails form = absurd cc
       piece_breaks w.Value named fails form = piece_value fails
       piece_breaks w.Key named fails form = piece_key fails
+      piece_breaks w.Item named fails form = piece_item (no_items n under fails)
       piece_breaks w.Time named fails form = absurd cc
       piece_breaks w.CellValue named fails form = absurd cc
       piece_breaks (w.Read r) named fails form = by (look_up (name_of text r.family) n.families) refl named fails
         where
           by : (o : Option FamilyHead) → look_up (name_of text r.family) n.families ≡ o
               → (known s.from o >>= λ _. let r : Found (Unit {0}) = Ok tt in r) ≡ (let r : Found (Unit {0}) = Ok tt in r)
-              → read_fits under r.key o ≡ false → Piece (w.Read r)
+              → read_fits n under r.key o ≡ false → Piece (w.Read r)
           by None is named fails = absurd cc
           by (Some h) is named fails = read_breaks r h is fails
+      piece_breaks (w.Family t) named fails form = absurd cc
       piece_breaks w.Formless named fails form = absurd cc
 
       -- pieces with a formless one are no template
-      not_cut : list_any is_formless parts ≡ true → (qs : List WrittenPiece) → AreCut text in_flush true (s.from + 1) (inside text s) qs → ⊥
+      not_cut : list_any is_formless parts ≡ true → (qs : List WrittenPiece) → AreCut text n.version (is_some flushed) true (s.from + 1) (inside text s) qs → ⊥
       not_cut some qs cut =
-          let same : parts ≡ qs = ap (λ (t : Template). t.pieces) (cut_template text in_flush s qs (told cut)) in
+          let same : parts ≡ qs = ap (λ (t : Template). t.pieces) (cut_template text n.version (is_some flushed) s qs (told cut)) in
           not_both (list_any is_formless parts) some (ap (list_any is_formless) same ∙ all_formed cut)
 
-      is_cut : (template_at text in_flush s).whole ≡ true → list_any is_formless parts ≡ false → AreCut text in_flush true (s.from + 1) (inside text s) parts
-      is_cut whole none = formed (template_cut text in_flush s whole) none
+      is_cut : (template_at text n.version (is_some flushed) s).whole ≡ true → list_any is_formless parts ≡ false
+          → AreCut text n.version (is_some flushed) true (s.from + 1) (inside text s) parts
+      is_cut whole none = formed (template_cut text n.version (is_some flushed) s whole) none
 
       shape_breaks : known_names text n s.from parts ≡ Ok tt
-          → ((template_at text in_flush s).whole && list_all (piece_fits text n under in_flush) parts) ≡ false → OfTemplate (f.WrongShape s.from)
-      shape_breaks named fails = by (template_at text in_flush s).whole refl fails
+          → ((template_at text n.version (is_some flushed) s).whole && list_all (piece_fits text n under (is_some flushed)) parts) ≡ false
+          → OfTemplate (f.WrongShape s.from)
+      shape_breaks named fails = by (template_at text n.version (is_some flushed) s).whole refl fails
         where
-          with_forms : (template_at text in_flush s).whole ≡ true → list_all (piece_fits text n under in_flush) parts ≡ false
+          with_forms : (template_at text n.version (is_some flushed) s).whole ≡ true → list_all (piece_fits text n under (is_some flushed)) parts ≡ false
               → (b : Bool) → list_any is_formless parts ≡ b → OfTemplate (f.WrongShape s.from)
           with_forms whole fails true some = no_pieces (not_cut some)
           with_forms whole fails false none =
-              let found = fails_somewhere (piece_fits text n under in_flush) parts fails in
+              let found = fails_somewhere (piece_fits text n under (is_some flushed)) parts fails in
               wrong_piece parts (is_cut whole none) found.0 found.1 found.2
               (piece_breaks found.1 (all_passed (λ q. known_name text n s.from q) parts found.0 found.1 named found.2) found.3
               (fails_at is_formless parts found.0 found.1 none found.2))
 
-          by : (b : Bool) → (template_at text in_flush s).whole ≡ b → (b && list_all (piece_fits text n under in_flush) parts) ≡ false
+          by : (b : Bool) → (template_at text n.version (is_some flushed) s).whole ≡ b
+              → (b && list_all (piece_fits text n under (is_some flushed)) parts) ≡ false
               → OfTemplate (f.WrongShape s.from)
-          by false part fails = no_pieces (λ qs cut. not_both (template_at text in_flush s).whole (ap (λ (t : Template). t.whole)
-              (cut_template text in_flush s qs (told cut))) part)
+          by false part fails = no_pieces (λ qs cut. not_both (template_at text n.version (is_some flushed) s).whole (ap (λ (t : Template). t.whole)
+              (cut_template text n.version (is_some flushed) s qs (told cut))) part)
           by true whole fails = with_forms whole fails (list_any is_formless parts) refl
 
       -- a key that is too great
-      great_breaks : (template_at text in_flush s).whole ≡ true → list_all (piece_fits text n under in_flush) parts ≡ true → (i : ℕ) (q : WrittenPiece)
-          → slice_get parts i ≡ Some q → FaultsAre OfTemplate (piece_of text n under s.from q)
+      great_breaks : (template_at text n.version (is_some flushed) s).whole ≡ true → list_all (piece_fits text n under (is_some flushed)) parts ≡ true
+          → (i : ℕ) (q : WrittenPiece)
+          → slice_get parts i ≡ Some q → FaultsAre OfTemplate (piece_of text n under flushed s.from q)
       unfolding piece_of
       great_breaks whole fit i (w.Plain t) here = no_fault OfTemplate (piece.Plain (name_of text t))
       great_breaks whole fit i w.Value here = no_fault OfTemplate piece.Value
       great_breaks whole fit i w.Key here = no_fault OfTemplate piece.Key
+      great_breaks whole fit i w.Item here = no_fault OfTemplate piece.Item
       great_breaks whole fit i w.Time here = no_fault OfTemplate piece.Time
       great_breaks whole fit i w.CellValue here = no_fault OfTemplate piece.CellValue
       great_breaks whole fit i (w.Read r) here =
           faults_found OfTemplate (known s.from (look_up (name_of text r.family) n.families))
-          (λ h. at_of under r.key >>= λ a. Ok (piece.Read (record { family = h.number; at = a })))
-          (known_where OfTemplate s.from (look_up (name_of text r.family) n.families) (λ none. absurd (not_both (read_fits under r.key None)
-          (sym (ap (read_fits under r.key) none) ∙ passes) refl)))
-          (λ h is. faults_bind OfTemplate (at_of under r.key) (λ a. Ok (piece.Read (record { family = h.number; at = a })))
+          (λ h. at_of n under r.key >>= λ a. Ok (piece.Read (record { family = h.number; at = a })))
+          (known_where OfTemplate s.from (look_up (name_of text r.family) n.families) (λ none. absurd (not_both (read_fits n under r.key None)
+          (sym (ap (read_fits n under r.key) none) ∙ passes) refl)))
+          (λ h is. faults_bind OfTemplate (at_of n under r.key) (λ a. Ok (piece.Read (record { family = h.number; at = a })))
           (key_of (is_own h (known_is s.from (look_up (name_of text r.family) n.families) h is)) r.key refl)
           (λ a. no_fault OfTemplate (piece.Read (record { family = h.number; at = a }))))
         where
-          passes : read_fits under r.key (look_up (name_of text r.family) n.families) ≡ true
-          passes = passes_at (piece_fits text n under in_flush) parts i (w.Read r) fit here
+          passes : read_fits n under r.key (look_up (name_of text r.family) n.families) ≡ true
+          passes = passes_at (piece_fits text n under (is_some flushed)) parts i (w.Read r) fit here
 
-          is_own : (h : FamilyHead) → look_up (name_of text r.family) n.families ≡ Some h → own_key_fits under r.key ≡ true
-          is_own h is = and_right (brackets_fit h.keyed r.key) (own_key_fits under r.key) (sym (ap (read_fits under r.key) is) ∙ passes)
+          is_own : (h : FamilyHead) → look_up (name_of text r.family) n.families ≡ Some h → own_key_fits n under r.key ≡ true
+          is_own h is = and_right (brackets_fit h.keyed r.key) (own_key_fits n under r.key) (sym (ap (read_fits n under r.key) is) ∙ passes)
 
-          key_of : own_key_fits under r.key ≡ true → (key : WrittenKey) → r.key ≡ key → FaultsAre OfTemplate (at_of under key)
+          key_of : own_key_fits n under r.key ≡ true → (key : WrittenKey) → r.key ≡ key → FaultsAre OfTemplate (at_of n under key)
           key_of own k.Alone same = no_fault OfTemplate at.Alone
           key_of own (k.OwnKey place) same =
               faults_where OfTemplate under.keyed (f.WrongShape place) (Ok at.OwnKey)
-              (λ fails. absurd (not_both under.keyed (ap (own_key_fits under) (sym same) ∙ own) fails)) (λ yes. no_fault OfTemplate at.OwnKey)
+              (λ fails. absurd (not_both under.keyed (ap (own_key_fits n under) (sym same) ∙ own) fails)) (λ yes. no_fault OfTemplate at.OwnKey)
+          key_of own (k.OwnItem place) same =
+              faults_where OfTemplate (takes_items n under) (f.WrongShape place) (Ok at.OwnItem)
+              (λ fails. absurd (not_both (takes_items n under) (ap (own_key_fits n under) (sym same) ∙ own) fails)) (λ yes. no_fault OfTemplate at.OwnItem)
           key_of own (k.Fixed m) same =
               faults_bind OfTemplate (resolved_key m) (λ key. Ok (at.Fixed key))
               (number_breaks OfTemplate m
-              (λ great. field_key parts (is_cut whole (fit_formed text n families knows under in_flush parts fit)) i r m here same great))
+              (λ great. field_key parts (is_cut whole (fit_formed text n families knows under flushed parts fit)) i r m here same great))
               (λ key. no_fault OfTemplate (at.Fixed key))
+      great_breaks whole fit i (w.Family t) here =
+          faults_bind OfTemplate (known s.from (look_up (name_of text t) n.families)) (λ h. Ok (family_piece flushed h.number))
+          (known_where OfTemplate s.from (look_up (name_of text t) n.families) (λ none. family_unknown i t here (none_declared t none)))
+          (λ h. no_fault OfTemplate (family_piece flushed h.number))
       great_breaks whole fit i w.Formless here =
-          absurd (not_both (piece_fits text n under in_flush w.Formless) (passes_at (piece_fits text n under in_flush) parts i w.Formless fit here) refl)
+          absurd (not_both (piece_fits text n under (is_some flushed) w.Formless)
+          (passes_at (piece_fits text n under (is_some flushed)) parts i w.Formless fit here) refl)
 
-      template_breaks : FaultsAre OfTemplate (template_of text n under in_flush s)
+      template_breaks : FaultsAre OfTemplate (template_of text n under flushed s)
       unfolding template_of
       template_breaks =
-          let t = template_at text in_flush s in
-          let fits = list_all (piece_fits text n under in_flush) t.pieces in
+          let t = template_at text n.version (is_some flushed) s in
+          let fits = list_all (piece_fits text n under (is_some flushed)) t.pieces in
+          let last = λ (ps : List JobPiece). unless (may_be_printed n flushed ps) (f.WrongShape s.from) >> (let r : Found (List JobPiece) = Ok ps in r) in
           faults_thens OfTemplate (known_names text n s.from t.pieces)
-          (unless (t.whole && fits) (f.WrongShape s.from) >> pieces_of text n under s.from t.pieces)
+          (unless (t.whole && fits) (f.WrongShape s.from) >> (pieces_of text n under flushed s.from t.pieces >>= last))
           names_break
-          (λ u named. faults_where OfTemplate (t.whole && fits) (f.WrongShape s.from) (pieces_of text n under s.from t.pieces)
+          (λ u named. faults_where OfTemplate (t.whole && fits) (f.WrongShape s.from) (pieces_of text n under flushed s.from t.pieces >>= last)
           (λ fails. shape_breaks named fails)
-          (λ yes. pieces_break (and_left t.whole fits yes) (and_right t.whole fits yes)))
+          (λ yes. faults_found OfTemplate (pieces_of text n under flushed s.from t.pieces) last
+          (pieces_break (and_left t.whole fits yes) (and_right t.whole fits yes))
+          (λ ps found. faults_where OfTemplate (may_be_printed n flushed ps) (f.WrongShape s.from) (Ok ps)
+          (λ fails. printed_breaks (and_left t.whole fits yes) (and_right t.whole fits yes) ps found fails) (λ short. no_fault OfTemplate ps))))
         where
-          pieces_break : (template_at text in_flush s).whole ≡ true → list_all (piece_fits text n under in_flush) parts ≡ true
-              → FaultsAre OfTemplate (pieces_of text n under s.from parts)
+          -- what is printed is too long
+          printed_breaks : (template_at text n.version (is_some flushed) s).whole ≡ true → list_all (piece_fits text n under (is_some flushed)) parts ≡ true
+              → (ps : List JobPiece) → pieces_of text n under flushed s.from parts ≡ Ok ps → may_be_printed n flushed ps ≡ false
+              → OfTemplate (f.WrongShape s.from)
+          printed_breaks whole fit ps found fails =
+              printed_too_long parts ps (is_cut whole (fit_formed text n families knows under flushed parts fit))
+              (pieces_mean text n families knows under flushed s.from parts ps fit (found_each (piece_of text n under flushed s.from) parts ps found))
+              (λ few. not_both (may_be_printed n flushed ps) (prints text n families knows under flushed ps few) fails)
+
+          pieces_break : (template_at text n.version (is_some flushed) s).whole ≡ true → list_all (piece_fits text n under (is_some flushed)) parts ≡ true
+              → FaultsAre OfTemplate (pieces_of text n under flushed s.from parts)
           pieces_break whole fit e h =
-              let found = at_element (collect (piece_of text n under s.from)) [] parts e h in
-              faults_bind OfTemplate (piece_of text n under s.from found.x) (λ y. Ok (found.state ++ y ∷ []))
+              let found = at_element (collect (piece_of text n under flushed s.from)) [] parts e h in
+              faults_bind OfTemplate (piece_of text n under flushed s.from found.x) (λ y. Ok (found.state ++ y ∷ []))
               (great_breaks whole fit (length found.before) found.x (element_there parts found.before found.after found.x found.is))
               (λ y. no_fault OfTemplate (found.state ++ y ∷ [])) e found.fault
 
     -- ---- actions
 
     abbrev OfDeed : Deed → JobFault → Type 0
-    OfDeed d fault = BreaksDeed text families under.keyed under.has_value d fault
+    OfDeed d fault = BreaksDeed text families (under_head n under) d fault
 
-    abbrev OfText : Bool → WrittenSpan → JobFault → Type 0
-    OfText in_flush s fault = BreaksTemplate text families under.keyed under.has_value in_flush s fault
+    abbrev OfText : Option ℕ → WrittenSpan → JobFault → Type 0
+    OfText flushed s fault = BreaksTemplate text families (under_head n under) flushed s fault
+
+    -- where a family that is known is not cleared whole
+    not_whole : (r : WrittenRef) (h : FamilyHead) → family_of text n r.family ≡ Ok h → clears_whole n h r.key ≡ false
+        → ¬ ClearsWhole text families (under_head n under) r
+    not_whole r h is part whole =
+        let found = look_up_found text n families knows r.family whole.is.number whole.family whole.is.here whole.is.name in
+        let same : h ≡ family_head whole.is.number whole.family = some_same h (family_head whole.is.number whole.family)
+        (sym (known_is r.family.from (look_up (name_of text r.family) n.families) h is) ∙ found) in
+        not_both (clears_whole n h r.key)
+        (both ((n.version == 3) && h.keyed) (is_alone r.key)
+        (both (n.version == 3) h.keyed (eq_true n.version 3 whole.version) (ap (λ (x : FamilyHead). x.keyed) same ∙ whole.keyed))
+        (ap is_alone whole.alone))
+        part
 
     deed_breaks : (d : Deed) → FaultsAre (OfDeed d) (resolved_act text n under d)
     unfolding resolved_act
@@ -483,28 +563,38 @@ module _ (text : List ℕ) (n : Naming) (families : List Family) (knows : KnowFa
         (expression_breaks e))
         (λ t. no_fault (OfDeed (Writes verb r e)) (act_with verb c t)))
     deed_breaks (Clears r) =
-        faults_bind (OfDeed (Clears r)) (resolved_cell text n under None r) (λ c. Ok (Clearing c))
-        (faults_weaker (OfDeed (Clears r)) (Cell None r) (resolved_cell text n under None r) (λ fault broken. in_cleared r fault broken) (cell_breaks None r))
-        (λ c. no_fault (OfDeed (Clears r)) (Clearing c))
+        let P = OfDeed (Clears r) in
+        faults_found P (family_of text n r.family)
+        (λ h. if clears_whole n h r.key then Ok (ClearingFamily h.number) else (resolved_cell text n under None r >>= λ c. Ok (Clearing c)))
+        (known_where P r.family.from (look_up (name_of text r.family) n.families) (λ none. in_cleared r (f.UnknownName r.family.from)
+        (λ whole. none_declared r.family none whole.is.number whole.family whole.is.here whole.is.name) (cell_unknown (none_declared r.family none))))
+        (λ h is. faults_choice P (clears_whole n h r.key) (Ok (ClearingFamily h.number)) (resolved_cell text n under None r >>= λ c. Ok (Clearing c))
+        (λ whole. no_fault P (ClearingFamily h.number))
+        (λ part. faults_bind P (resolved_cell text n under None r) (λ c. Ok (Clearing c))
+        (faults_weaker P (Cell None r) (resolved_cell text n under None r) (λ fault broken. in_cleared r fault (not_whole r h is part) broken)
+        (cell_breaks None r))
+        (λ c. no_fault P (Clearing c))))
     deed_breaks (Emits s) =
-        faults_bind (OfDeed (Emits s)) (template_of text n under false s) (λ ps. Ok (Emitting ps))
-        (faults_weaker (OfDeed (Emits s)) (OfText false s) (template_of text n under false s) (λ fault broken. in_emitted s fault broken)
-        (template_breaks false s))
+        faults_bind (OfDeed (Emits s)) (template_of text n under None s) (λ ps. Ok (Emitting ps))
+        (faults_weaker (OfDeed (Emits s)) (OfText None s) (template_of text n under None s) (λ fault broken. in_emitted s fault broken)
+        (template_breaks None s))
         (λ ps. no_fault (OfDeed (Emits s)) (Emitting ps))
     deed_breaks (Flushes name s) =
-        faults_found (OfDeed (Flushes name s)) (family_of text n name)
-        (λ h. unless h.keyed (f.WrongShape name.from) >> (template_of text n under true s >>= λ ps. Ok (Flushing h.number ps)))
-        (known_where (OfDeed (Flushes name s)) name.from (look_up (name_of text name) n.families) (λ none. flushed_unknown name s (none_declared name none)))
-        (λ h is. faults_where (OfDeed (Flushes name s)) h.keyed (f.WrongShape name.from) (template_of text n under true s >>= λ ps. Ok (Flushing h.number ps))
+        let P = OfDeed (Flushes name s) in
+        faults_found P (family_of text n name)
+        (λ h. unless h.keyed (f.WrongShape name.from) >> (template_of text n under (Some h.number) s >>= λ ps. Ok (Flushing h.number ps)))
+        (known_where P name.from (look_up (name_of text name) n.families) (λ none. flushed_unknown name s (none_declared name none)))
+        (λ h is. faults_where P h.keyed (f.WrongShape name.from) (template_of text n under (Some h.number) s >>= λ ps. Ok (Flushing h.number ps))
         (λ fails. (let x = declared name h (known_is name.from (look_up (name_of text name) n.families) h is) in
         flushed_unkeyed name s x.family x.is (x.keyed ∙ fails)))
-        (λ yes. faults_bind (OfDeed (Flushes name s)) (template_of text n under true s) (λ ps. Ok (Flushing h.number ps))
-        (faults_weaker (OfDeed (Flushes name s)) (OfText true s) (template_of text n under true s) (λ fault broken. in_flushed name s fault broken)
-        (template_breaks true s))
-        (λ ps. no_fault (OfDeed (Flushes name s)) (Flushing h.number ps))))
+        (λ yes. faults_bind P (template_of text n under (Some h.number) s) (λ ps. Ok (Flushing h.number ps))
+        (faults_weaker P (OfText (Some h.number) s) (template_of text n under (Some h.number) s)
+        (λ fault broken. in_flushed name s h.number fault (keyed_family text n families knows under name h is yes) broken)
+        (template_breaks (Some h.number) s))
+        (λ ps. no_fault P (Flushing h.number ps))))
 
     abbrev OfAction : Action → JobFault → Type 0
-    OfAction a fault = BreaksAction text families under.keyed under.has_value a fault
+    OfAction a fault = BreaksAction text families (under_head n under) a fault
 
     guard_breaks : (a : Action) (g : Option Tree) → a.guard ≡ g → FaultsAre (OfAction a) (guard_of text n under g)
     unfolding guard_of
@@ -522,15 +612,15 @@ module _ (text : List ℕ) (n : Naming) (families : List Family) (knows : KnowFa
         (λ act. faults_bind (OfAction a) (guard_of text n under a.guard) (λ guard. Ok (record { act = act; guard = guard })) (guard_breaks a a.guard refl)
         (λ guard. no_fault (OfAction a) (record { act = act; guard = guard })))
 
-    pub actions_break : (actions : List Action) → FaultsAre (BreaksActions text families under.keyed under.has_value actions)
+    pub actions_break : (actions : List Action) → FaultsAre (BreaksActions text families (under_head n under) actions)
         (resolved_actions text n under actions)
     unfolding with_action
     actions_break actions e h =
-        let P = BreaksActions text families under.keyed under.has_value actions in
+        let P = BreaksActions text families (under_head n under) actions in
         let found = at_element (with_action text n under) [] actions e h in
         let done : List PlainAction = found.state in
         let mean = actions_mean text n families knows under found.before done found.reached in
-        let many = pairs_length (MeansAction text families under.keyed under.has_value) found.before done mean.0 in
+        let many = pairs_length (MeansAction text families (under_head n under)) found.before done mean.0 in
         faults_where P (nat_lt (length done) 32) (f.OverLimit Actions 33) (action_of text n under found.x >>= λ a. Ok (done ++ a ∷ []))
         (λ fails. too_many_actions (more found.before found.x found.after found.is (length done) many (not_less (length done) 32 fails)))
         (λ yes. faults_bind P (action_of text n under found.x) (λ a. Ok (done ++ a ∷ []))

@@ -1,13 +1,14 @@
 -- Each fault that the reader finds in a job text is by a rule that the text breaks.
 use Rattle.std.proofs.Common.{◌≡◌, ◌≢◌, inl, inr, ℕ, ◌+◌, ◌<◌, ◌≤◌, Bool, true, false, List, [], ◌∷◌, ◌++◌, length}
 use Rattle.std.proofs.Common.{Option, Some, None, Ok, Err, refl, sym, ap, subst, ◌∙◌, length-append, arith}
-use Rattle.std.specs.Prelude.{not, ◌==◌, ◌&&◌, nat_lt, nat_le}
+use Rattle.std.specs.Prelude.{not, is_some, ◌==◌, ◌&&◌, nat_lt, nat_le}
 use Rattle.std.specs.List.{list_any, flat_map, sum_by, position_or_len}
 use Rattle.std.specs.Str.{is_utf8}
 use Rattle.std.proofs.lemmas.Str.{is_utf8-from_IsUtf8}
 use Rattle.flu_lemmas.specs.Items.{Pairs}
 use Rattle.flu_lemmas.specs.Loops.{◌>>=◌, ◌>>◌}
 use Rattle.flu_lemmas.specs.Totals.{total}
+use Rattle.flu_lemmas.proofs.Searches.{eq_true}
 use Rattle.flu_lemmas.proofs.Tests.{not_both, true_le, lt_true}
 use Rattle.flu_lemmas.proofs.Totals.{sum_by-total, total-append}
 use Rattle.flu_model.specs.declared.limits.What.TheVariants.{Nesting, Families, Kinds, Sources, Depends, Itags, Rate, Slack}
@@ -15,6 +16,7 @@ use Rattle.flu_model.specs.declared.jobs.Keys.{Keys}
 use Rattle.flu_model.specs.declared.jobs.Keys.TheVariants as keys
 use Rattle.flu_model.specs.declared.jobs.Source.{Source}
 use Rattle.flu_model.specs.declared.jobs.TagRef.{TagRef}
+use Rattle.flu_model.specs.Erasure.{Job as ReadJob}
 use Rattle.flu_model.specs.Listing.{listed_keys}
 use Rattle.flu_model.specs.Rules.{is_version, is_same_text}
 use Rattle.flu_rules.specs.Keys.{share_tag}
@@ -35,30 +37,34 @@ use Rattle.flu_parse.specs.declared.faults.JobFault.{JobFault}
 use Rattle.flu_parse.specs.declared.faults.JobFault.TheVariants as f
 use Rattle.flu_parse.specs.declared.names.KindHead.{KindHead}
 use Rattle.flu_parse.specs.Faults.{Found, unless, room}
-use Rattle.flu_parse.specs.Naming.{Naming, look_up, is_declared, known, fresh_name, with_family, with_kind, with_source, declare, no_names, naming_of, kind_of}
+use Rattle.flu_parse.specs.Naming.{Naming, in_version, is_version_3, look_up, is_declared, known, fresh_name, with_family, with_kind}
+use Rattle.flu_parse.specs.Naming.{with_source, declare, no_names, naming_of, kind_of}
 use Rattle.flu_parse.specs.Cells.{resolved_key}
 use Rattle.flu_parse.specs.Actions.{resolved_actions}
 use Rattle.flu_parse.specs.Listings.{are_bracketed, written_keys, keys_of, tag_count, Listed, with_tag, tags_of, rate_of, slack_of, file_of}
 use Rattle.flu_parse.specs.Resolving.{Drafted, same_of, with_depend, with_actions, with_on, with_source as with_source_of}
-use Rattle.flu_parse.specs.Resolving.{with_declaration, first_draft, draft_of, version_of, job_with, resolved}
+use Rattle.flu_parse.specs.Resolving.{cell_name_fits, item_word_fits, with_declaration, first_draft, draft_of, version_of, job_with, resolved}
 use Rattle.flu_parse.specs.Reading.{found_job}
 use Rattle.flu_grammar.specs.Declared.{DeclaredKind, WrittenSource, families_in, kinds_in, depends_in, sources_in}
+use Rattle.flu_grammar.specs.Cells.{family_name}
 use Rattle.flu_grammar.specs.Sources.{MeansKind, MeansTag, MeansSource}
 use Rattle.flu_grammar.specs.Faults.{NoneIsNamed, spans_in}
 use Rattle.flu_grammar.specs.Broken.{BreaksActions}
 use Rattle.flu_grammar.specs.BrokenJobs.{declared_name, has_key_brackets, IsWrittenKey, listed_itags, itags_in, IsListedTwice, BreaksTag, tag_unknown}
-use Rattle.flu_grammar.specs.BrokenJobs.{tag_brackets, too_many_itags, listed_twice, range_falls, tag_key, BreaksDeclaration, first_unknown, second_unknown}
+use Rattle.flu_grammar.specs.BrokenJobs.{tag_brackets, too_many_itags, listed_twice, range_falls, tag_key, BreaksDeclaration, called_item}
+use Rattle.flu_grammar.specs.BrokenJobs.{items_of_older, first_unknown, second_unknown}
 use Rattle.flu_grammar.specs.BrokenJobs.{same_of_unkeyed, kind_unknown, second_on, in_actions, no_file, second_file, high_rate, high_slack, in_tags}
 use Rattle.flu_grammar.specs.BrokenJobs.{BreaksJob, declared_twice, too_many_families, too_many_kinds, too_many_sources, too_many_depends, no_version}
 use Rattle.flu_grammar.specs.BrokenJobs.{in_declaration, IsFaultOf, too_many_bytes, not_utf8, no_token, not_continued, too_deep, of_written, FaultsAreByRule}
 use Rattle.flu_grammar.proofs.FaultKinds.{FaultsAre, no_fault, faults_bind}
 use Rattle.flu_grammar.proofs.Broken.{faults_found, faults_where, faults_weaker, at_element, known_where, number_breaks, not_less, not_most, actions_break}
 use Rattle.flu_grammar.proofs.Lists.{met_at, pairs_right}
-use Rattle.flu_grammar.proofs.JobCells.{family_name, family_head, KnowFamilies}
+use Rattle.flu_grammar.proofs.Items.{not_false, is_item_word, item_word}
+use Rattle.flu_grammar.proofs.JobCells.{family_head, KnowFamilies, under_head}
 use Rattle.flu_grammar.proofs.JobNames.{kind_name, kind_head, all_families, all_kinds, Named, OwnNames, heads_length, naming_is}
 use Rattle.flu_grammar.proofs.JobSources.{KnowKinds, kind_is, kind_found, kind_means, keys_found, part_count, tags_are, apart_none}
 use Rattle.flu_grammar.proofs.JobDrafts.{itag_count, Drafts, drafts_are}
-use Rattle.flu_grammar.proofs.JobTexts.{know_families, know_kinds, as_many_sources}
+use Rattle.flu_grammar.proofs.JobTexts.{know_families, know_kinds, families_in_version, kinds_in_version, as_many_sources, version_is}
 use Rattle.flu_grammar.proofs.Faults.{declared_before}
 use Rattle.flu_grammar.proofs.Twice.{given_twice, read_twice}
 use Rattle.flu_grammar.proofs.TextFaults as text_faults
@@ -108,17 +114,19 @@ module _ (text : List ℕ) (n : Naming) (all : Declarations) (know : KnowFamilie
   -- a kind that is known, with its head
   record Kind (s : WrittenSpan) (h : KindHead) : Type 0 where
     means : MeansKind text kinds s h.number
-    keyed : means.kind.keyed ≡ h.keyed
-    has_value : means.kind.has_value ≡ h.has_value
+    is : kind_head h.number means.kind ≡ h
 
   kind_at : (s : WrittenSpan) (h : KindHead) → kind_of text n s ≡ Ok h → Kind s h
   kind_at s h e =
       let found = kind_is text n kinds knows s h e in
+      let number : 0 + found.place ≡ h.number = ap (λ (x : KindHead). x.number) found.is in
       record {
         means = kind_means text n kinds knows s h found;
-        keyed = ap (λ (x : KindHead). x.keyed) found.is;
-        has_value = ap (λ (x : KindHead). x.has_value) found.is;
+        is = ap (λ (m : ℕ). kind_head m found.declared) (sym number) ∙ found.is;
       }
+
+  keyed_at : (s : WrittenSpan) (h : KindHead) (k : Kind s h) → k.means.kind.keyed ≡ h.keyed
+  keyed_at s h k = ap (λ (x : KindHead). x.keyed) k.is
 
   -- ---- tags
 
@@ -170,7 +178,8 @@ module _ (text : List ℕ) (n : Naming) (all : Declarations) (know : KnowFamilie
       faults_found P (kind_of text n t.kind) (λ kind. unless (are_bracketed kind.keyed t.keys) (f.WrongShape t.kind.from) >> second kind)
       (known_where P t.kind.from (look_up (name_of text t.kind) n.kinds) (λ none. tag_unknown (none_declared t.kind none)))
       (λ h is. faults_where P (are_bracketed h.keyed t.keys) (f.WrongShape t.kind.from) (second h)
-      (λ fails. tag_brackets h.number (kind_at t.kind h is).means (λ same. key_brackets_apart h.keyed t.keys fails (sym (kind_at t.kind h is).keyed ∙ same)))
+      (λ fails. tag_brackets h.number (kind_at t.kind h is).means
+      (λ same. key_brackets_apart h.keyed t.keys fails (sym (keyed_at t.kind h (kind_at t.kind h is)) ∙ same)))
       (λ yes. faults_where P (nat_le (done.itags + tag_count t.keys) 256) (f.OverLimit Itags 257) (third h)
       (λ fails. too_many_itags (more (not_most (done.itags + tag_count t.keys) 256 fails)))
       (λ few. faults_where P (not (shares h)) (f.TwiceNamed t.kind.from) (last h) (λ fails. listed_twice (twice h is (shares h) refl fails))
@@ -211,7 +220,7 @@ module _ (text : List ℕ) (n : Naming) (all : Declarations) (know : KnowFamilie
 
   module _ (before : Declarations) (x : Drafted) (drafts : Drafts text n (all_families text all) kinds know knows before x) where
     abbrev Broken : Declaration → JobFault → Type 0
-    Broken y fault = BreaksDeclaration text all before y fault
+    Broken y fault = BreaksDeclaration text n.version all before y fault
 
     same_breaks : (a b : WrittenSpan) (relation : WrittenRelation) (first second : KindHead) → Kind a first → Kind b second
         → FaultsAre (Broken (d.Depends a b relation)) (same_of relation first second)
@@ -219,7 +228,7 @@ module _ (text : List ℕ) (n : Naming) (all : Declarations) (know : KnowFamilie
     same_breaks a b r.All first second one two = no_fault (Broken (d.Depends a b r.All)) false
     same_breaks a b (r.Same at) first second one two =
         faults_where (Broken (d.Depends a b (r.Same at))) (first.keyed && second.keyed) (f.WrongShape at) (Ok true)
-        (λ fails. same_of_unkeyed a b at first.number second.number one.means two.means ((λ i. one.keyed i && two.keyed i) ∙ fails))
+        (λ fails. same_of_unkeyed a b at first.number second.number one.means two.means ((λ i. keyed_at a first one i && keyed_at b second two i) ∙ fails))
         (λ yes. no_fault (Broken (d.Depends a b (r.Same at))) true)
 
     depend_breaks : (a b : WrittenSpan) (relation : WrittenRelation) → FaultsAre (Broken (d.Depends a b relation)) (with_depend text n x a b relation)
@@ -251,7 +260,7 @@ module _ (text : List ℕ) (n : Naming) (all : Declarations) (know : KnowFamilie
         (λ fails. twice h is (given h) refl fails)
         (λ yes. faults_bind P (resolved_actions text n h actions)
         (λ acts. Ok (record x { kinds = with_actions x.kinds h.number acts; given = x.given ++ h.number ∷ [] }))
-        (faults_weaker P (BreaksActions text (all_families text all) h.keyed h.has_value actions) (resolved_actions text n h actions)
+        (faults_weaker P (BreaksActions text (all_families text all) (under_head n h) actions) (resolved_actions text n h actions)
         (λ fault broken. under h (kind_at kind h is) fault broken) (actions_break text n (all_families text all) know h actions))
         (λ acts. no_fault P (record x { kinds = with_actions x.kinds h.number acts; given = x.given ++ h.number ∷ [] }))))
       where
@@ -260,12 +269,11 @@ module _ (text : List ℕ) (n : Naming) (all : Declarations) (know : KnowFamilie
         twice h is false any fails = absurd cc
         twice h is true any fails = second_on kind actions kind.from (given_twice text n (all_families text all) kinds know knows before x drafts kind h is any)
 
-        under : (h : KindHead) → Kind kind h → (fault : JobFault) → BreaksActions text (all_families text all) h.keyed h.has_value actions fault
+        under : (h : KindHead) → Kind kind h → (fault : JobFault) → BreaksActions text (all_families text all) (under_head n h) actions fault
             → Broken (d.On kind actions) fault
         under h is fault broken =
             in_actions kind actions fault h.number is.means
-            (subst (λ (b : Bool). BreaksActions text (all_families text all) is.means.kind.keyed b actions fault) (sym is.has_value)
-            (subst (λ (b : Bool). BreaksActions text (all_families text all) b h.has_value actions fault) (sym is.keyed) broken))
+            (subst (λ (x : KindHead). BreaksActions text (all_families text all) (under_head n x) actions fault) (sym is.is) broken)
 
     source_breaks : (name file : WrittenSpan) (rate slack : Option WrittenNumber) (tags : List WrittenTag)
         → FaultsAre (Broken (d.Source name file rate slack tags)) (with_source_of text n x name file rate slack tags)
@@ -330,10 +338,22 @@ module _ (text : List ℕ) (n : Naming) (all : Declarations) (know : KnowFamilie
             (in_tags name file rate slack found.before found.after found.x e
             (tag_breaks (itags_in before) found.before found.state found.x means counted e found.fault))
 
+    tag_word_breaks : (name : WrittenSpan) (keyed : Bool) (item : Option ℕ) (has_value : Bool)
+        → FaultsAre (Broken (d.Tag name keyed item has_value)) (item_word_fits n item >> Ok x)
+    tag_word_breaks name keyed None has_value = no_fault (Broken (d.Tag name keyed None has_value)) x
+    tag_word_breaks name keyed (Some at) has_value =
+        faults_where (Broken (d.Tag name keyed (Some at) has_value)) (is_version_3 n) (f.WrongShape at) (Ok x)
+        (λ fails. items_of_older name keyed at has_value (λ third. not_both (n.version == 3) (eq_true n.version 3 third) fails))
+        (λ yes. no_fault (Broken (d.Tag name keyed (Some at) has_value)) x)
+
     declaration_breaks : (y : Declaration) → FaultsAre (Broken y) (with_declaration text n x y)
     unfolding with_declaration
-    declaration_breaks (d.Cell name keyed sort) = no_fault (Broken (d.Cell name keyed sort)) x
-    declaration_breaks (d.Tag name keyed has_value) = no_fault (Broken (d.Tag name keyed has_value)) x
+    declaration_breaks (d.Cell name keyed sort) =
+        faults_where (Broken (d.Cell name keyed sort)) (cell_name_fits text n name) (f.WrongShape name.from) (Ok x)
+        (λ fails. (let item = item_word n.version (name_of text name) (not_false (is_item_word n.version (name_of text name)) fails) in
+        called_item name keyed sort item.0 item.1))
+        (λ yes. no_fault (Broken (d.Cell name keyed sort)) x)
+    declaration_breaks (d.Tag name keyed item has_value) = tag_word_breaks name keyed item has_value
     declaration_breaks (d.Depends a b relation) = depend_breaks a b relation
     declaration_breaks (d.On kind actions) = on_breaks kind actions
     declaration_breaks (d.Source name file rate slack tags) = source_breaks name file rate slack tags
@@ -394,14 +414,18 @@ module _ (text : List ℕ) (job : WrittenJob) where
       })
       refl 64 (length n.families) count (not_less (length n.families) 64 fails)))
       (λ yes. no_fault Job (made name)))
-  declare_breaks done (d.Tag s keyed has_value) after is n named own =
-      let made = λ (name : List ℕ). record n { kinds = n.kinds ++ (name, record { number = length n.kinds; keyed = keyed; has_value = has_value }) ∷ [] } in
+  declare_breaks done (d.Tag s keyed item has_value) after is n named own =
+      let made = λ (name : List ℕ). record n {
+        kinds = n.kinds ++
+            (name, record { number = length n.kinds; keyed = keyed; has_item = is_some item; has_value = has_value }) ∷ [];
+      } in
       let count = ap length named.kinds ∙ heads_length text kind_name kind_head 0 (all_kinds text done) in
       faults_bind Job (fresh_name text n s) (λ name. room Kinds 64 (length n.kinds) >> Ok (made name))
-      (fresh_breaks done (d.Tag s keyed has_value) after is n named own s refl)
+      (fresh_breaks done (d.Tag s keyed item has_value) after is n named own s refl)
       (λ name. faults_where Job (nat_lt (length n.kinds) 64) (f.OverLimit Kinds 65) (Ok (made name))
-      (λ fails. too_many_kinds (over done (d.Tag s keyed has_value) after is n named own (kinds_in text)
-      (record { name = name_of text s; keyed = keyed; has_value = has_value }) refl 64 (length n.kinds) count (not_less (length n.kinds) 64 fails)))
+      (λ fails. too_many_kinds (over done (d.Tag s keyed item has_value) after is n named own (kinds_in text)
+      (record { name = name_of text s; keyed = keyed; has_item = is_some item; has_value = has_value }) refl 64 (length n.kinds) count
+      (not_less (length n.kinds) 64 fails)))
       (λ yes. no_fault Job (made name)))
   declare_breaks done (d.Depends a b relation) after is n named own =
       faults_where Job (nat_lt n.depends 4096) (f.OverLimit Depends 4097) (Ok (record n { depends = n.depends + 1 }))
@@ -432,26 +456,29 @@ module _ (text : List ℕ) (job : WrittenJob) where
       faults_where Job (is_version (written_value v.value)) (f.WrongShape v.at) (Ok (written_value v.value))
       (λ fails. no_version v is (λ yes. not_both (is_version (written_value v.value)) yes fails)) (λ yes. no_fault Job (written_value v.value))
 
-  draft_breaks : (n : Naming) → naming_of text job.declarations ≡ Ok n → FaultsAre Job (draft_of text n job.declarations)
-  draft_breaks n is e h =
+  draft_breaks : (n : Naming) → naming_of text job.declarations ≡ Ok n → (version : ℕ) → version_of job.version ≡ Ok version
+      → FaultsAre Job (draft_of text (in_version n version) job.declarations)
+  draft_breaks n is version means e h =
       let ds = job.declarations in
+      let m = in_version n version in
       let names = naming_is text ds n is in
-      let know = know_families text ds n names.0 names.1.own in
-      let knows = know_kinds text ds n names.0 names.1.own in
-      let found = at_element (with_declaration text n) (first_draft n) ds e h in
-      let drafts = drafts_are text n (all_families text ds) (all_kinds text ds) know knows found.before found.state found.reached in
-      in_declaration found.before found.x found.after e found.is
-      (declaration_breaks text n ds know knows found.before found.state drafts found.x e found.fault)
+      let know = families_in_version n version (all_families text ds) (know_families text ds n names.0 names.1.own) in
+      let knows = kinds_in_version n version (all_kinds text ds) (know_kinds text ds n names.0 names.1.own) in
+      let found = at_element (with_declaration text m) (first_draft m) ds e h in
+      let drafts = drafts_are text m (all_families text ds) (all_kinds text ds) know knows found.before found.state found.reached in
+      in_declaration version found.before found.x found.after e (version_is job.version version means) found.is
+      (declaration_breaks text m ds know knows found.before found.state drafts found.x e found.fault)
 
   resolved_breaks : FaultsAre Job (resolved text job)
   unfolding resolved
   resolved_breaks =
-      faults_found Job (naming_of text job.declarations) (λ n. version_of job.version >>= λ version. draft_of text n job.declarations >>= λ x. Ok
-      (job_with version n x)) naming_breaks
-      (λ n is. faults_bind Job (version_of job.version) (λ version. draft_of text n job.declarations >>= λ x. Ok (job_with version n x))
-      (version_breaks job.version refl)
-      (λ version. faults_bind Job (draft_of text n job.declarations) (λ x. Ok (job_with version n x)) (draft_breaks n is)
-      (λ x. no_fault Job (job_with version n x))))
+      let drafted_in = λ (n : Naming) (version : ℕ). draft_of text (in_version n version) job.declarations >>= λ x. let r : Found ReadJob = Ok
+      (job_with (in_version n version) x) in r in
+      faults_found Job (naming_of text job.declarations) (λ n. version_of job.version >>= λ version. drafted_in n version) naming_breaks
+      (λ n is. faults_found Job (version_of job.version) (λ version. drafted_in n version) (version_breaks job.version refl)
+      (λ version means. faults_bind Job (draft_of text (in_version n version) job.declarations) (λ x. Ok (job_with (in_version n version) x))
+      (draft_breaks n is version means)
+      (λ x. no_fault Job (job_with (in_version n version) x))))
 
 -- ---- texts
 

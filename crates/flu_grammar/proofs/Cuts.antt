@@ -26,8 +26,8 @@ pub data AreCut (field : ℕ → ℕ → WrittenPiece) : Bool → ℕ → List �
       → AreCut field plain_first at (open_brace ∷ (word ++ close_brace ∷ rest)) (field (at + 1) (at + 1 + length word) ∷ pieces)
 
 -- what stands between two braces of a text
-abbrev pub field_between : List ℕ → Bool → ℕ → ℕ → WrittenPiece
-field_between text in_flush from to = braced (field_at text in_flush from to)
+abbrev pub field_between : List ℕ → ℕ → Bool → ℕ → ℕ → WrittenPiece
+field_between text version in_flush from to = braced (field_at text version in_flush from to)
 
 -- between pieces, or within a field
 abbrev outside : List WrittenPiece → ℕ → Scan
@@ -318,12 +318,13 @@ module _ (field : ℕ → ℕ → Option WrittenPiece) where
 
 -- ---- the template of a text
 
-pub template_cut : (text : List ℕ) (in_flush : Bool) (s : WrittenSpan) → (template_at text in_flush s).whole ≡ true
-    → AreCut (field_between text in_flush) true (s.from + 1) (inside text s) (template_at text in_flush s).pieces
+pub template_cut : (text : List ℕ) (version : ℕ) (in_flush : Bool) (s : WrittenSpan) → (template_at text version in_flush s).whole ≡ true
+    → AreCut (field_between text version in_flush) true (s.from + 1) (inside text s) (template_at text version in_flush s).pieces
 unfolding template_at
-template_cut text in_flush s whole = scan_cut (field_at text in_flush) (s.from + 1) (inside text s) whole
+template_cut text version in_flush s whole = scan_cut (field_at text version in_flush) (s.from + 1) (inside text s) whole
 
-pub cut_template : (text : List ℕ) (in_flush : Bool) (s : WrittenSpan) (qs : List WrittenPiece)
-    → AreCut (field_between text in_flush) true (s.from + 1) (inside text s) qs → template_at text in_flush s ≡ record { pieces = qs; whole = true }
+pub cut_template : (text : List ℕ) (version : ℕ) (in_flush : Bool) (s : WrittenSpan) (qs : List WrittenPiece)
+    → AreCut (field_between text version in_flush) true (s.from + 1) (inside text s) qs
+    → template_at text version in_flush s ≡ record { pieces = qs; whole = true }
 unfolding template_at
-cut_template text in_flush s qs cut = cut_scan (field_at text in_flush) (s.from + 1) (inside text s) qs cut
+cut_template text version in_flush s qs cut = cut_scan (field_at text version in_flush) (s.from + 1) (inside text s) qs cut

@@ -1,6 +1,6 @@
 -- Which faults the looks at a written job find: none of bytes, tokens or grammar.
 use Rattle.std.proofs.Common.{◌≡◌, ℕ, ◌+◌, Bool, true, false, cond, List, [], ◌∷◌, ◌++◌, length, Option, Some, None, Ok, Err, refl, subst}
-use Rattle.std.specs.Prelude.{Result, not, ◌==◌, ◌&&◌, nat_lt, nat_le}
+use Rattle.std.specs.Prelude.{Result, is_some, not, ◌==◌, ◌&&◌, nat_lt, nat_le, if◌then◌else◌}
 use Rattle.std.specs.List.{list_any, list_all}
 use Rattle.flu_lemmas.specs.Loops.{◌>>=◌, ◌>>◌, each}
 use Rattle.flu_lemmas.proofs.Loops.{collect}
@@ -9,11 +9,13 @@ use Rattle.flu_model.specs.declared.limits.What.TheVariants.{Families, Kinds, So
 use Rattle.flu_model.specs.declared.jobs.Sort.{Sort}
 use Rattle.flu_model.specs.declared.jobs.At.TheVariants as at
 use Rattle.flu_model.specs.declared.jobs.Keys.TheVariants as keys
+use Rattle.flu_model.specs.declared.jobs.Piece.{Piece}
 use Rattle.flu_model.specs.declared.jobs.Piece.TheVariants as piece
 use Rattle.flu_model.specs.declared.jobs.Source.{Source}
 use Rattle.flu_model.specs.Contents.{key_count}
 use Rattle.flu_model.specs.Rules.{is_version, is_same_text}
-use Rattle.flu_model.specs.Erasure.{Literal, EventValue, EventKey, EventTime, CellRead, CellHeld, Negative, Negation, Operation, Clearing, Emitting, Flushing}
+use Rattle.flu_model.specs.Erasure.{Literal, EventValue, EventKey, EventItem, EventTime, CellRead, CellHeld, Negative, Negation, Operation}
+use Rattle.flu_model.specs.Erasure.{Clearing, ClearingFamily, Emitting, Flushing, Job}
 use Rattle.flu_rules.specs.Keys.{share_tag}
 use Rattle.flu_text.specs.declared.written.WrittenSpan.{WrittenSpan}
 use Rattle.flu_text.specs.declared.written.WrittenNumber.{WrittenNumber}
@@ -35,15 +37,15 @@ use Rattle.flu_parse.specs.declared.names.KindHead.{KindHead}
 use Rattle.flu_parse.specs.declared.pieces.WrittenPiece.{WrittenPiece}
 use Rattle.flu_parse.specs.declared.pieces.WrittenPiece.TheVariants as w
 use Rattle.flu_parse.specs.Faults.{Found, unless, room}
-use Rattle.flu_parse.specs.Naming.{Naming, look_up, is_declared, known, fresh_name, with_family, with_kind}
+use Rattle.flu_parse.specs.Naming.{Naming, in_version, is_version_3, takes_items, look_up, is_declared, known, fresh_name, with_family, with_kind}
 use Rattle.flu_parse.specs.Naming.{with_source, declare, no_names, naming_of, family_of, kind_of}
 use Rattle.flu_parse.specs.Cells.{resolved_key, is_wanted, brackets_fit, family_for, at_of, resolved_cell}
-use Rattle.flu_parse.specs.Terms.{height, first_part, first_token, term_of, expression_of}
-use Rattle.flu_parse.specs.Templates.{template_at, known_name, known_names, piece_fits, piece_of, pieces_of, template_of}
-use Rattle.flu_parse.specs.Actions.{sort_for, act_with, resolved_act, guard_of, action_of, with_action, resolved_actions}
+use Rattle.flu_parse.specs.Terms.{height, is_item, op_fits, first_part, first_token, term_of, expression_of}
+use Rattle.flu_parse.specs.Templates.{template_at, known_name, known_names, piece_fits, family_piece, piece_of, pieces_of, may_be_printed, template_of}
+use Rattle.flu_parse.specs.Actions.{sort_for, act_with, clears_whole, resolved_act, guard_of, action_of, with_action, resolved_actions}
 use Rattle.flu_parse.specs.Listings.{are_bracketed, written_keys, keys_of, tag_count, Listed, with_tag, tags_of, rate_of, slack_of, file_of}
 use Rattle.flu_parse.specs.Resolving.{Drafted, same_of, with_depend, with_actions, with_on, with_source as with_source_of}
-use Rattle.flu_parse.specs.Resolving.{with_declaration, first_draft, draft_of, version_of, job_with, resolved}
+use Rattle.flu_parse.specs.Resolving.{cell_name_fits, item_word_fits, with_declaration, first_draft, draft_of, version_of, job_with, resolved}
 
 -- ---- looks of which each fault is so
 
@@ -68,6 +70,10 @@ module _ {E : Type 0} (P : E → Type 0) where
   pub faults_then : {A B : Type 0} (r : Result A E) (g : Result B E) → FaultsAre P r → FaultsAre P g → FaultsAre P (r >> g)
   faults_then (Ok x) g a b e h = b e h
   faults_then (Err y) g a b e h = let same : y ≡ e = cc in subst P same (a y refl)
+
+  pub faults_if : {A : Type 0} (b : Bool) (r s : Result A E) → FaultsAre P r → FaultsAre P s → FaultsAre P (cond b r s)
+  faults_if true r s p q = p
+  faults_if false r s p q = q
 
   pub faults_each : {S X : Type 0} (step : S → X → Result S E) → ((s : S) (x : X) → FaultsAre P (step s x)) → (s : S) (xs : List X) → FaultsAre P
       (each step s xs)
@@ -109,10 +115,11 @@ module _ (P : JobFault → Type 0) (plain : Plain P) where
       (fault_unless P (nat_lt (written_value n.value) key_count) (f.OverLimit Key (written_value n.value)) (plain.limit Key (written_value n.value) tt))
       (no_fault P (written_value n.value))
 
-  at_faults : (under : KindHead) (key : WrittenKey) → FaultsAre P (at_of under key)
-  at_faults under k.Alone = no_fault P at.Alone
-  at_faults under (k.OwnKey place) = shape_faults under.keyed place at.OwnKey
-  at_faults under (k.Fixed n) = faults_bind P (resolved_key n) (λ key. Ok (at.Fixed key)) (key_faults n) (λ key. no_fault P (at.Fixed key))
+  at_faults : (n : Naming) (under : KindHead) (key : WrittenKey) → FaultsAre P (at_of n under key)
+  at_faults n under k.Alone = no_fault P at.Alone
+  at_faults n under (k.OwnKey place) = shape_faults under.keyed place at.OwnKey
+  at_faults n under (k.OwnItem place) = shape_faults (takes_items n under) place at.OwnItem
+  at_faults n under (k.Fixed m) = faults_bind P (resolved_key m) (λ key. Ok (at.Fixed key)) (key_faults m) (λ key. no_fault P (at.Fixed key))
 
   module _ (text : List ℕ) (n : Naming) where
     family_faults : (wanted : Option Sort) (r : WrittenRef) → FaultsAre P (family_for text n wanted r)
@@ -125,9 +132,9 @@ module _ (P : JobFault → Type 0) (plain : Plain P) where
     module _ (under : KindHead) where
       cell_faults : (wanted : Option Sort) (r : WrittenRef) → FaultsAre P (resolved_cell text n under wanted r)
       cell_faults wanted r =
-          faults_bind P (family_for text n wanted r) (λ family. at_of under r.key >>= λ a. Ok (record { family = family.number; at = a }))
+          faults_bind P (family_for text n wanted r) (λ family. at_of n under r.key >>= λ a. Ok (record { family = family.number; at = a }))
           (family_faults wanted r)
-          (λ family. faults_bind P (at_of under r.key) (λ a. Ok (record { family = family.number; at = a })) (at_faults under r.key)
+          (λ family. faults_bind P (at_of n under r.key) (λ a. Ok (record { family = family.number; at = a })) (at_faults n under r.key)
           (λ a. no_fault P (record { family = family.number; at = a })))
 
       token_faults : (e : Tree) → FaultsAre P (first_token text n under e)
@@ -136,12 +143,15 @@ module _ (P : JobFault → Type 0) (plain : Plain P) where
       token_faults (ValueTree at) = fault_unless P under.has_value (f.WrongShape at) (plain.shape at)
       token_faults (KeyTree at) = fault_unless P under.keyed (f.WrongShape at) (plain.shape at)
       token_faults (TimeTree at) = no_fault P tt
-      token_faults (ReadTree r) = faults_bind P (family_for text n None r) (λ _. Ok tt) (family_faults None r) (λ _. no_fault P tt)
+      token_faults (ReadTree r) =
+          faults_if P (is_item text n r) (unless (takes_items n under) (f.WrongShape r.family.from)) (family_for text n None r >>= λ _. Ok tt)
+          (fault_unless P (takes_items n under) (f.WrongShape r.family.from) (plain.shape r.family.from))
+          (faults_bind P (family_for text n None r) (λ _. Ok tt) (family_faults None r) (λ _. no_fault P tt))
       token_faults (HasTree at r) = no_fault P tt
       token_faults (ParenTree at e) = no_fault P tt
       token_faults (NegTree at e) = no_fault P tt
       token_faults (NotTree at e) = no_fault P tt
-      token_faults (TwoTree op a b) = no_fault P tt
+      token_faults (TwoTree op at a b) = no_fault P tt
 
       term_faults : (e : Tree) → FaultsAre P (term_of text n under e)
       unfolding term_of
@@ -149,14 +159,21 @@ module _ (P : JobFault → Type 0) (plain : Plain P) where
       term_faults (ValueTree at) = shape_faults under.has_value at EventValue
       term_faults (KeyTree at) = shape_faults under.keyed at EventKey
       term_faults (TimeTree at) = no_fault P EventTime
-      term_faults (ReadTree r) = faults_bind P (resolved_cell text n under None r) (λ c. Ok (CellRead c)) (cell_faults None r) (λ c. no_fault P (CellRead c))
+      term_faults (ReadTree r) =
+          faults_if P (is_item text n r) (unless (takes_items n under) (f.WrongShape r.family.from) >> Ok EventItem)
+          (resolved_cell text n under None r >>= λ c. Ok (CellRead c))
+          (shape_faults (takes_items n under) r.family.from EventItem)
+          (faults_bind P (resolved_cell text n under None r) (λ c. Ok (CellRead c)) (cell_faults None r) (λ c. no_fault P (CellRead c)))
       term_faults (HasTree at r) = faults_bind P (resolved_cell text n under None r) (λ c. Ok (CellHeld c)) (cell_faults None r) (λ c. no_fault P (CellHeld c))
       term_faults (ParenTree at e) = term_faults e
       term_faults (NegTree at e) = faults_bind P (term_of text n under e) (λ t. Ok (Negative t)) (term_faults e) (λ t. no_fault P (Negative t))
       term_faults (NotTree at e) = faults_bind P (term_of text n under e) (λ t. Ok (Negation t)) (term_faults e) (λ t. no_fault P (Negation t))
-      term_faults (TwoTree op a b) =
-          faults_bind P (term_of text n under a) (λ s. term_of text n under b >>= λ t. Ok (Operation op s t)) (term_faults a)
-          (λ s. faults_bind P (term_of text n under b) (λ t. Ok (Operation op s t)) (term_faults b) (λ t. no_fault P (Operation op s t)))
+      term_faults (TwoTree op at a b) =
+          faults_bind P (term_of text n under a) (λ s. unless (op_fits n op) (f.WrongShape at) >> (term_of text n under b >>= λ t. Ok (Operation op s t)))
+          (term_faults a)
+          (λ s. faults_then P (unless (op_fits n op) (f.WrongShape at)) (term_of text n under b >>= λ t. Ok (Operation op s t))
+          (fault_unless P (op_fits n op) (f.WrongShape at) (plain.shape at))
+          (faults_bind P (term_of text n under b) (λ t. Ok (Operation op s t)) (term_faults b) (λ t. no_fault P (Operation op s t))))
 
       expression_faults : (e : Tree) → FaultsAre P (expression_of text n under e)
       unfolding expression_of
@@ -171,40 +188,53 @@ module _ (P : JobFault → Type 0) (plain : Plain P) where
       name_faults place (w.Plain s) = no_fault P tt
       name_faults place w.Value = no_fault P tt
       name_faults place w.Key = no_fault P tt
+      name_faults place w.Item = no_fault P tt
       name_faults place w.Time = no_fault P tt
       name_faults place w.CellValue = no_fault P tt
       name_faults place (w.Read r) =
           faults_bind P (known place (look_up (name_of text r.family) n.families)) (λ _. Ok tt)
           (known_faults place (look_up (name_of text r.family) n.families))
           (λ _. no_fault P tt)
+      name_faults place (w.Family s) =
+          faults_bind P (known place (look_up (name_of text s) n.families)) (λ _. Ok tt) (known_faults place (look_up (name_of text s) n.families))
+          (λ _. no_fault P tt)
       name_faults place w.Formless = no_fault P tt
 
-      piece_faults : (place : ℕ) (q : WrittenPiece) → FaultsAre P (piece_of text n under place q)
+      piece_faults : (flushed : Option ℕ) (place : ℕ) (q : WrittenPiece) → FaultsAre P (piece_of text n under flushed place q)
       unfolding piece_of
-      piece_faults place (w.Plain s) = no_fault P (piece.Plain (name_of text s))
-      piece_faults place w.Value = no_fault P piece.Value
-      piece_faults place w.Key = no_fault P piece.Key
-      piece_faults place w.Time = no_fault P piece.Time
-      piece_faults place w.CellValue = no_fault P piece.CellValue
-      piece_faults place (w.Read r) =
+      piece_faults flushed place (w.Plain s) = no_fault P (piece.Plain (name_of text s))
+      piece_faults flushed place w.Value = no_fault P piece.Value
+      piece_faults flushed place w.Key = no_fault P piece.Key
+      piece_faults flushed place w.Item = no_fault P piece.Item
+      piece_faults flushed place w.Time = no_fault P piece.Time
+      piece_faults flushed place w.CellValue = no_fault P piece.CellValue
+      piece_faults flushed place (w.Read r) =
           faults_bind P (known place (look_up (name_of text r.family) n.families))
-          (λ family. at_of under r.key >>= λ a. Ok (piece.Read (record { family = family.number; at = a })))
+          (λ family. at_of n under r.key >>= λ a. Ok (piece.Read (record { family = family.number; at = a })))
           (known_faults place (look_up (name_of text r.family) n.families))
-          (λ family. faults_bind P (at_of under r.key) (λ a. Ok (piece.Read (record { family = family.number; at = a }))) (at_faults under r.key)
+          (λ family. faults_bind P (at_of n under r.key) (λ a. Ok (piece.Read (record { family = family.number; at = a }))) (at_faults n under r.key)
           (λ a. no_fault P (piece.Read (record { family = family.number; at = a }))))
-      piece_faults place w.Formless = one_fault P (f.WrongShape place) (plain.shape place)
+      piece_faults flushed place (w.Family s) =
+          faults_bind P (known place (look_up (name_of text s) n.families)) (λ family. Ok (family_piece flushed family.number))
+          (known_faults place (look_up (name_of text s) n.families)) (λ family. no_fault P (family_piece flushed family.number))
+      piece_faults flushed place w.Formless = one_fault P (f.WrongShape place) (plain.shape place)
 
-      template_faults : (in_flush : Bool) (s : WrittenSpan) → FaultsAre P (template_of text n under in_flush s)
+      template_faults : (flushed : Option ℕ) (s : WrittenSpan) → FaultsAre P (template_of text n under flushed s)
       unfolding template_of
-      template_faults in_flush s =
-          let t = template_at text in_flush s in
-          let fits = t.whole && list_all (piece_fits text n under in_flush) t.pieces in
-          faults_then P (known_names text n s.from t.pieces) (unless fits (f.WrongShape s.from) >> pieces_of text n under s.from t.pieces)
+      template_faults flushed s =
+          let t = template_at text n.version (is_some flushed) s in
+          let fits = t.whole && list_all (piece_fits text n under (is_some flushed)) t.pieces in
+          let last = λ (ps : List Piece). unless (may_be_printed n flushed ps) (f.WrongShape s.from) >> (let r : Found (List Piece) = Ok ps in r) in
+          faults_then P (known_names text n s.from t.pieces)
+          (unless fits (f.WrongShape s.from) >> (pieces_of text n under flushed s.from t.pieces >>= last))
           (faults_each P (λ done q. known_name text n s.from q) (λ done q. name_faults s.from q) tt t.pieces)
-          (faults_then P (unless fits (f.WrongShape s.from)) (pieces_of text n under s.from t.pieces) (fault_unless P fits (f.WrongShape s.from)
+          (faults_then P (unless fits (f.WrongShape s.from)) (pieces_of text n under flushed s.from t.pieces >>= last)
+          (fault_unless P fits (f.WrongShape s.from)
           (plain.shape s.from))
-          (faults_each P (collect (piece_of text n under s.from)) (λ done q. faults_bind P (piece_of text n under s.from q) (λ y. Ok (done ++ y ∷ []))
-          (piece_faults s.from q) (λ y. no_fault P (done ++ y ∷ []))) [] t.pieces))
+          (faults_bind P (pieces_of text n under flushed s.from t.pieces) last
+          (faults_each P (collect (piece_of text n under flushed s.from)) (λ done q. faults_bind P (piece_of text n under flushed s.from q)
+          (λ y. Ok (done ++ y ∷ [])) (piece_faults flushed s.from q) (λ y. no_fault P (done ++ y ∷ []))) [] t.pieces)
+          (λ ps. shape_faults (may_be_printed n flushed ps) s.from ps)))
 
       act_faults : (e : Deed) → FaultsAre P (resolved_act text n under e)
       unfolding resolved_act
@@ -212,16 +242,22 @@ module _ (P : JobFault → Type 0) (plain : Plain P) where
           faults_bind P (resolved_cell text n under (Some (sort_for verb)) r) (λ c. expression_of text n under e >>= λ t. Ok (act_with verb c t))
           (cell_faults (Some (sort_for verb)) r)
           (λ c. faults_bind P (expression_of text n under e) (λ t. Ok (act_with verb c t)) (expression_faults e) (λ t. no_fault P (act_with verb c t)))
-      act_faults (Clears r) = faults_bind P (resolved_cell text n under None r) (λ c. Ok (Clearing c)) (cell_faults None r) (λ c. no_fault P (Clearing c))
+      act_faults (Clears r) =
+          faults_bind P (family_of text n r.family) (λ h. if clears_whole n h r.key then Ok (ClearingFamily h.number) else
+          (resolved_cell text n under None r >>= λ c. Ok (Clearing c)))
+          (known_faults r.family.from (look_up (name_of text r.family) n.families))
+          (λ h. faults_if P (clears_whole n h r.key) (Ok (ClearingFamily h.number)) (resolved_cell text n under None r >>= λ c. Ok (Clearing c))
+          (no_fault P (ClearingFamily h.number))
+          (faults_bind P (resolved_cell text n under None r) (λ c. Ok (Clearing c)) (cell_faults None r) (λ c. no_fault P (Clearing c))))
       act_faults (Emits s) =
-          faults_bind P (template_of text n under false s) (λ ps. Ok (Emitting ps)) (template_faults false s) (λ ps. no_fault P (Emitting ps))
+          faults_bind P (template_of text n under None s) (λ ps. Ok (Emitting ps)) (template_faults None s) (λ ps. no_fault P (Emitting ps))
       act_faults (Flushes name s) =
-          faults_bind P (family_of text n name) (λ h. unless h.keyed (f.WrongShape name.from) >> (template_of text n under true s >>= λ ps. Ok
+          faults_bind P (family_of text n name) (λ h. unless h.keyed (f.WrongShape name.from) >> (template_of text n under (Some h.number) s >>= λ ps. Ok
           (Flushing h.number ps)))
           (known_faults name.from (look_up (name_of text name) n.families))
-          (λ h. faults_then P (unless h.keyed (f.WrongShape name.from)) (template_of text n under true s >>= λ ps. Ok (Flushing h.number ps))
+          (λ h. faults_then P (unless h.keyed (f.WrongShape name.from)) (template_of text n under (Some h.number) s >>= λ ps. Ok (Flushing h.number ps))
           (fault_unless P h.keyed (f.WrongShape name.from) (plain.shape name.from))
-          (faults_bind P (template_of text n under true s) (λ ps. Ok (Flushing h.number ps)) (template_faults true s)
+          (faults_bind P (template_of text n under (Some h.number) s) (λ ps. Ok (Flushing h.number ps)) (template_faults (Some h.number) s)
           (λ ps. no_fault P (Flushing h.number ps))))
 
       guard_faults : (g : Option Tree) → FaultsAre P (guard_of text n under g)
@@ -363,10 +399,16 @@ module _ (P : JobFault → Type 0) (plain : Plain P) where
             itags = l.itags;
           })))))
 
+      item_faults : (item : Option ℕ) → FaultsAre P (item_word_fits n item)
+      item_faults None = no_fault P tt
+      item_faults (Some at) = fault_unless P (is_version_3 n) (f.WrongShape at) (plain.shape at)
+
       declaration_faults : (x : Drafted) (y : Declaration) → FaultsAre P (with_declaration text n x y)
       unfolding with_declaration
-      declaration_faults x (d.Cell name keyed sort) = no_fault P x
-      declaration_faults x (d.Tag name keyed has_value) = no_fault P x
+      declaration_faults x (d.Cell name keyed sort) =
+          shape_faults (cell_name_fits text n name) name.from x
+      declaration_faults x (d.Tag name keyed item has_value) =
+          faults_then P (item_word_fits n item) (Ok x) (item_faults item) (no_fault P x)
       declaration_faults x (d.Depends a b relation) = depend_faults x a b relation
       declaration_faults x (d.On kind actions) = on_faults x kind actions
       declaration_faults x (d.Source name file rate slack tags) = source_faults x name file rate slack tags
@@ -395,11 +437,11 @@ module _ (P : JobFault → Type 0) (plain : Plain P) where
         })) (fresh_faults n s) (λ name. room_faults Families 64 (length n.families) (record n {
           families = n.families ++ (name, record { number = length n.families; keyed = keyed; sort = sort }) ∷ [];
         }) tt)
-    declare_faults n (d.Tag s keyed has_value) =
+    declare_faults n (d.Tag s keyed item has_value) =
         faults_bind P (fresh_name text n s) (λ name. room Kinds 64 (length n.kinds) >> Ok (record n {
-          kinds = n.kinds ++ (name, record { number = length n.kinds; keyed = keyed; has_value = has_value }) ∷ [];
+          kinds = n.kinds ++ (name, record { number = length n.kinds; keyed = keyed; has_item = is_some item; has_value = has_value }) ∷ [];
         })) (fresh_faults n s) (λ name. room_faults Kinds 64 (length n.kinds) (record n {
-          kinds = n.kinds ++ (name, record { number = length n.kinds; keyed = keyed; has_value = has_value }) ∷ [];
+          kinds = n.kinds ++ (name, record { number = length n.kinds; keyed = keyed; has_item = is_some item; has_value = has_value }) ∷ [];
         }) tt)
     declare_faults n (d.Depends a b relation) = room_faults Depends 4096 n.depends (record n { depends = n.depends + 1 }) tt
     declare_faults n (d.On kind actions) = no_fault P n
@@ -415,10 +457,12 @@ module _ (P : JobFault → Type 0) (plain : Plain P) where
     pub resolved_faults : (job : WrittenJob) → FaultsAre P (resolved text job)
     unfolding resolved
     resolved_faults job =
-        faults_bind P (naming_of text job.declarations) (λ n. version_of job.version >>= λ version. draft_of text n job.declarations >>= λ x. Ok
-        (job_with version n x))
+        let drafted_in = λ (n : Naming) (version : ℕ). draft_of text (in_version n version) job.declarations >>= λ x. let r : Found Job = Ok
+        (job_with (in_version n version) x) in r in
+        faults_bind P (naming_of text job.declarations) (λ n. version_of job.version >>= λ version. drafted_in n version)
         (faults_each P (declare text) declare_faults no_names job.declarations)
-        (λ n. faults_bind P (version_of job.version) (λ version. draft_of text n job.declarations >>= λ x. Ok (job_with version n x))
+        (λ n. faults_bind P (version_of job.version) (λ version. drafted_in n version)
         (version_faults job.version)
-        (λ version. faults_bind P (draft_of text n job.declarations) (λ x. Ok (job_with version n x)) (draft_faults text n twice job.declarations)
-        (λ x. no_fault P (job_with version n x))))
+        (λ version. faults_bind P (draft_of text (in_version n version) job.declarations) (λ x. Ok (job_with (in_version n version) x))
+        (draft_faults text (in_version n version) twice job.declarations)
+        (λ x. no_fault P (job_with (in_version n version) x))))

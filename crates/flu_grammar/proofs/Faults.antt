@@ -1,7 +1,7 @@
 -- What the faults of the readers say.
 use Rattle.std.proofs.Common.{◌≡◌, ℕ, ◌+◌, Bool, true, false, List, [], ◌∷◌, ◌++◌, map, length}
 use Rattle.std.proofs.Common.{Option, Some, None, Ok, Err, refl, sym, ap, subst, ◌∙◌, append_assoc}
-use Rattle.std.specs.Prelude.{not, nat_lt, slice_get, if◌then◌else◌}
+use Rattle.std.specs.Prelude.{not, nat_lt, slice_get, is_some, if◌then◌else◌}
 use Rattle.std.specs.List.{list_any, flat_map, position, position_or_len}
 use Rattle.std.specs.Str.{bytes_eq}
 use Rattle.std.proofs.lemmas.List.{map-append}
@@ -30,7 +30,7 @@ use Rattle.flu_grammar.specs.Declared.{families_in, kinds_in}
 use Rattle.flu_grammar.specs.Laws.{JobsAreGrammar, PlansAreGrammar}
 use Rattle.flu_grammar.specs.Faults.{RefusedIsNoJob, RefusedIsNoPlan, FamilyIsUnknown, KindIsUnknown, PlanKindIsUnknown, PlanSourceIsUnknown}
 use Rattle.flu_grammar.specs.Faults.{ChildIsUnknown, spans_in, IsDeclaredTwice, TwiceNamedIsDeclaredTwice, IsNodeTwice, NoTreeIsNodeTwice}
-use Rattle.flu_grammar.proofs.Lists.{get_below, differ_none, differ_push, any_there, met_at}
+use Rattle.flu_grammar.proofs.Lists.{no_some, get_below, differ_none, differ_push, any_there, met_at}
 use Rattle.flu_grammar.proofs.PlanRead.{written_name}
 use Rattle.flu_grammar.proofs.JobCells.{family_head, look_up_found}
 use Rattle.flu_grammar.proofs.JobNames.{all_names, Named, OwnNames, declare_is, named_next, own_next, none_named, none_own, naming_is}
@@ -47,9 +47,6 @@ refused_is_no_plan grammar = λ program bytes fault plan e is.
     (let found = (grammar program bytes plan).1 is in let both : Err fault ≡ Ok plan = sym e ∙ found in absurd cc)
 
 -- ---- unknown names
-
-no_some : {X : Type 0} (x : X) → None ≡ Some x → ⊥
-no_some x e = cc
 
 unknown_is : {X : Type 0} (here : ℕ) (o : Option X) (at : ℕ) → known here o ≡ Err (j.UnknownName at) → (o ≡ None) × (at ≡ here)
 unknown_is here None at e = (refl, cc)
@@ -169,9 +166,9 @@ module _ (text : List ℕ) where
       }) Families at e in
       let before = declared_before done n (name_of text s) named fault.0 in
       record { name = s; named = refl; here = fault.1; place = before.0; earlier = before.1 }
-  again done n (d.Tag s keyed has_value) at named e =
+  again done n (d.Tag s keyed item has_value) at named e =
       let fault = fresh_fault n s 64 (length n.kinds) (λ name. record n {
-        kinds = n.kinds ++ (name, record { number = length n.kinds; keyed = keyed; has_value = has_value }) ∷ [];
+        kinds = n.kinds ++ (name, record { number = length n.kinds; keyed = keyed; has_item = is_some item; has_value = has_value }) ∷ [];
       }) Kinds at e in
       let before = declared_before done n (name_of text s) named fault.0 in
       record { name = s; named = refl; here = fault.1; place = before.0; earlier = before.1 }

@@ -1,16 +1,17 @@
 -- The declarations of a job, looked at in order: what is found of them is what they mean, and the other way round.
-use Rattle.std.proofs.Common.{◌≡◌, ℕ, zero, suc, ◌+◌, ◌≤◌, Bool, true, false, List, [], ◌∷◌, ◌++◌, map}
-use Rattle.std.proofs.Common.{length, Option, Some, Ok, refl, sym, ap, subst, ◌∙◌, append_assoc, arith}
-use Rattle.std.specs.Prelude.{not, ◌==◌, slice_get, if◌then◌else◌}
+use Rattle.std.proofs.Common.{◌≡◌, ◌≢◌, inl, inr, ℕ, zero, suc, ◌+◌, ◌≤◌, Bool, true, false, List, [], ◌∷◌, ◌++◌, map}
+use Rattle.std.proofs.Common.{length, Option, Some, None, Ok, refl, sym, ap, subst, ◌∙◌, append_assoc, arith}
+use Rattle.std.specs.Prelude.{not, ◌==◌, slice_get, is_some, if◌then◌else◌, codes}
 use Rattle.std.specs.List.{list_any, flat_map}
 use Rattle.std.specs.Str.{bytes_eq}
 use Rattle.std.proofs.lemmas.List.{append-nil, map-append}
 use Rattle.flu_lemmas.specs.Items.{Pairs}
 use Rattle.flu_lemmas.specs.Totals.{total}
 use Rattle.flu_lemmas.proofs.Elements.{fails_at}
-use Rattle.flu_lemmas.proofs.Loops.{bind_ok}
+use Rattle.flu_lemmas.proofs.Loops.{bind_ok, then_ok}
 use Rattle.flu_lemmas.proofs.Searches.{eq_true}
-use Rattle.flu_lemmas.proofs.Tests.{not_true, not_both, false_if_not}
+use Rattle.flu_lemmas.proofs.Places.{slice_get_push}
+use Rattle.flu_lemmas.proofs.Tests.{not_true, not_both, false_if_not, true_eq}
 use Rattle.flu_lemmas.proofs.Totals.{total-append}
 use Rattle.flu_lemmas.proofs.Bytes.{bytes_itself, bytes_is}
 use Rattle.flu_model.specs.declared.jobs.Family.{Family}
@@ -29,16 +30,18 @@ use Rattle.flu_parse.specs.declared.names.KindHead.{KindHead}
 use Rattle.flu_parse.specs.Faults.{◌>>=◌, ◌>>◌, unless, each}
 use Rattle.flu_parse.specs.Naming.{Naming, kind_of}
 use Rattle.flu_parse.specs.Actions.{resolved_actions}
-use Rattle.flu_parse.specs.Resolving.{Drafted, with_depend, with_actions, with_on, with_source, with_declaration, idle_kind, first_draft, draft_of}
+use Rattle.flu_parse.specs.Resolving.{Drafted, with_depend, with_actions, with_on, with_source, cell_name_fits, item_word_fits, with_declaration, idle_kind}
+use Rattle.flu_parse.specs.Resolving.{first_draft, draft_of}
 use Rattle.flu_grammar.specs.Means.{AllDiffer, IsNamed}
 use Rattle.flu_grammar.specs.Actions.{MeansAction}
-use Rattle.flu_grammar.specs.Declared.{DeclaredKind, WrittenDepend, WrittenSource, depends_in, ons_in, actions_in, sources_in}
+use Rattle.flu_grammar.specs.Declared.{DeclaredKind, under_kind, IsDeclaredIn, WrittenDepend, WrittenSource, depends_in, ons_in, actions_in, sources_in}
 use Rattle.flu_grammar.specs.Sources.{MeansDepend, MeansSource}
 use Rattle.flu_grammar.specs.Jobs.{MeansDeclaredKind}
-use Rattle.flu_grammar.proofs.Lists.{some_same, get_map, get_unmap, differ_none, differ_tail, differ_head, differ_push, pairs_left, pairs_push}
+use Rattle.flu_grammar.proofs.Lists.{some_same, no_some, get_map, get_unmap, differ_none, differ_tail, differ_head, differ_push, pairs_left, pairs_push}
 use Rattle.flu_grammar.proofs.Looks.{ok_same, passed}
 use Rattle.flu_grammar.proofs.Heads.{heads}
-use Rattle.flu_grammar.proofs.JobCells.{KnowFamilies}
+use Rattle.flu_grammar.proofs.Items.{is_item_word, is_item}
+use Rattle.flu_grammar.proofs.JobCells.{KnowFamilies, under_head}
 use Rattle.flu_grammar.proofs.JobActions.{actions_mean}
 use Rattle.flu_grammar.proofs.JobNames.{kind_name, kind_head, grown, unchanged}
 use Rattle.flu_grammar.proofs.JobSources.{KnowKinds, kind_is, depend_is, part_count, with_one_depend, with_one_source, source_is}
@@ -53,7 +56,7 @@ module _ (text : List ℕ) where
       (actions_in text name) ds ≡ []
   no_actions name [] none = refl
   no_actions name (d.Cell s keyed sort ∷ ds) none = no_actions name ds none
-  no_actions name (d.Tag s keyed has_value ∷ ds) none = no_actions name ds none
+  no_actions name (d.Tag s keyed item has_value ∷ ds) none = no_actions name ds none
   no_actions name (d.Depends a b relation ∷ ds) none = no_actions name ds none
   no_actions name (d.Source s file rate slack tags ∷ ds) none = no_actions name ds none
   no_actions name (d.On kind actions ∷ ds) none =
@@ -67,7 +70,7 @@ module _ (text : List ℕ) where
 
 module _ (text : List ℕ) (n : Naming) (families : List Family) (kinds : List DeclaredKind) (know : KnowFamilies n families) (knows : KnowKinds n kinds) where
   abbrev Kind : Declarations → DeclaredKind → PlainKind → Type 0
-  Kind done k p = MeansDeclaredKind text families done k p
+  Kind done k p = MeansDeclaredKind text n.version families done k p
 
   abbrev IsGiven : List ℕ → ℕ → Type 0
   IsGiven name number = IsNamed kind_name kinds name number
@@ -81,7 +84,30 @@ module _ (text : List ℕ) (n : Naming) (families : List Family) (kinds : List D
     pub sources : Pairs (MeansSource text kinds) (flat_map sources_in done) x.sources
     pub own_files : AllDiffer (map (λ (s : Source). s.file) x.sources)
     pub itags : x.itags ≡ itag_count x.sources
+    pub allowed : (i : ℕ) (y : Declaration) → slice_get done i ≡ Some y → IsDeclaredIn text n.version y
     pub few_itags : x.itags ≤ 256
+
+  -- ---- declarations that the version has
+
+  allowed_more : (done : Declarations) (x : Declaration) → ((i : ℕ) (y : Declaration) → slice_get done i ≡ Some y → IsDeclaredIn text n.version y)
+      → IsDeclaredIn text n.version x → (i : ℕ) (y : Declaration) → slice_get (done ++ x ∷ []) i ≡ Some y → IsDeclaredIn text n.version y
+  allowed_more done x all has i y at = elim (slice_get_push done x i y at) [
+    | inl before ↦ all i y before
+    | inr here ↦ subst (IsDeclaredIn text n.version) here.1 has
+  ]
+
+  cell_allowed : (s : WrittenSpan) → cell_name_fits text n s ≡ true → n.version ≡ 3 → name_of text s ≢ codes "item"
+  cell_allowed s fits third named =
+      not_both (is_item_word n.version (name_of text s)) (is_item n.version (name_of text s) (third, named))
+      (not_true (is_item_word n.version (name_of text s)) fits)
+
+  tag_allowed : (item : Option ℕ) (u : Unit {0}) → item_word_fits n item ≡ Ok u → is_some item ≡ true → n.version ≡ 3
+  tag_allowed None u e some = absurd cc
+  tag_allowed (Some at) u e some = by (n.version == 3) refl e
+    where
+      by : (b : Bool) → (n.version == 3) ≡ b → unless b (f.WrongShape at) ≡ Ok u → n.version ≡ 3
+      by true is e = true_eq n.version 3 is
+      by false is e = absurd cc
 
   -- ---- a declaration that has no actions of a kind
 
@@ -90,9 +116,10 @@ module _ (text : List ℕ) (n : Naming) (families : List Family) (kinds : List D
   kind_kept done x k p none is = record {
     name = is.name;
     keyed = is.keyed;
+    has_item = is.has_item;
     has_value = is.has_value;
     actions =
-        subst (λ (l : List Action). Pairs (MeansAction text families k.keyed k.has_value) l p.actions) (unchanged text
+        subst (λ (l : List Action). Pairs (MeansAction text families (under_kind n.version k)) l p.actions) (unchanged text
         (actions_in text k.name) done x none) is.actions;
     few_actions = is.few_actions;
   }
@@ -113,7 +140,7 @@ module _ (text : List ℕ) (n : Naming) (families : List Family) (kinds : List D
 
   kind_on : (done : Declarations) (kind : WrittenSpan) (actions : List Action) (k : DeclaredKind) (p : PlainKind) (acts : List PlainAction)
       → name_of text kind ≡ k.name
-      → flat_map (actions_in text k.name) done ≡ [] → Kind done k p → Pairs (MeansAction text families k.keyed k.has_value) actions acts → length acts ≤ 32
+      → flat_map (actions_in text k.name) done ≡ [] → Kind done k p → Pairs (MeansAction text families (under_kind n.version k)) actions acts → length acts ≤ 32
       → Kind (done ++ d.On kind actions ∷ []) k (record p { actions = acts })
   kind_on done kind actions k p acts named none is means few =
       let all : flat_map (actions_in text k.name) (done ++ d.On kind actions ∷ []) ≡ actions =
@@ -122,8 +149,9 @@ module _ (text : List ℕ) (n : Naming) (families : List Family) (kinds : List D
       record {
         name = is.name;
         keyed = is.keyed;
+        has_item = is.has_item;
         has_value = is.has_value;
-        actions = subst (λ (l : List Action). Pairs (MeansAction text families k.keyed k.has_value) l acts) (sym all) means;
+        actions = subst (λ (l : List Action). Pairs (MeansAction text families (under_kind n.version k)) l acts) (sym all) means;
         few_actions = few;
       }
 
@@ -131,7 +159,7 @@ module _ (text : List ℕ) (n : Naming) (families : List Family) (kinds : List D
       (number : ℕ)
       (k : DeclaredKind) → AllDiffer (map kind_name ks) → slice_get ks number ≡ Some k → name_of text kind ≡ k.name
       → flat_map (actions_in text k.name) done ≡ []
-      → Pairs (MeansAction text families k.keyed k.has_value) actions acts → length acts ≤ 32 → Pairs (Kind done) ks ps
+      → Pairs (MeansAction text families (under_kind n.version k)) actions acts → length acts ≤ 32 → Pairs (Kind done) ks ps
       → Pairs (Kind (done ++ d.On kind actions ∷ [])) ks (with_actions ps number acts)
   kinds_on done kind actions acts [] ps number k own here named none means few h = absurd cc
   kinds_on done kind actions acts (c ∷ ks) [] number k own here named none means few h = absurd h
@@ -183,11 +211,8 @@ module _ (text : List ℕ) (n : Naming) (families : List Family) (kinds : List D
       not_both (got.0 == h.number) (eq_true got.0 h.number same) (fails_at (λ g. g == h.number) x.given i got.0 not_given got.1)) in
       let none : flat_map (actions_in text k.name) done ≡ [] = no_actions text k.name done (λ i at. new i (at ∙ ap (λ (z : List ℕ). Some z) head.named)) in
       let means = actions_mean text n families know h actions acts three.1 in
-      let keyed : h.keyed ≡ k.keyed = ap (λ (z : KindHead). z.keyed) (sym head.is) in
-      let has_value : h.has_value ≡ k.has_value = ap (λ (z : KindHead). z.has_value) (sym head.is) in
-      let acts_mean : Pairs (MeansAction text families k.keyed k.has_value) actions acts =
-      subst (λ (b : Bool). Pairs (MeansAction text families b k.has_value) actions acts) keyed
-      (subst (λ (b : Bool). Pairs (MeansAction text families h.keyed b) actions acts) has_value means.0) in
+      let acts_mean : Pairs (MeansAction text families (under_kind n.version k)) actions acts =
+      subst (λ (z : KindHead). Pairs (MeansAction text families (under_head n z)) actions acts) (sym head.is) means.0 in
       let drafts : Drafts (done ++ on ∷ []) (record x { kinds = with_actions x.kinds h.number acts; given = x.given ++ h.number ∷ [] }) = record {
         kinds_are = kinds_on done kind actions acts kinds x.kinds h.number k knows.differ here (sym head.named) none acts_mean means.1 is.kinds_are;
         given =
@@ -199,6 +224,7 @@ module _ (text : List ℕ) (n : Naming) (families : List Family) (kinds : List D
         sources = subst (λ (l : List WrittenSource). Pairs (MeansSource text kinds) l x.sources) (unchanged text sources_in done on refl) is.sources;
         own_files = is.own_files;
         itags = is.itags;
+        allowed = allowed_more done on is.allowed tt;
         few_itags = is.few_itags;
       } in
       subst (λ (z : Drafted). Drafts (done ++ on ∷ []) z)
@@ -209,8 +235,8 @@ module _ (text : List ℕ) (n : Naming) (families : List Family) (kinds : List D
   -- a declaration of a name
   nothing_next : (done : Declarations) (x : Drafted) (y : Declaration) → ((name : List ℕ) → actions_in text name y ≡ []) → ons_in text y ≡ []
       → depends_in y ≡ []
-      → sources_in y ≡ [] → Drafts done x → Drafts (done ++ y ∷ []) x
-  nothing_next done x y no_acts no_on no_depend no_source is = record {
+      → sources_in y ≡ [] → IsDeclaredIn text n.version y → Drafts done x → Drafts (done ++ y ∷ []) x
+  nothing_next done x y no_acts no_on no_depend no_source has is = record {
     kinds_are = kinds_kept done y kinds x.kinds (λ i k at. no_acts k.name) is.kinds_are;
     given = subst (λ (l : List (List ℕ)). Pairs IsGiven l x.given) (unchanged text (ons_in text) done y no_on) is.given;
     own_ons = subst (λ (l : List (List ℕ)). AllDiffer l) (unchanged text (ons_in text) done y no_on) is.own_ons;
@@ -218,6 +244,7 @@ module _ (text : List ℕ) (n : Naming) (families : List Family) (kinds : List D
     sources = subst (λ (l : List WrittenSource). Pairs (MeansSource text kinds) l x.sources) (unchanged text sources_in done y no_source) is.sources;
     own_files = is.own_files;
     itags = is.itags;
+    allowed = allowed_more done y is.allowed has;
     few_itags = is.few_itags;
   }
 
@@ -238,6 +265,7 @@ module _ (text : List ℕ) (n : Naming) (families : List Family) (kinds : List D
         sources = subst (λ (l : List WrittenSource). Pairs (MeansSource text kinds) l x.sources) (unchanged text sources_in done y refl) is.sources;
         own_files = is.own_files;
         itags = is.itags;
+        allowed = allowed_more done y is.allowed tt;
         few_itags = is.few_itags;
       } in
       subst (λ (z : Drafted). Drafts (done ++ y ∷ []) z) one.2 drafts
@@ -270,6 +298,7 @@ module _ (text : List ℕ) (n : Naming) (families : List Family) (kinds : List D
             (pairs_push (MeansSource text kinds) (flat_map sources_in done) x.sources v s is.sources one.means);
         own_files = file_new x.sources s one.own_file is.own_files;
         itags = omega (arith, count, before);
+        allowed = allowed_more done y is.allowed tt;
         few_itags = one.few is.few_itags;
       } in
       subst (λ (z : Drafted). Drafts (done ++ y ∷ []) z) one.is drafts
@@ -278,11 +307,13 @@ module _ (text : List ℕ) (n : Naming) (families : List Family) (kinds : List D
       (done ++ y ∷ []) more
   unfolding with_declaration
   drafts_next done x more (d.Cell s keyed sort) is e =
-      subst (λ (z : Drafted). Drafts (done ++ d.Cell s keyed sort ∷ []) z) (ok_same x more e) (nothing_next done x (d.Cell s keyed sort)
-      (λ name. refl) refl refl refl is)
-  drafts_next done x more (d.Tag s keyed has_value) is e =
-      subst (λ (z : Drafted). Drafts (done ++ d.Tag s keyed has_value ∷ []) z) (ok_same x more e) (nothing_next done x (d.Tag s keyed has_value)
-      (λ name. refl) refl refl refl is)
+      let one = passed (cell_name_fits text n s) (f.WrongShape s.from) (Ok x) more e in
+      subst (λ (z : Drafted). Drafts (done ++ d.Cell s keyed sort ∷ []) z) (ok_same x more one.1) (nothing_next done x (d.Cell s keyed sort)
+      (λ name. refl) refl refl refl (cell_allowed s one.0) is)
+  drafts_next done x more (d.Tag s keyed item has_value) is e =
+      let one = then_ok (item_word_fits n item) (Ok x) more e in
+      subst (λ (z : Drafted). Drafts (done ++ d.Tag s keyed item has_value ∷ []) z) (ok_same x more one.2) (nothing_next done x (d.Tag s keyed item has_value)
+      (λ name. refl) refl refl refl (tag_allowed item one.0 one.1) is)
   drafts_next done x more (d.Depends a b relation) is e = depend_next done x more a b relation is e
   drafts_next done x more (d.On kind actions) is e = on_next done x more kind actions is e
   drafts_next done x more (d.Source name file rate slack tags) is e = source_next done x more name file rate slack tags is e
@@ -298,7 +329,7 @@ module _ (text : List ℕ) (n : Naming) (families : List Family) (kinds : List D
 
   idle : (i : ℕ) (ks : List DeclaredKind) → Pairs (Kind []) ks (map idle_kind (heads kind_name kind_head i ks))
   idle i [] = tt
-  idle i (k ∷ ks) = (record { name = refl; keyed = refl; has_value = refl; actions = tt; few_actions = omega arith }, idle (i + 1) ks)
+  idle i (k ∷ ks) = (record { name = refl; keyed = refl; has_item = refl; has_value = refl; actions = tt; few_actions = omega arith }, idle (i + 1) ks)
 
   pub first_drafts : Drafts [] (first_draft n)
   first_drafts = record {
@@ -309,6 +340,7 @@ module _ (text : List ℕ) (n : Naming) (families : List Family) (kinds : List D
     sources = tt;
     own_files = differ_none;
     itags = refl;
+    allowed = λ i y at. absurd (no_some y at);
     few_itags = omega arith;
   }
 

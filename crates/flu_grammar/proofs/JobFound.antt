@@ -1,13 +1,14 @@
 -- A job that is written is found: each declaration passes, and what is found is the job.
-use Rattle.std.proofs.Common.{◌≡◌, ℕ, suc, ◌+◌, ◌≤◌, true, false, List, [], ◌∷◌, ◌++◌, map, length}
+use Rattle.std.proofs.Common.{◌≡◌, ◌≢◌, ℕ, suc, ◌+◌, ◌≤◌, true, false, List, [], ◌∷◌, ◌++◌, map, length}
 use Rattle.std.proofs.Common.{Option, Some, None, Ok, refl, sym, ap, subst, ◌∙◌, append_assoc, arith}
-use Rattle.std.specs.Prelude.{not, ◌==◌, slice_get}
+use Rattle.std.specs.Prelude.{not, ◌==◌, slice_get, is_some, codes}
 use Rattle.std.specs.List.{list_any, flat_map}
 use Rattle.std.specs.Str.{bytes_eq}
 use Rattle.std.proofs.lemmas.List.{append-nil, map-append}
 use Rattle.flu_lemmas.specs.Items.{Pairs}
 use Rattle.flu_lemmas.specs.Totals.{total}
 use Rattle.flu_lemmas.proofs.Places.{slice_get-behind}
+use Rattle.flu_lemmas.proofs.Searches.{eq_true}
 use Rattle.flu_lemmas.proofs.Tests.{false_if_not, true_eq}
 use Rattle.flu_lemmas.proofs.Totals.{total-append}
 use Rattle.flu_lemmas.proofs.Bytes.{bytes_itself, bytes_is}
@@ -27,14 +28,16 @@ use Rattle.flu_parse.specs.declared.faults.JobFault.TheVariants as f
 use Rattle.flu_parse.specs.Faults.{◌>>=◌, ◌>>◌, unless, each}
 use Rattle.flu_parse.specs.Naming.{Naming, kind_of}
 use Rattle.flu_parse.specs.Actions.{resolved_actions}
-use Rattle.flu_parse.specs.Resolving.{Drafted, with_depend, with_actions, with_on, with_source, with_declaration, first_draft, draft_of}
+use Rattle.flu_parse.specs.Resolving.{Drafted, with_depend, with_actions, with_on, with_source, cell_name_fits, item_word_fits, with_declaration}
+use Rattle.flu_parse.specs.Resolving.{first_draft, draft_of}
 use Rattle.flu_grammar.specs.Means.{AllDiffer, IsNamed}
 use Rattle.flu_grammar.specs.Actions.{MeansAction}
-use Rattle.flu_grammar.specs.Declared.{DeclaredKind, WrittenDepend, WrittenSource, depends_in, ons_in, actions_in, sources_in}
+use Rattle.flu_grammar.specs.Declared.{DeclaredKind, under_kind, IsDeclaredIn, WrittenDepend, WrittenSource, depends_in, ons_in, actions_in, sources_in}
 use Rattle.flu_grammar.specs.Sources.{MeansKind, MeansDepend, MeansTag, MeansNumber, MeansSource}
 use Rattle.flu_grammar.specs.Jobs.{MeansDeclaredKind}
 use Rattle.flu_grammar.proofs.Lists.{some_same, get_behind, get_front, get_below, get_map, any_none, pairs_left, pairs_right, pairs_split, pairs_same}
-use Rattle.flu_grammar.proofs.Looks.{ok_same, passes, binds}
+use Rattle.flu_grammar.proofs.Looks.{ok_same, passes, binds, thens}
+use Rattle.flu_grammar.proofs.Items.{not_item}
 use Rattle.flu_grammar.proofs.JobCells.{KnowFamilies}
 use Rattle.flu_grammar.proofs.JobActions.{actions_found}
 use Rattle.flu_grammar.proofs.JobNames.{kind_name, kind_head, split_more}
@@ -44,7 +47,8 @@ use Rattle.flu_grammar.proofs.JobDrafts.{itag_count, no_actions, chosen, Drafts,
 module _ (text : List ℕ) (n : Naming) (families : List Family) (kinds : List DeclaredKind) (know : KnowFamilies n families) (knows : KnowKinds n kinds) where
   -- the parts of a job that declarations mean
   pub record Aim (all : Declarations) (job_kinds : List PlainKind) (depends : List Depend) (sources : List Source) : Type 0 where
-    pub kinds_are : Pairs (MeansDeclaredKind text families all) kinds job_kinds
+    pub allowed : (i : ℕ) (y : Declaration) → slice_get all i ≡ Some y → IsDeclaredIn text n.version y
+    pub kinds_are : Pairs (MeansDeclaredKind text n.version families all) kinds job_kinds
     pub known_ons : (i : ℕ) (name : List ℕ) → slice_get (flat_map (ons_in text) all) i ≡ Some name → (number : ℕ) × IsNamed kind_name kinds name number
     pub own_ons : AllDiffer (flat_map (ons_in text) all)
     pub depends_are : Pairs (MeansDepend text kinds) (flat_map depends_in all) depends
@@ -92,8 +96,8 @@ module _ (text : List ℕ) (n : Naming) (families : List Family) (kinds : List D
       let lists : a ∷ [] ≡ b ∷ [] = ap (λ (z : Drafted). z.depends) same in
       (cc)
 
-  kind_is_same : (all : Declarations) (k : DeclaredKind) (p q : PlainKind) → MeansDeclaredKind text families all k p
-      → MeansDeclaredKind text families all k q → p ≡ q
+  kind_is_same : (all : Declarations) (k : DeclaredKind) (p q : PlainKind) → MeansDeclaredKind text n.version families all k p
+      → MeansDeclaredKind text n.version families all k q → p ≡ q
   kind_is_same all k p q x y =
       let ws = flat_map (actions_in text k.name) all in
       let one = actions_found text n families know (kind_head 0 k) ws p.actions x.actions x.few_actions in
@@ -101,10 +105,18 @@ module _ (text : List ℕ) (n : Naming) (families : List Family) (kinds : List D
       let acts : p.actions ≡ q.actions = ok_same p.actions q.actions (sym one ∙ two) in
       let name : p.name ≡ q.name = x.name ∙ sym y.name in
       let keyed : p.keyed ≡ q.keyed = x.keyed ∙ sym y.keyed in
+      let has_item : p.has_item ≡ q.has_item = x.has_item ∙ sym y.has_item in
       let has_value : p.has_value ≡ q.has_value = x.has_value ∙ sym y.has_value in
-      λ i. record { name = name i; keyed = keyed i; has_value = has_value i; actions = acts i }
+      λ i. record { name = name i; keyed = keyed i; has_item = has_item i; has_value = has_value i; actions = acts i }
 
   -- ---- each declaration passes
+
+  cell_passes : (s : WrittenSpan) → (n.version ≡ 3 → name_of text s ≢ codes "item") → cell_name_fits text n s ≡ true
+  cell_passes s other = ap not (not_item n.version (name_of text s) (λ is. other is.0 is.1))
+
+  item_passes : (item : Option ℕ) → (is_some item ≡ true → n.version ≡ 3) → item_word_fits n item ≡ Ok tt
+  item_passes None fits = refl
+  item_passes (Some at) fits = ap (λ b. unless b (f.WrongShape at)) (eq_true n.version 3 (fits refl))
 
   module _ (done rest : Declarations) (x : Drafted) (drafts : Drafts text n families kinds know knows done x) where
     depend_passes : (a b : WrittenSpan) (relation : _) (job_kinds : List PlainKind) (depends : List Depend) (sources : List Source)
@@ -175,7 +187,7 @@ module _ (text : List ℕ) (n : Naming) (families : List Family) (kinds : List D
         let kind_at : got.2.0 ≡ k = some_same got.2.0 k (sym got.2.1 ∙ ap (slice_get kinds) is ∙ known.1.1) in
         let named : got.0 ≡ name = sym got.2.2 ∙ ap (λ (z : DeclaredKind). z.name) kind_at ∙ known.1.2 in
         before i (got.1 ∙ ap (λ (z : List ℕ). Some z) named)))) in
-        let job_kind = pairs_left (MeansDeclaredKind text families all) kinds job_kinds aim.kinds_are number k known.1.1 in
+        let job_kind = pairs_left (MeansDeclaredKind text n.version families all) kinds job_kinds aim.kinds_are number k known.1.1 in
         let is = job_kind.2 in
         let named : name ≡ k.name = sym known.1.2 in
         let only : flat_map (actions_in text k.name) all ≡ actions =
@@ -187,7 +199,7 @@ module _ (text : List ℕ) (n : Naming) (families : List Family) (kinds : List D
         ∙ ap (λ (l : List Action). actions ++ l) (no_actions text k.name rest (λ i at. behind i (at ∙ ap (λ (z : List ℕ). Some z) (sym named))))
         ∙ append-nil actions in
         let found : resolved_actions text n h actions ≡ Ok (job_kind.0).actions = actions_found text n families know h actions (job_kind.0).actions
-        (subst (λ (l : List Action). Pairs (MeansAction text families k.keyed k.has_value) l (job_kind.0).actions) only is.actions) is.few_actions in
+        (subst (λ (l : List Action). Pairs (MeansAction text families (under_kind n.version k)) l (job_kind.0).actions) only is.actions) is.few_actions in
         let more : Drafted = record x { kinds = with_actions x.kinds number (job_kind.0).actions; given = x.given ++ number ∷ [] } in (
           more,
           binds (kind_of text n kind) (λ h. unless (not (list_any (λ g. g == h.number) x.given)) (f.TwiceNamed kind.from)
@@ -204,8 +216,16 @@ module _ (text : List ℕ) (n : Naming) (families : List Family) (kinds : List D
         (done ++ y ∷ rest) job_kinds depends sources
         → (more : Drafted) × (with_declaration text n x y ≡ Ok more)
     unfolding with_declaration
-    declaration_passes (d.Cell s keyed sort) job_kinds depends sources aim = (x, refl)
-    declaration_passes (d.Tag s keyed has_value) job_kinds depends sources aim = (x, refl)
+    declaration_passes (d.Cell s keyed sort) job_kinds depends sources aim = (
+      x,
+      passes (cell_name_fits text n s) (f.WrongShape s.from) (Ok x) x (cell_passes s (aim.allowed (length done) (d.Cell s keyed sort)
+          (slice_get-behind done (d.Cell s keyed sort) rest))) refl,
+    )
+    declaration_passes (d.Tag s keyed item has_value) job_kinds depends sources aim = (
+      x,
+      thens (item_word_fits n item) (Ok x) tt x (item_passes item (aim.allowed (length done) (d.Tag s keyed item has_value)
+          (slice_get-behind done (d.Tag s keyed item has_value) rest))) refl,
+    )
     declaration_passes (d.Depends a b relation) job_kinds depends sources aim = depend_passes a b relation job_kinds depends sources aim
     declaration_passes (d.On kind actions) job_kinds depends sources aim = on_passes kind actions job_kinds depends sources aim
     declaration_passes (d.Source name file rate slack tags) job_kinds depends sources aim =
@@ -238,7 +258,7 @@ module _ (text : List ℕ) (n : Naming) (families : List Family) (kinds : List D
       let is = drafts_all text n families kinds know knows [] ds (first_draft n) got.0 (first_drafts text n families kinds know knows) got.1 in record {
         draft = got.0;
         found = got.1;
-        kinds_are = pairs_same (MeansDeclaredKind text families ds) (kind_is_same ds) kinds got.0.kinds job_kinds is.kinds_are aim.kinds_are;
+        kinds_are = pairs_same (MeansDeclaredKind text n.version families ds) (kind_is_same ds) kinds got.0.kinds job_kinds is.kinds_are aim.kinds_are;
         depends_are = pairs_same (MeansDepend text kinds) depend_same (flat_map depends_in ds) got.0.depends depends is.depends aim.depends_are;
         sources_are = pairs_same (MeansSource text kinds) source_same (flat_map sources_in ds) got.0.sources sources is.sources aim.sources_are;
       }

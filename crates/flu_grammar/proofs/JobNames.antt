@@ -23,17 +23,18 @@ use Rattle.flu_parse.specs.declared.names.KindHead.{KindHead}
 use Rattle.flu_parse.specs.Faults.{◌>>◌, room, each}
 use Rattle.flu_parse.specs.Naming.{Naming, look_up, is_declared, fresh_name, with_family, with_kind, with_source, declare, no_names, naming_of}
 use Rattle.flu_grammar.specs.Means.{AllDiffer}
+use Rattle.flu_grammar.specs.Cells.{family_name}
 use Rattle.flu_grammar.specs.Declared.{DeclaredKind, WrittenDepend, WrittenSource, names_in, families_in, kinds_in, depends_in, sources_in}
 use Rattle.flu_grammar.proofs.Lists.{get_front, get_below, differ_none, differ_push, any_none}
 use Rattle.flu_grammar.proofs.Looks.{ok_same, passed, passes, binds}
 use Rattle.flu_grammar.proofs.Heads.{heads, heads_more}
-use Rattle.flu_grammar.proofs.JobCells.{family_name, family_head}
+use Rattle.flu_grammar.proofs.JobCells.{family_head}
 
 abbrev pub kind_name : DeclaredKind → List ℕ
 kind_name k = k.name
 
 abbrev pub kind_head : ℕ → DeclaredKind → KindHead
-kind_head i k = record { number = i; keyed = k.keyed; has_value = k.has_value }
+kind_head i k = record { number = i; keyed = k.keyed; has_item = k.has_item; has_value = k.has_value }
 
 -- ---- one declaration more
 
@@ -43,9 +44,9 @@ next text n (d.Cell s keyed sort) = record n {
   families = n.families ++
       (name_of text s, record { number = length n.families; keyed = keyed; sort = sort }) ∷ [];
 }
-next text n (d.Tag s keyed has_value) = record n {
+next text n (d.Tag s keyed item has_value) = record n {
   kinds = n.kinds ++
-      (name_of text s, record { number = length n.kinds; keyed = keyed; has_value = has_value }) ∷ [];
+      (name_of text s, record { number = length n.kinds; keyed = keyed; has_item = is_some item; has_value = has_value }) ∷ [];
 }
 next text n (d.Depends a b relation) = record n { depends = n.depends + 1 }
 next text n (d.On kind actions) = n
@@ -54,7 +55,7 @@ next text n (d.Source s file rate slack tags) = record n { sources = n.sources +
 -- what is looked at before
 abbrev pub Checks : List ℕ → Naming → Declaration → Type 0
 Checks text n (d.Cell s keyed sort) = (is_declared n (name_of text s) ≡ false) × (length n.families < 64)
-Checks text n (d.Tag s keyed has_value) = (is_declared n (name_of text s) ≡ false) × (length n.kinds < 64)
+Checks text n (d.Tag s keyed item has_value) = (is_declared n (name_of text s) ≡ false) × (length n.kinds < 64)
 Checks text n (d.Depends a b relation) = n.depends < 4096
 Checks text n (d.On kind actions) = Unit {0}
 Checks text n (d.Source s file rate slack tags) = (is_declared n (name_of text s) ≡ false) × (length n.sources < 64)
@@ -79,10 +80,13 @@ declare_is text n (d.Cell s keyed sort) m e =
     let free = fresh_is text n s one.0 one.1 in
     let two = passed (nat_lt (length n.families) 64) (f.OverLimit Families 65) (Ok (grown one.0)) m one.2 in
     ((free.0, true_lt (length n.families) 64 two.0), ap grown free.1 ∙ ok_same (grown one.0) m two.1)
-declare_is text n (d.Tag s keyed has_value) m e =
-    let grown = λ (name : List ℕ). record n { kinds = n.kinds ++ (name, record { number = length n.kinds; keyed = keyed; has_value = has_value }) ∷ [] } in
+declare_is text n (d.Tag s keyed item has_value) m e =
+    let grown = λ (name : List ℕ). record n {
+      kinds = n.kinds ++
+          (name, record { number = length n.kinds; keyed = keyed; has_item = is_some item; has_value = has_value }) ∷ [];
+    } in
     let one = bind_ok (fresh_name text n s) (λ name. room Kinds 64 (length n.kinds) >> Ok (record n {
-      kinds = n.kinds ++ (name, record { number = length n.kinds; keyed = keyed; has_value = has_value }) ∷ [];
+      kinds = n.kinds ++ (name, record { number = length n.kinds; keyed = keyed; has_item = is_some item; has_value = has_value }) ∷ [];
     })) m e in
     let free = fresh_is text n s one.0 one.1 in
     let two = passed (nat_lt (length n.kinds) 64) (f.OverLimit Kinds 65) (Ok (grown one.0)) m one.2 in
@@ -106,11 +110,11 @@ declare_passes text n (d.Cell s keyed sort) h =
     })) (name_of text s) (next text n (d.Cell s keyed sort)) (fresh_passes text n s h.0)
     (passes (nat_lt (length n.families) 64) (f.OverLimit Families 65) (Ok (next text n (d.Cell s keyed sort))) (next text n (d.Cell s keyed sort))
     (lt_true (length n.families) 64 h.1) refl)
-declare_passes text n (d.Tag s keyed has_value) h =
+declare_passes text n (d.Tag s keyed item has_value) h =
     binds (fresh_name text n s) (λ name. room Kinds 64 (length n.kinds) >> Ok (record n {
-      kinds = n.kinds ++ (name, record { number = length n.kinds; keyed = keyed; has_value = has_value }) ∷ [];
-    })) (name_of text s) (next text n (d.Tag s keyed has_value)) (fresh_passes text n s h.0)
-    (passes (nat_lt (length n.kinds) 64) (f.OverLimit Kinds 65) (Ok (next text n (d.Tag s keyed has_value))) (next text n (d.Tag s keyed has_value))
+      kinds = n.kinds ++ (name, record { number = length n.kinds; keyed = keyed; has_item = is_some item; has_value = has_value }) ∷ [];
+    })) (name_of text s) (next text n (d.Tag s keyed item has_value)) (fresh_passes text n s h.0)
+    (passes (nat_lt (length n.kinds) 64) (f.OverLimit Kinds 65) (Ok (next text n (d.Tag s keyed item has_value))) (next text n (d.Tag s keyed item has_value))
     (lt_true (length n.kinds) 64 h.1) refl)
 declare_passes text n (d.Depends a b relation) h =
     passes (nat_lt n.depends 4096) (f.OverLimit Depends 4097) (Ok (next text n (d.Depends a b relation))) (next text n (d.Depends a b relation))
@@ -227,10 +231,10 @@ module _ (text : List ℕ) where
             ∙ first_grown (is_some (look_up t n.families)) (is_some (look_up t n.kinds)) (list_any (bytes_eq t) n.sources) (bytes_eq t name)
             ∙ ap (λ b. b || (bytes_eq t name || false)) (named.declared t) ∙ any_grown t name done x refl;
       }
-  named_next done n (d.Tag s keyed has_value) named =
-      let x = d.Tag s keyed has_value in
+  named_next done n (d.Tag s keyed item has_value) named =
+      let x = d.Tag s keyed item has_value in
       let name = name_of text s in
-      let kind : DeclaredKind = record { name = name; keyed = keyed; has_value = has_value } in
+      let kind : DeclaredKind = record { name = name; keyed = keyed; has_item = is_some item; has_value = has_value } in
       let many : length n.kinds ≡ 0 + length (all_kinds done) =
       (let one = ap length named.kinds in let two = heads_length kind_name kind_head 0 (all_kinds done) in omega (arith, one, two)) in record {
         families = named.families ∙ ap (heads family_name family_head 0) (unchanged (families_in text) done x refl);
@@ -241,7 +245,7 @@ module _ (text : List ℕ) where
         depends = named.depends ∙ ap length (unchanged depends_in done x refl);
         declared = λ t.
             ap (λ b. is_some (look_up t n.families) || b || list_any (bytes_eq t) n.sources)
-            (headed_more t name (record { number = length n.kinds; keyed = keyed; has_value = has_value }) n.kinds)
+            (headed_more t name (record { number = length n.kinds; keyed = keyed; has_item = is_some item; has_value = has_value }) n.kinds)
             ∙ second_grown (is_some (look_up t n.families)) (is_some (look_up t n.kinds)) (list_any (bytes_eq t) n.sources) (bytes_eq t name)
             ∙ ap (λ b. b || (bytes_eq t name || false)) (named.declared t) ∙ any_grown t name done x refl;
       }
@@ -301,8 +305,8 @@ module _ (text : List ℕ) where
         few_sources = subst (λ (l : List (List ℕ)). length l ≤ 64) (unchanged source_names_in done x refl) own.few_sources;
         few_depends = subst (λ (l : List WrittenDepend). length l ≤ 4096) (unchanged depends_in done x refl) own.few_depends;
       }
-  own_next done n (d.Tag s keyed has_value) named h own =
-      let x = d.Tag s keyed has_value in
+  own_next done n (d.Tag s keyed item has_value) named h own =
+      let x = d.Tag s keyed item has_value in
       let many = ap length named.kinds in
       let heads_many = heads_length kind_name kind_head 0 (all_kinds done) in
       let more = ap length (grown (kinds_in text) done x) in
@@ -384,8 +388,8 @@ module _ (text : List ℕ) where
       let more = longer (families_in text) done rest x in
       let few = own.few_families in
       (name_free done rest n x (name_of text s) refl named own.own, omega (arith, many, heads_many, more, few))
-  checks_pass done rest n (d.Tag s keyed has_value) named own =
-      let x = d.Tag s keyed has_value in
+  checks_pass done rest n (d.Tag s keyed item has_value) named own =
+      let x = d.Tag s keyed item has_value in
       let many = ap length named.kinds in
       let heads_many = heads_length kind_name kind_head 0 (all_kinds done) in
       let more = longer (kinds_in text) done rest x in

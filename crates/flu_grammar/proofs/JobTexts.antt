@@ -1,7 +1,7 @@
 -- The job of a text is read exactly where the text is that job's.
 use Rattle.std.proofs.Common.{◌≡◌, ◌⊎◌, inl, inr, ℕ, zero, suc, ◌+◌, ◌≤◌, List, [], ◌∷◌, ◌++◌, map, length}
 use Rattle.std.proofs.Common.{Option, Some, None, Ok, Err, refl, sym, ap, subst, ◌∙◌, length-append, arith}
-use Rattle.std.specs.Prelude.{nat_le, slice_get}
+use Rattle.std.specs.Prelude.{nat_le, slice_get, is_some}
 use Rattle.std.specs.List.{flat_map}
 use Rattle.std.specs.Str.{is_utf8}
 use Rattle.std.specs.Str.Lossy.{utf8_valid_len}
@@ -29,19 +29,19 @@ use Rattle.flu_syntax.specs.Laws.{FoundIsJob}
 use Rattle.flu_syntax.specs.Machine.{Verdict, verdict, Found as IsVerdict, Unexpected, TooDeep}
 use Rattle.flu_layout.specs.Spelling.{name_of, written_value}
 use Rattle.flu_parse.specs.declared.faults.JobFault.TheVariants as f
-use Rattle.flu_parse.specs.Faults.{◌>>=◌}
-use Rattle.flu_parse.specs.Naming.{Naming, naming_of}
-use Rattle.flu_parse.specs.Resolving.{family, draft_of, version_of, job_with, resolved}
+use Rattle.flu_parse.specs.Faults.{Found, ◌>>=◌}
+use Rattle.flu_parse.specs.Naming.{Naming, in_version, family, naming_of}
+use Rattle.flu_parse.specs.Resolving.{draft_of, version_of, job_with, resolved}
 use Rattle.flu_parse.specs.Reading.{text_in, found_tokens, tokens_in, found_job, written_in, job_in}
 use Rattle.flu_grammar.specs.Means.{AllDiffer}
-use Rattle.flu_grammar.specs.Declared.{names_in, families_in, kinds_in, depends_in, ons_in, sources_in}
+use Rattle.flu_grammar.specs.Cells.{family_name}
+use Rattle.flu_grammar.specs.Declared.{DeclaredKind, names_in, families_in, kinds_in, depends_in, ons_in, sources_in}
 use Rattle.flu_grammar.specs.Sources.{MeansDepend, MeansSource}
 use Rattle.flu_grammar.specs.Jobs.{MeansVersion, MeansDeclaredKind, MeansJob, IsJobText}
 use Rattle.flu_grammar.specs.Laws.{JobsAreGrammar, TextsHaveOneJob}
 use Rattle.flu_grammar.proofs.Lists.{differ_none, differ_cons, differ_tail, differ_head, get_behind, pairs_left, pairs_length}
 use Rattle.flu_grammar.proofs.Looks.{ok_same, ok_ok, passed, passes, binds}
-use Rattle.flu_grammar.proofs.Heads.{heads}
-use Rattle.flu_grammar.proofs.JobCells.{family_name, family_head, KnowFamilies}
+use Rattle.flu_grammar.proofs.JobCells.{families_back, KnowFamilies}
 use Rattle.flu_grammar.proofs.JobNames.{kind_name, all_names, all_families, all_kinds, source_names_in, Named, OwnNames, naming_is, naming_found}
 use Rattle.flu_grammar.proofs.JobSources.{KnowKinds, part_count}
 use Rattle.flu_grammar.proofs.JobDrafts.{itag_count, drafts_are}
@@ -98,14 +98,15 @@ module _ (text : List ℕ) {X : Type 0} (name : X → List ℕ) (g : Declaration
 
 families_one : (text : List ℕ) (y : Declaration) → GivesOne text family_name (families_in text) y
 families_one text (d.Cell s keyed sort) = inr (record { name = name_of text s; keyed = keyed; sort = sort }, refl, refl)
-families_one text (d.Tag s keyed has_value) = inl refl
+families_one text (d.Tag s keyed item has_value) = inl refl
 families_one text (d.Depends a b relation) = inl refl
 families_one text (d.On kind actions) = inl refl
 families_one text (d.Source s file rate slack tags) = inl refl
 
 kinds_one : (text : List ℕ) (y : Declaration) → GivesOne text kind_name (kinds_in text) y
 kinds_one text (d.Cell s keyed sort) = inl refl
-kinds_one text (d.Tag s keyed has_value) = inr (record { name = name_of text s; keyed = keyed; has_value = has_value }, refl, refl)
+kinds_one text (d.Tag s keyed item has_value) =
+    inr (record { name = name_of text s; keyed = keyed; has_item = is_some item; has_value = has_value }, refl, refl)
 kinds_one text (d.Depends a b relation) = inl refl
 kinds_one text (d.On kind actions) = inl refl
 kinds_one text (d.Source s file rate slack tags) = inl refl
@@ -119,19 +120,22 @@ know_families text ds n named own = record {
 pub kinds_differ : (text : List ℕ) (ds : Declarations) → AllDiffer (all_names text ds) → AllDiffer (map kind_name (all_kinds text ds))
 kinds_differ text ds own = among_differ text kind_name (kinds_in text) (kinds_one text) ds own
 
+-- the same names with a version
+pub families_in_version : (n : Naming) (version : ℕ) (families : List Family) → KnowFamilies n families → KnowFamilies (in_version n version) families
+families_in_version n version families know = record { heads_are = know.heads_are; differ = know.differ }
+
+pub kinds_in_version : (n : Naming) (version : ℕ) (kinds : List DeclaredKind) → KnowKinds n kinds → KnowKinds (in_version n version) kinds
+kinds_in_version n version kinds know = record { heads_are = know.heads_are; differ = know.differ }
+
 pub know_kinds : (text : List ℕ) (ds : Declarations) (n : Naming) → Named text ds n → AllDiffer (all_names text ds) → KnowKinds n (all_kinds text ds)
 know_kinds text ds n named own = record { heads_are = named.kinds; differ = kinds_differ text ds own }
 
 -- ---- parts of a job
 
-families_back : (i : ℕ) (fs : List Family) → map family (heads family_name family_head i fs) ≡ fs
-families_back i [] = refl
-families_back i (x ∷ fs) = ap (λ l. x ∷ l) (families_back (i + 1) fs)
-
 pub as_many_sources : (text : List ℕ) (ds : Declarations) → length (flat_map (source_names_in text) ds) ≡ length (flat_map sources_in ds)
 as_many_sources text [] = refl
 as_many_sources text (d.Cell s keyed sort ∷ ds) = as_many_sources text ds
-as_many_sources text (d.Tag s keyed has_value ∷ ds) = as_many_sources text ds
+as_many_sources text (d.Tag s keyed item has_value ∷ ds) = as_many_sources text ds
 as_many_sources text (d.Depends a b relation ∷ ds) = as_many_sources text ds
 as_many_sources text (d.On kind actions ∷ ds) = as_many_sources text ds
 as_many_sources text (d.Source s file rate slack tags ∷ ds) = ap (λ (m : ℕ). suc m) (as_many_sources text ds)
@@ -154,7 +158,7 @@ itags_counted i (s ∷ ss) =
     let more = itags_counted (i + 1) ss in
     omega (arith, one, two, tags, more)
 
-version_is : (o : Option WrittenNumber) (v : ℕ) → version_of o ≡ Ok v → MeansVersion o v
+pub version_is : (o : Option WrittenNumber) (v : ℕ) → version_of o ≡ Ok v → MeansVersion o v
 version_is None v e = sym (ok_same 1 v e)
 version_is (Some w) v e =
     let one = passed (is_version (written_value w.value)) (f.WrongShape w.at) (Ok (written_value w.value)) v e in
@@ -173,21 +177,24 @@ job_means : (text : List ℕ) (written : WrittenJob) (job : Job) → resolved te
 unfolding resolved
 job_means text written job e =
     let ds = written.declarations in
-    let one = bind_ok (naming_of text ds) (λ n. version_of written.version >>= λ version. draft_of text n ds >>= λ x. Ok (job_with version n x)) job e in
+    let drafted_in = λ (n : Naming) (version : ℕ). draft_of text (in_version n version) ds >>= λ x. let r : Found Job = Ok
+    (job_with (in_version n version) x) in r in
+    let one = bind_ok (naming_of text ds) (λ n. version_of written.version >>= λ version. drafted_in n version) job e in
     let n = one.0 in
-    let two = bind_ok (version_of written.version) (λ version. draft_of text n ds >>= λ x. Ok (job_with version n x)) job one.2 in
-    let three = bind_ok (draft_of text n ds) (λ x. Ok (job_with two.0 n x)) job two.2 in
+    let two = bind_ok (version_of written.version) (λ version. drafted_in n version) job one.2 in
+    let m = in_version n two.0 in
+    let three = bind_ok (draft_of text m ds) (λ x. Ok (job_with m x)) job two.2 in
     let x = three.0 in
     let names = naming_is text ds n one.1 in
     let named = names.0 in
     let own = names.1 in
     let families = all_families text ds in
     let kinds = all_kinds text ds in
-    let know = know_families text ds n named own.own in
-    let knows = know_kinds text ds n named own.own in
-    let is = drafts_are text n families kinds know knows ds x three.1 in
+    let know = families_in_version n two.0 families (know_families text ds n named own.own) in
+    let knows = kinds_in_version n two.0 kinds (know_kinds text ds n named own.own) in
+    let is = drafts_are text m families kinds know knows ds x three.1 in
     let the_families : map family n.families ≡ families = ap (map family) named.families ∙ families_back 0 families in
-    let kinds_many = pairs_length (MeansDeclaredKind text families ds) kinds x.kinds is.kinds_are in
+    let kinds_many = pairs_length (MeansDeclaredKind text two.0 families ds) kinds x.kinds is.kinds_are in
     let depends_many = pairs_length (MeansDepend text kinds) (flat_map depends_in ds) x.depends is.depends in
     let sources_many = pairs_length (MeansSource text kinds) (flat_map sources_in ds) x.sources is.sources in
     let named_many = as_many_sources text ds in
@@ -197,11 +204,12 @@ job_means text written job e =
     let few_kinds = own.few_kinds in
     let few_depends = own.few_depends in
     let few_sources = own.few_sources in
-    let means : MeansJob text written (job_with two.0 n x) = record {
+    let means : MeansJob text written (job_with m x) = record {
       version = version_is written.version two.0 two.1;
+      allowed = is.allowed;
       own_names = own.own;
       families = the_families;
-      kinds = subst (λ (l : List Family). Pairs (MeansDeclaredKind text l ds) kinds x.kinds) (sym the_families) is.kinds_are;
+      kinds = subst (λ (l : List Family). Pairs (MeansDeclaredKind text two.0 l ds) kinds x.kinds) (sym the_families) is.kinds_are;
       known_ons = λ i name at. (let got = pairs_left _ (flat_map (ons_in text) ds) x.given is.given i name at in (got.0, got.2));
       own_ons = is.own_ons;
       depends = is.depends;
@@ -213,7 +221,7 @@ job_means text written job e =
       few_sources = omega (arith, sources_many, named_many, few_sources);
       few_itags = omega (arith, itags, drafted_itags, few_itags);
     } in
-    subst (λ (j : Job). MeansJob text written j) (ok_same (job_with two.0 n x) job three.2) means
+    subst (λ (j : Job). MeansJob text written j) (ok_same (job_with m x) job three.2) means
 
 job_found : (text : List ℕ) (written : WrittenJob) (job : Job) → MeansJob text written job → resolved text written ≡ Ok job
 unfolding resolved
@@ -221,7 +229,7 @@ job_found text written job is =
     let ds = written.declarations in
     let families = all_families text ds in
     let kinds = all_kinds text ds in
-    let kinds_many = pairs_length (MeansDeclaredKind text job.families ds) kinds job.kinds is.kinds in
+    let kinds_many = pairs_length (MeansDeclaredKind text job.version job.families ds) kinds job.kinds is.kinds in
     let depends_many = pairs_length (MeansDepend text kinds) (flat_map depends_in ds) job.depends is.depends in
     let sources_many = pairs_length (MeansSource text kinds) (flat_map sources_in ds) job.sources is.sources in
     let named_many = as_many_sources text ds in
@@ -239,10 +247,12 @@ job_found text written job is =
     } in
     let names = naming_found text ds own in
     let n = names.0 in
-    let know = know_families text ds n names.2 own.own in
-    let knows = know_kinds text ds n names.2 own.own in
-    let aim : Aim text n families kinds know knows ds job.kinds job.depends job.sources = record {
-      kinds_are = subst (λ (l : List Family). Pairs (MeansDeclaredKind text l ds) kinds job.kinds) is.families is.kinds;
+    let m = in_version n job.version in
+    let know = families_in_version n job.version families (know_families text ds n names.2 own.own) in
+    let knows = kinds_in_version n job.version kinds (know_kinds text ds n names.2 own.own) in
+    let aim : Aim text m families kinds know knows ds job.kinds job.depends job.sources = record {
+      allowed = is.allowed;
+      kinds_are = subst (λ (l : List Family). Pairs (MeansDeclaredKind text job.version l ds) kinds job.kinds) is.families is.kinds;
       known_ons = is.known_ons;
       own_ons = is.own_ons;
       depends_are = is.depends;
@@ -250,19 +260,20 @@ job_found text written job is =
       own_files = is.own_files;
       few_itags = omega (arith, itags, few_itags);
     } in
-    let draft = drafted text n families kinds know knows ds job.kinds job.depends job.sources aim in
+    let draft = drafted text m families kinds know knows ds job.kinds job.depends job.sources aim in
     let the_families : map family n.families ≡ job.families = ap (map family) names.2.families ∙ families_back 0 families ∙ sym is.families in
-    let same : job_with job.version n draft.draft ≡ job = λ i. record {
+    let same : job_with m draft.draft ≡ job = λ i. record {
       version = job.version;
       families = the_families i;
       kinds = draft.kinds_are i;
       depends = draft.depends_are i;
       sources = draft.sources_are i;
     } in
-    binds (naming_of text ds) (λ n. version_of written.version >>= λ version. draft_of text n ds >>= λ x. Ok (job_with version n x)) n job names.1
-    (binds (version_of written.version) (λ version. draft_of text n ds >>= λ x. Ok (job_with version n x)) job.version job
-    (version_found written.version job.version is.version)
-    (binds (draft_of text n ds) (λ x. Ok (job_with job.version n x)) draft.draft job draft.found (ok_ok (job_with job.version n draft.draft) job same)))
+    let drafted_in = λ (n : Naming) (version : ℕ). draft_of text (in_version n version) ds >>= λ x. let r : Found Job = Ok
+    (job_with (in_version n version) x) in r in
+    binds (naming_of text ds) (λ n. version_of written.version >>= λ version. drafted_in n version) n job names.1
+    (binds (version_of written.version) (λ version. drafted_in n version) job.version job (version_found written.version job.version is.version)
+    (binds (draft_of text m ds) (λ x. Ok (job_with m x)) draft.draft job draft.found (ok_ok (job_with m draft.draft) job same)))
 
 -- ---- the whole
 

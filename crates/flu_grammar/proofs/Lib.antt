@@ -9,6 +9,7 @@ pub mod PlanWalks
 pub mod PlanWritten
 pub mod PlanTexts
 pub mod Heads
+pub mod Items
 pub mod JobCells
 pub mod Cuts
 pub mod Fields

@@ -13,6 +13,9 @@ module _ {X : Type 0} where
   pub some_same : (x y : X) → Some x ≡ Some y → x ≡ y
   some_same x y e = cc
 
+  pub no_some : (x : X) → None ≡ Some x → ⊥
+  no_some x e = cc
+
   pub get_front : (xs ys : List X) (i : ℕ) (x : X) → slice_get xs i ≡ Some x → slice_get (xs ++ ys) i ≡ Some x
   get_front [] ys i x e = cc
   get_front (z ∷ xs) ys zero x e = e

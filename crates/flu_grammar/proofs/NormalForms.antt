@@ -24,9 +24,9 @@ use Rattle.flu_model.specs.declared.jobs.At.TheVariants as at
 use Rattle.flu_model.specs.declared.jobs.CellRef.{CellRef}
 use Rattle.flu_model.specs.declared.jobs.Depend.{Depend}
 use Rattle.flu_model.specs.declared.jobs.Expr.{Expr}
-use Rattle.flu_model.specs.declared.jobs.Expr.TheVariants.{Lit, Value, Key, Time, Read, Has, Neg', Not', Two'}
+use Rattle.flu_model.specs.declared.jobs.Expr.TheVariants.{Lit, Value, Key, Item, Time, Read, Has, Neg', Not', Two'}
 use Rattle.flu_model.specs.declared.jobs.Act.{Act}
-use Rattle.flu_model.specs.declared.jobs.Act.TheVariants.{Add, Raise, Set, Clear, Emit, Flush}
+use Rattle.flu_model.specs.declared.jobs.Act.TheVariants.{Add, Raise, Set, Clear, ClearFamily, Emit, Flush}
 use Rattle.flu_model.specs.declared.jobs.Action.{Action as JobAction}
 use Rattle.flu_model.specs.declared.jobs.Family.{Family}
 use Rattle.flu_model.specs.declared.jobs.Keys.{Keys}
@@ -40,8 +40,9 @@ use Rattle.flu_model.specs.declared.jobs.Sort.TheVariants as sort
 use Rattle.flu_model.specs.declared.jobs.Source.{Source}
 use Rattle.flu_model.specs.declared.jobs.TagRef.{TagRef}
 use Rattle.flu_model.specs.Contents.{key_count}
-use Rattle.flu_model.specs.Erasure.{Term, Literal, EventValue, EventKey, EventTime, CellRead, CellHeld, Negative, Negation, Operation, term_of, PlainAct}
-use Rattle.flu_model.specs.Erasure.{Adding, Raising, Setting, Clearing, Emitting, Flushing, plain_act, PlainAction, plain_action, PlainKind, plain_kind}
+use Rattle.flu_model.specs.Erasure.{Term, Literal, EventValue, EventKey, EventItem, EventTime, CellRead, CellHeld, Negative, Negation, Operation, term_of}
+use Rattle.flu_model.specs.Erasure.{PlainAct, Adding, Raising, Setting, Clearing, ClearingFamily, Emitting, Flushing, plain_act, PlainAction, plain_action}
+use Rattle.flu_model.specs.Erasure.{PlainKind, plain_kind}
 use Rattle.flu_model.specs.Listing.{tag, listed_keys, listed_tags, tags_of_source, itags_of_sources}
 use Rattle.flu_model.specs.Rules.{family_fits, ref_fits, ref_has_sort, is_literal, expr_fits, height, is_good_expr, is_short, flush_template_fits, is_keyed}
 use Rattle.flu_model.specs.Rules.{act_fits, guard_fits, action_fits, kind_fits, keys_fit, listed_kind_fits, tag_ref_fits, is_file_text, source_fits}
@@ -52,20 +53,21 @@ use Rattle.flu_text.specs.Laws.{EachIsSpan}
 use Rattle.flu_text.specs.declared.words.Word.{Word}
 use Rattle.flu_text.specs.declared.words.Word.TheVariants as w
 use Rattle.flu_text.specs.declared.words.Mark.TheVariants as m
-use Rattle.flu_text.specs.Signs.{Sign, Any, AreSigns, separated as signs_between}
+use Rattle.flu_text.specs.Signs.{Sign, Any, At as AtSign, AreSigns, separated as signs_between}
 use Rattle.flu_syntax.specs.Tree.{Tree, Deed, Action, Declaration, Declarations}
 use Rattle.flu_syntax.specs.Tree as d
 use Rattle.flu_syntax.specs.Grammar.{op_word, cell_signs, spelled, deed_signs, guard_signs, action_signs, declaration_signs, version_signs}
 use Rattle.flu_layout.specs.Laid.{line_end, quoted}
 use Rattle.flu_layout.specs.Lists.{separated, keys_text}
 use Rattle.flu_layout.specs.Spelling.{name_of}
-use Rattle.flu_parse.specs.Printing.{op_text, term_text, act_text, guard_text, action_text, version_line, keyed_text, sort_text, cell_line, value_text}
-use Rattle.flu_parse.specs.Printing.{tag_line, kind_name, same_text, depends_line, actions_line, on_line, tag_text, slack_text, source_head, source_line}
-use Rattle.flu_grammar.specs.Means.{AllDiffer, IfWritten}
-use Rattle.flu_grammar.specs.Terms.{MeansTerm, means_number, means_value, means_key, means_time, means_read, means_held, means_inside, means_negative}
-use Rattle.flu_grammar.specs.Terms.{means_negation, means_operation, MeansExpression}
-use Rattle.flu_grammar.specs.Actions.{MeansDeed, means_add, means_raise, means_set, means_clear, means_emit, means_flush, MeansAction}
-use Rattle.flu_grammar.specs.Declared.{DeclaredKind, kinds_in, actions_in}
+use Rattle.flu_parse.specs.Printing.{op_text, term_text, act_text, guard_text, action_text, version_line, keyed_text, sort_text, cell_line, item_text}
+use Rattle.flu_parse.specs.Printing.{value_text, tag_line, kind_name, same_text, depends_line, actions_line, on_line, tag_text, slack_text, source_head}
+use Rattle.flu_parse.specs.Printing.{source_line}
+use Rattle.flu_grammar.specs.Means.{AllDiffer, IfWritten, Under}
+use Rattle.flu_grammar.specs.Terms.{MeansTerm, means_number, means_value, means_key, means_item, means_time, means_read, means_held, means_inside}
+use Rattle.flu_grammar.specs.Terms.{means_negative, means_negation, means_operation, MeansExpression}
+use Rattle.flu_grammar.specs.Actions.{MeansDeed, means_add, means_raise, means_set, means_clear, means_clear_family, means_emit, means_flush, MeansAction}
+use Rattle.flu_grammar.specs.Declared.{DeclaredKind, under_kind, kinds_in, actions_in}
 use Rattle.flu_grammar.specs.Jobs.{MeansDeclaredKind}
 use Rattle.flu_grammar.specs.Laws.{NormalFormIsShort}
 use Rattle.flu_grammar.proofs.JobTexts.{kinds_differ}
@@ -125,6 +127,7 @@ module _ (families : List Family) (named : list_all (λ (f : Family). is_name f.
   key_few None keyed key e = absurd cc
   key_few (Some f) keyed at.Alone e = omega arith
   key_few (Some f) keyed at.OwnKey e = omega arith
+  key_few (Some f) keyed at.OwnItem e = omega arith
   key_few (Some f) keyed (at.Fixed k) e =
       let small = true_lt k key_count (and_right f.keyed (nat_lt k key_count) e) in
       omega (arith, digits 5 k (omega arith) (omega (arith, small)) (omega (arith, small)), length-append (decimal k) (codes "]"))
@@ -141,6 +144,7 @@ module _ (families : List Family) (named : list_all (λ (f : Family). is_name f.
   SmallTerm (Literal n) = length (signed_decimal n) ≤ 39
   SmallTerm EventValue = ⊤
   SmallTerm EventKey = ⊤
+  SmallTerm EventItem = ⊤
   SmallTerm EventTime = ⊤
   SmallTerm (CellRead r) = length (written_cell families r) ≤ 39
   SmallTerm (CellHeld r) = length (written_cell families r) ≤ 39
@@ -156,6 +160,7 @@ module _ (families : List Family) (named : list_all (λ (f : Family). is_name f.
   small_term keyed has_value (Lit n) fits = literal_few n fits
   small_term keyed has_value Value fits = tt
   small_term keyed has_value Key fits = tt
+  small_term keyed has_value Item fits = tt
   small_term keyed has_value Time fits = tt
   small_term keyed has_value (Read r) fits = cell_few keyed r fits
   small_term keyed has_value (Has r) fits = cell_few keyed r fits
@@ -170,6 +175,8 @@ module _ (families : List Family) (named : list_all (λ (f : Family). is_name f.
   op_few op.Plus = omega arith
   op_few op.Minus = omega arith
   op_few op.Times = omega arith
+  op_few op.Divide = omega arith
+  op_few op.Remainder = omega arith
   op_few op.Less = omega arith
   op_few op.LessEq = omega arith
   op_few op.More = omega arith
@@ -179,29 +186,30 @@ module _ (families : List Family) (named : list_all (λ (f : Family). is_name f.
   op_few op.Both = omega arith
   op_few op.Either = omega arith
 
-  module _ (text : List ℕ) (keyed has_value : Bool) where
+  module _ (text : List ℕ) (under : Under) where
     -- AN EXPRESSION has few bytes for each of its tokens
-    term_few : {e : Tree} {t : Term} → MeansTerm text families keyed has_value e t → SmallTerm t → length (term_text families t) ≤ 23 * length (spelled e) + 16
+    term_few : {e : Tree} {t : Term} → MeansTerm text families under e t → SmallTerm t → length (term_text families t) ≤ 23 * length (spelled e) + 16
     term_few (means_number n) small = omega (arith, small)
     term_few (means_value at h) small = omega arith
     term_few (means_key at h) small = omega arith
+    term_few (means_item r item has) small = omega arith
     term_few (means_time at) small = omega arith
-    term_few (means_read r c means) small = omega (arith, small)
+    term_few (means_read r c other means) small = omega (arith, small)
     term_few (means_held at r c means) small = omega (arith, small)
     term_few (means_inside at e t means) small = omega (arith, term_few means small, length-append (spelled e) (Any (w.Mark m.CloseParen) ∷ []))
     term_few (means_negative at e t means) small = omega (arith, term_few means small, length-append (term_text families t) (codes ")"))
     term_few (means_negation at e t means) small = omega (arith, term_few means small, length-append (term_text families t) (codes ")"))
-    term_few (means_operation o left right a b first second) small =
+    term_few (means_operation o at left right a b fits first second) small =
         omega (
           arith,
           op_few o,
           term_few first small.0,
           term_few second small.1,
-          length-append (spelled left) (Any (op_word o) ∷ spelled right),
+          length-append (spelled left) (AtSign (op_word o) at ∷ spelled right),
           six_long (term_text families a) (codes " ") (op_text o) (codes " ") (term_text families b) (codes ")"),
         )
 
-    expression_few : (e : Tree) (t : Term) → MeansExpression text families keyed has_value e t → SmallTerm t
+    expression_few : (e : Tree) (t : Term) → MeansExpression text families under e t → SmallTerm t
         → length (term_text families t) ≤ 23 * length (spelled e) + 16
     expression_few e t is small = term_few is.means small
 
@@ -211,6 +219,7 @@ module _ (families : List Family) (named : list_all (λ (f : Family). is_name f.
     SmallAct (Raising r e) = (length (written_cell families r) ≤ 39) × SmallTerm e
     SmallAct (Setting r e) = (length (written_cell families r) ≤ 39) × SmallTerm e
     SmallAct (Clearing r) = length (written_cell families r) ≤ 39
+    SmallAct (ClearingFamily f) = ⊤
     SmallAct (Emitting ps) = length (written_template families ps) ≤ 256
     SmallAct (Flushing f ps) = length (written_template families ps) ≤ 256
 
@@ -218,30 +227,31 @@ module _ (families : List Family) (named : list_all (λ (f : Family). is_name f.
     SmallGuard None = ⊤
     SmallGuard (Some t) = SmallTerm t
 
-    good_term : (e : Expr) → is_good_expr families keyed has_value e ≡ true → SmallTerm (term_of e)
-    good_term e good = small_term keyed has_value e (and_left (expr_fits families keyed has_value e) (nat_le (height e) 32) good)
+    good_term : (e : Expr) → is_good_expr families under.keyed under.has_value e ≡ true → SmallTerm (term_of e)
+    good_term e good = small_term under.keyed under.has_value e (and_left (expr_fits families under.keyed under.has_value e) (nat_le (height e) 32) good)
 
     -- an action of a cell and an expression
-    cell_fits : (r : CellRef) (sort : Sort) (e : Expr) → ref_fits families keyed r && ref_has_sort families sort r
-        && is_good_expr families keyed has_value e ≡ true
+    cell_fits : (r : CellRef) (sort : Sort) (e : Expr) → ref_fits families under.keyed r && ref_has_sort families sort r
+        && is_good_expr families under.keyed under.has_value e ≡ true
         → (length (written_cell families r) ≤ 39) × SmallTerm (term_of e)
     cell_fits r sort e fits = (
-      cell_few keyed r (and_left (ref_fits families keyed r) (ref_has_sort families sort r)
-          (and_left (ref_fits families keyed r && ref_has_sort families sort r) (is_good_expr families keyed has_value e) fits)),
-      good_term e (and_right (ref_fits families keyed r && ref_has_sort families sort r) (is_good_expr families keyed has_value e) fits),
+      cell_few under.keyed r (and_left (ref_fits families under.keyed r) (ref_has_sort families sort r)
+          (and_left (ref_fits families under.keyed r && ref_has_sort families sort r) (is_good_expr families under.keyed under.has_value e) fits)),
+      good_term e (and_right (ref_fits families under.keyed r && ref_has_sort families sort r) (is_good_expr families under.keyed under.has_value e) fits),
     )
 
-    small_act : (a : Act) → act_fits families keyed has_value a ≡ true → SmallAct (plain_act a)
+    small_act : (a : Act) → act_fits families under.keyed under.has_value a ≡ true → SmallAct (plain_act a)
     small_act (Add r e) fits = cell_fits r sort.Sum e fits
     small_act (Raise r e) fits = cell_fits r sort.Max e fits
     small_act (Set r e) fits = cell_fits r sort.Last e fits
-    small_act (Clear r) fits = cell_few keyed r fits
+    small_act (Clear r) fits = cell_few under.keyed r fits
+    small_act (ClearFamily f) fits = tt
     small_act (Emit ps) fits = true_le (length (written_template families ps)) 256 (and_right _ (is_short (written_template families ps)) fits)
     small_act (Flush f ps) fits =
         true_le (length (written_template families ps)) 256 (and_right _ (is_short (written_template families ps))
-        (and_right (is_keyed (slice_get families f)) (flush_template_fits families has_value ps) fits))
+        (and_right (is_keyed (slice_get families f)) (flush_template_fits families f under.has_value ps) fits))
 
-    small_guard : (o : Option Expr) → guard_fits families keyed has_value o ≡ true → SmallGuard (option_map term_of o)
+    small_guard : (o : Option Expr) → guard_fits families under.keyed under.has_value o ≡ true → SmallGuard (option_map term_of o)
     small_guard None fits = tt
     small_guard (Some e) fits = good_term e fits
 
@@ -255,7 +265,7 @@ module _ (families : List Family) (named : list_all (λ (f : Family). is_name f.
     cell_act word r e t signs short cell term few =
         omega (arith, short, cell, term, few, four_long word (written_cell families r) (codes " ") (term_text families t))
 
-    act_few : (at : ℕ) {deed : Deed} {act : PlainAct} → MeansDeed text families keyed has_value deed act → SmallAct act
+    act_few : (at : ℕ) {deed : Deed} {act : PlainAct} → MeansDeed text families under deed act → SmallAct act
         → length (act_text families act) ≤ 23 * length (deed_signs at deed) + 297
     act_few at (means_add r e c t cell term) small =
         cell_act (codes "add ") c e t _ (omega arith) small.0 (expression_few e t term small.1) (omega (arith, length-append (cell_signs r) (spelled e)))
@@ -264,6 +274,7 @@ module _ (families : List Family) (named : list_all (λ (f : Family). is_name f.
     act_few at (means_set r e c t cell term) small =
         cell_act (codes "set ") c e t _ (omega arith) small.0 (expression_few e t term small.1) (omega (arith, length-append (cell_signs r) (spelled e)))
     act_few at (means_clear r c cell) small = omega (arith, small)
+    act_few at (means_clear_family r number third alone family) small = omega (arith, family_few number)
     act_few at (means_emit s ps means) small = omega (arith, small, quoted_length (written_template families ps))
     act_few at (means_flush name s number ps family means) small =
         omega (
@@ -274,21 +285,22 @@ module _ (families : List Family) (named : list_all (λ (f : Family). is_name f.
           three_long (family_name (slice_get families number)) (codes " ") (quoted (written_template families ps)),
         )
 
-    guard_few : (written : Option Tree) (guard : Option Term) → IfWritten (MeansExpression text families keyed has_value) written guard → SmallGuard guard
+    guard_few : (written : Option Tree) (guard : Option Term) → IfWritten (MeansExpression text families under) written guard → SmallGuard guard
         → length (guard_text families guard) ≤ 23 * length (guard_signs written) + 22
     guard_few None None means small = omega arith
     guard_few None (Some t) means small = absurd means
     guard_few (Some e) None means small = absurd means
     guard_few (Some e) (Some t) means small = omega (arith, expression_few e t means small)
 
-    action_few : (written : Action) (a : JobAction) → MeansAction text families keyed has_value written (plain_action a)
-        → action_fits families keyed has_value a ≡ true
+    action_few : (written : Action) (a : JobAction) → MeansAction text families under written (plain_action a)
+        → action_fits families under.keyed under.has_value a ≡ true
         → length (action_text families (plain_action a)) ≤ 23 * length (action_signs written) + 319
     action_few written a means fits =
         let act = act_few written.at means.act (small_act a.act
-        (and_left (act_fits families keyed has_value a.act) (guard_fits families keyed has_value a.guard) fits)) in
+        (and_left (act_fits families under.keyed under.has_value a.act) (guard_fits families under.keyed under.has_value a.guard) fits)) in
         let guard = guard_few written.guard (option_map term_of a.guard) means.guard
-        (small_guard a.guard (and_right (act_fits families keyed has_value a.act) (guard_fits families keyed has_value a.guard) fits)) in
+        (small_guard a.guard (and_right (act_fits families under.keyed under.has_value a.act)
+        (guard_fits families under.keyed under.has_value a.guard) fits)) in
         omega (
           arith,
           act,
@@ -297,15 +309,17 @@ module _ (families : List Family) (named : list_all (λ (f : Family). is_name f.
           length-append (deed_signs written.at written.deed) (guard_signs written.guard),
         )
 
-    actions_few : (ws : List Action) (js : List JobAction) → Pairs (MeansAction text families keyed has_value) ws (map plain_action js)
-        → list_all (action_fits families keyed has_value) js ≡ true
+    actions_few : (ws : List Action) (js : List JobAction) → Pairs (MeansAction text families under) ws (map plain_action js)
+        → list_all (action_fits families under.keyed under.has_value) js ≡ true
         → total (λ a. 2 + length (action_text families a)) (map plain_action js) ≤ 23 * total (λ w. length (action_signs w)) ws + 321 * length js
     actions_few [] [] means fits = omega arith
     actions_few [] (a ∷ js) means fits = absurd means
     actions_few (w ∷ ws) [] means fits = absurd means
     actions_few (w ∷ ws) (a ∷ js) means fits =
-        let here = action_few w a means.0 (and_left (action_fits families keyed has_value a) (list_all (action_fits families keyed has_value) js) fits) in
-        let more = actions_few ws js means.1 (and_right (action_fits families keyed has_value a) (list_all (action_fits families keyed has_value) js) fits) in
+        let here = action_few w a means.0 (and_left (action_fits families under.keyed under.has_value a)
+        (list_all (action_fits families under.keyed under.has_value) js) fits) in
+        let more = actions_few ws js means.1 (and_right (action_fits families under.keyed under.has_value a)
+        (list_all (action_fits families under.keyed under.has_value) js) fits) in
         omega (arith, here, more)
 
   -- the line of a kind's actions
@@ -372,7 +386,7 @@ module _ (text : List ℕ) where
   one_declaration : (ks : List DeclaredKind) → AllDiffer (map declared_name ks) → (y : Declaration)
       → total (λ (k : DeclaredKind). size_of text k.name y) ks ≤ length (declaration_signs y)
   one_declaration ks differ (d.Cell name keyed sort) = omega (arith, no_actions (λ k. 0) (λ k. refl) ks)
-  one_declaration ks differ (d.Tag name keyed has_value) = omega (arith, no_actions (λ k. 0) (λ k. refl) ks)
+  one_declaration ks differ (d.Tag name keyed item has_value) = omega (arith, no_actions (λ k. 0) (λ k. refl) ks)
   one_declaration ks differ (d.Depends a b relation) = omega (arith, no_actions (λ k. 0) (λ k. refl) ks)
   one_declaration ks differ (d.Source name file rate slack tags) = omega (arith, no_actions (λ k. 0) (λ k. refl) ks)
   one_declaration ks differ (d.On kind actions) =
@@ -391,30 +405,27 @@ module _ (text : List ℕ) where
       )
 
   -- the lines of all kinds
-  kinds_few : (families : List Family) (named : list_all (λ (f : Family). is_name f.name) families ≡ true) (ds : Declarations) (declared : List DeclaredKind)
-      (ks : List Kind)
-      → Pairs (MeansDeclaredKind text families ds) declared (map plain_kind ks) → list_all (kind_fits families) ks ≡ true
+  kinds_few : (version : ℕ) (families : List Family) (named : list_all (λ (f : Family). is_name f.name) families ≡ true) (ds : Declarations)
+      (declared : List DeclaredKind) (ks : List Kind)
+      → Pairs (MeansDeclaredKind text version families ds) declared (map plain_kind ks) → list_all (kind_fits families) ks ≡ true
       → length (flat_map (on_line families) (map plain_kind ks)) ≤ 23 * total
       (λ (k : DeclaredKind). total (size_of text k.name) ds) declared + 10310 * length ks
-  kinds_few families named ds [] [] means fits = omega arith
-  kinds_few families named ds [] (k ∷ ks) means fits = absurd means
-  kinds_few families named ds (x ∷ xs) [] means fits = absurd means
-  kinds_few families named ds (x ∷ xs) (k ∷ ks) means fits =
+  kinds_few version families named ds [] [] means fits = omega arith
+  kinds_few version families named ds [] (k ∷ ks) means fits = absurd means
+  kinds_few version families named ds (x ∷ xs) [] means fits = absurd means
+  kinds_few version families named ds (x ∷ xs) (k ∷ ks) means fits =
       let one = and_left (kind_fits families k) (list_all (kind_fits families) ks) fits in
       let front = and_left (is_name k.name && nat_le (length k.actions) 32) (list_all (action_fits families k.keyed k.has_value) k.actions) one in
       let all = and_right (is_name k.name && nat_le (length k.actions) 32) (list_all (action_fits families k.keyed k.has_value) k.actions) one in
       let name = name_few k.name (and_left (is_name k.name) (nat_le (length k.actions) 32) front) in
       let count = true_le (length k.actions) 32 (and_right (is_name k.name) (nat_le (length k.actions) 32) front) in
       let is = means.0 in
-      let actions = subst (λ (b : Bool). Pairs (MeansAction text families b x.has_value) (flat_map (actions_in text x.name) ds) (map plain_action k.actions))
-      (sym is.keyed)
-      is.actions in
-      let actions' = subst (λ (b : Bool). Pairs (MeansAction text families k.keyed b) (flat_map (actions_in text x.name) ds) (map plain_action k.actions))
-      (sym is.has_value) actions in
-      let here = actions_few families named text k.keyed k.has_value (flat_map (actions_in text x.name) ds) k.actions actions' all in
+      let so_keyed = subst (λ (b : Bool). list_all (action_fits families b k.has_value) k.actions ≡ true) is.keyed all in
+      let so_valued = subst (λ (b : Bool). list_all (action_fits families x.keyed b) k.actions ≡ true) is.has_value so_keyed in
+      let here = actions_few families named text (under_kind version x) (flat_map (actions_in text x.name) ds) k.actions is.actions so_valued in
       let size = total-flat_map (λ (a : Action). length (action_signs a)) (actions_in text x.name) ds in
       let line = line_few families named k.name (map plain_action k.actions) name in
-      let more = kinds_few families named ds xs ks means.1 (and_right (kind_fits families k) (list_all (kind_fits families) ks) fits) in
+      let more = kinds_few version families named ds xs ks means.1 (and_right (kind_fits families k) (list_all (kind_fits families) ks) fits) in
       omega (arith, here, size, line, count, more, length-append (on_line families (plain_kind k)) (flat_map (on_line families) (map plain_kind ks)))
 
 -- ---- tokens
@@ -446,11 +457,12 @@ module _ (p : Program) where
           (and_left (is_name k.name && nat_le (length k.actions) 32) (list_all (action_fits p.families k.keyed k.has_value) k.actions) fits))
 
   version_few : length (version_line p.version) ≤ 10
-  version_few = by (p.version == 2)
+  version_few = by (p.version == 2) (p.version == 3)
     where
-      by : (b : Bool) → length (cond b (codes "version 2" ++ 10 ∷ []) []) ≤ 10
-      by true = omega arith
-      by false = omega arith
+      by : (b c : Bool) → length (cond b (codes "version 2" ++ 10 ∷ []) (cond c (codes "version 3" ++ 10 ∷ []) [])) ≤ 10
+      by true c = omega arith
+      by false true = omega arith
+      by false false = omega arith
 
   keyed_few : (b : Bool) → length (keyed_text b) ≤ 6
   keyed_few true = omega arith
@@ -460,6 +472,10 @@ module _ (p : Program) where
   sort_few sort.Sum = omega arith
   sort_few sort.Max = omega arith
   sort_few sort.Last = omega arith
+
+  item_few : (b : Bool) → length (item_text b) ≤ 5
+  item_few true = omega arith
+  item_few false = omega arith
 
   value_few : (b : Bool) → length (value_text b) ≤ 5
   value_few true = omega arith
@@ -473,11 +489,18 @@ module _ (p : Program) where
   cell_line_few f e =
       omega (arith, name_few f.name e, keyed_few f.keyed, sort_few f.sort, four_long f.name (keyed_text f.keyed) (sort_text f.sort) line_end)
 
-  tag_line_few : (k : Kind) → kind_fits p.families k ≡ true → length (tag_line (plain_kind k)) ≤ 48
+  tag_line_few : (k : Kind) → kind_fits p.families k ≡ true → length (tag_line (plain_kind k)) ≤ 53
   tag_line_few k fits =
       let name = name_few k.name (and_left (is_name k.name) (nat_le (length k.actions) 32)
       (and_left (is_name k.name && nat_le (length k.actions) 32) (list_all (action_fits p.families k.keyed k.has_value) k.actions) fits)) in
-      omega (arith, name, keyed_few k.keyed, value_few k.has_value, four_long k.name (keyed_text k.keyed) (value_text k.has_value) line_end)
+      omega (
+        arith,
+        name,
+        keyed_few k.keyed,
+        item_few k.has_item,
+        value_few k.has_value,
+        five_long k.name (keyed_text k.keyed) (item_text k.has_item) (value_text k.has_value) line_end,
+      )
 
   depends_line_few : (y : Depend) → length (depends_line (map plain_kind p.kinds) y) ≤ 79
   depends_line_few y =
@@ -590,7 +613,7 @@ module _ (p : Program) where
         length-map (tags_of_source s) pair,
       )
 
-  tag_lines_few : (ks : List Kind) → list_all (kind_fits p.families) ks ≡ true → length (flat_map tag_line (map plain_kind ks)) ≤ 48 * length ks
+  tag_lines_few : (ks : List Kind) → list_all (kind_fits p.families) ks ≡ true → length (flat_map tag_line (map plain_kind ks)) ≤ 53 * length ks
   tag_lines_few [] fits = omega arith
   tag_lines_few (k ∷ ks) fits =
       let here = tag_line_few k (and_left (kind_fits p.families k) (list_all (kind_fits p.families) ks) fits) in
@@ -616,7 +639,7 @@ normal_form_is_short spans p bytes is =
     let tokens = tokens_few bytes 0 is.tokens (length bytes) (spans bytes is.tokens is.text.utf8 is.cut) is.cut in
     let signs = signs_counted _ is.tokens is.grammar.spelled in
     let weights = all_declarations bytes declared (kinds_differ bytes ds is.means.own_names) ds in
-    let actions = kinds_few bytes p.families p.families_fit ds declared p.kinds is.means.kinds p.kinds_fit in
+    let actions = kinds_few bytes p.version p.families p.families_fit ds declared p.kinds is.means.kinds p.kinds_fit in
     let cells = flat_few cell_line 49 (λ (f : Family). is_name f.name) (cell_line_few p) p.families p.families_fit in
     let tags = tag_lines_few p p.kinds p.kinds_fit in
     let depends = depends_lines_few p p.depends in

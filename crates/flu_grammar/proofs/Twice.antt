@@ -15,7 +15,7 @@ use Rattle.flu_parse.specs.declared.faults.JobFault.{JobFault}
 use Rattle.flu_parse.specs.declared.faults.JobFault.TheVariants as f
 use Rattle.flu_parse.specs.declared.names.KindHead.{KindHead}
 use Rattle.flu_parse.specs.Faults.{Found, unless}
-use Rattle.flu_parse.specs.Naming.{Naming, kind_of}
+use Rattle.flu_parse.specs.Naming.{Naming, in_version, kind_of}
 use Rattle.flu_parse.specs.Actions.{resolved_actions}
 use Rattle.flu_parse.specs.Listings.{file_of}
 use Rattle.flu_parse.specs.Resolving.{Drafted, with_actions, with_on}
@@ -29,7 +29,7 @@ use Rattle.flu_grammar.proofs.JobCells.{KnowFamilies}
 use Rattle.flu_grammar.proofs.JobNames.{kind_name, all_families, all_kinds, naming_is}
 use Rattle.flu_grammar.proofs.JobSources.{KnowKinds, kind_is}
 use Rattle.flu_grammar.proofs.JobDrafts.{Drafts, drafts_are}
-use Rattle.flu_grammar.proofs.JobTexts.{know_families, know_kinds}
+use Rattle.flu_grammar.proofs.JobTexts.{know_families, know_kinds, families_in_version, kinds_in_version}
 
 -- a fault that is not of something named twice
 abbrev NotTwice : JobFault → Type 0
@@ -128,17 +128,19 @@ module _ (text : List ℕ) (n : Naming) (families : List Family) (kinds : List D
       read true any bad place = let same : file.from ≡ at = cc in subst (λ (m : ℕ). IsFileTwice text done file m) same (read_twice file any)
 
 pub is_on_twice : TwiceNamedIsOnTwice
-is_on_twice = λ text ds before n x kind actions at named drafted e. (
+is_on_twice = λ text ds before n version x kind actions at named drafted e. (
     let names = naming_is text ds n named in
-    let know = know_families text ds n names.0 names.1.own in
-    let knows = know_kinds text ds n names.0 names.1.own in
-    on_twice text n (all_families text ds) (all_kinds text ds) know knows before x
-    (drafts_are text n (all_families text ds) (all_kinds text ds) know knows before x drafted) kind actions at e)
+    let m = in_version n version in
+    let know = families_in_version n version (all_families text ds) (know_families text ds n names.0 names.1.own) in
+    let knows = kinds_in_version n version (all_kinds text ds) (know_kinds text ds n names.0 names.1.own) in
+    on_twice text m (all_families text ds) (all_kinds text ds) know knows before x
+    (drafts_are text m (all_families text ds) (all_kinds text ds) know knows before x drafted) kind actions at e)
 
 pub is_file_twice : TwiceNamedIsFileTwice
-is_file_twice = λ text ds before n x file at named drafted e. (
+is_file_twice = λ text ds before n version x file at named drafted e. (
     let names = naming_is text ds n named in
-    let know = know_families text ds n names.0 names.1.own in
-    let knows = know_kinds text ds n names.0 names.1.own in
-    file_twice text n (all_families text ds) (all_kinds text ds) know knows before x
-    (drafts_are text n (all_families text ds) (all_kinds text ds) know knows before x drafted) file at e)
+    let m = in_version n version in
+    let know = families_in_version n version (all_families text ds) (know_families text ds n names.0 names.1.own) in
+    let knows = kinds_in_version n version (all_kinds text ds) (know_kinds text ds n names.0 names.1.own) in
+    file_twice text m (all_families text ds) (all_kinds text ds) know knows before x
+    (drafts_are text m (all_families text ds) (all_kinds text ds) know knows before x drafted) file at e)

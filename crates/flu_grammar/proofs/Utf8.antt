@@ -36,14 +36,14 @@ use Rattle.flu_layout.specs.Lists.{separated, keys_text}
 use Rattle.flu_layout.specs.Spelling.{name_of}
 use Rattle.flu_parse.specs.declared.pieces.WrittenPiece.{WrittenPiece}
 use Rattle.flu_parse.specs.declared.pieces.WrittenPiece.TheVariants as w
-use Rattle.flu_parse.specs.Printing.{op_text, term_text, act_text, guard_text, action_text, keyed_text, sort_text, cell_line, value_text}
-use Rattle.flu_parse.specs.Printing.{tag_line, kind_name, same_text, depends_line, actions_line, on_line, tag_text, slack_text, source_line}
-use Rattle.flu_grammar.specs.Means.{IfWritten}
-use Rattle.flu_grammar.specs.Terms.{MeansTerm, means_number, means_value, means_key, means_time, means_read, means_held, means_inside, means_negative}
-use Rattle.flu_grammar.specs.Terms.{means_negation, means_operation, MeansExpression}
+use Rattle.flu_parse.specs.Printing.{op_text, term_text, act_text, guard_text, action_text, keyed_text, sort_text, cell_line, item_text}
+use Rattle.flu_parse.specs.Printing.{value_text, tag_line, kind_name, same_text, depends_line, actions_line, on_line, tag_text, slack_text, source_line}
+use Rattle.flu_grammar.specs.Means.{IfWritten, Under}
+use Rattle.flu_grammar.specs.Terms.{MeansTerm, means_number, means_value, means_key, means_item, means_time, means_read, means_held, means_inside}
+use Rattle.flu_grammar.specs.Terms.{means_negative, means_negation, means_operation, MeansExpression}
 use Rattle.flu_grammar.specs.Templates.{MeansPiece, MeansTemplate}
-use Rattle.flu_grammar.specs.Actions.{MeansDeed, means_add, means_raise, means_set, means_clear, means_emit, means_flush, MeansAction}
-use Rattle.flu_grammar.specs.Declared.{DeclaredKind, families_in, kinds_in, actions_in, sources_in}
+use Rattle.flu_grammar.specs.Actions.{MeansDeed, means_add, means_raise, means_set, means_clear, means_clear_family, means_emit, means_flush, MeansAction}
+use Rattle.flu_grammar.specs.Declared.{DeclaredKind, under_kind, families_in, kinds_in, actions_in, sources_in}
 use Rattle.flu_grammar.specs.Sources.{MeansSource}
 use Rattle.flu_grammar.specs.Jobs.{MeansDeclaredKind}
 use Rattle.flu_grammar.specs.Laws.{NormalFormIsUtf8}
@@ -151,7 +151,7 @@ module _ (text : List ℕ) (utf8 : IsUtf8 text) where
   families : (ds : Declarations) → AllByRecursion named_family (flat_map (families_in text) ds)
   families [] = tt
   families (Cell n keyed s ∷ ds) = (between text n.from n.to utf8, families ds)
-  families (Tag n keyed has_value ∷ ds) = families ds
+  families (Tag n keyed item has_value ∷ ds) = families ds
   families (Depends a b relation ∷ ds) = families ds
   families (On kind actions ∷ ds) = families ds
   families (SourceLine n file rate slack tags ∷ ds) = families ds
@@ -159,29 +159,33 @@ module _ (text : List ℕ) (utf8 : IsUtf8 text) where
   declared : (ds : Declarations) → AllByRecursion (λ (k : DeclaredKind). Utf8 k.name) (flat_map (kinds_in text) ds)
   declared [] = tt
   declared (Cell n keyed s ∷ ds) = declared ds
-  declared (Tag n keyed has_value ∷ ds) = (between text n.from n.to utf8, declared ds)
+  declared (Tag n keyed item has_value ∷ ds) = (between text n.from n.to utf8, declared ds)
   declared (Depends a b relation ∷ ds) = declared ds
   declared (On kind actions ∷ ds) = declared ds
   declared (SourceLine n file rate slack tags ∷ ds) = declared ds
 
-  kinds : (fs : List Family) (ds : Declarations) (ks : List DeclaredKind) (js : List PlainKind) → AllByRecursion (λ (k : DeclaredKind). Utf8 k.name) ks
-      → Pairs (MeansDeclaredKind text fs ds) ks js → AllByRecursion named_kind js
-  kinds fs ds [] [] named pairs = tt
-  kinds fs ds [] (j ∷ js) named pairs = absurd pairs
-  kinds fs ds (k ∷ ks) [] named pairs = absurd pairs
-  kinds fs ds (k ∷ ks) (j ∷ js) named pairs = (subst Utf8 (sym pairs.0.name) named.0, kinds fs ds ks js named.1 pairs.1)
+  kinds : (version : ℕ) (fs : List Family) (ds : Declarations) (ks : List DeclaredKind) (js : List PlainKind)
+      → AllByRecursion (λ (k : DeclaredKind). Utf8 k.name) ks
+      → Pairs (MeansDeclaredKind text version fs ds) ks js → AllByRecursion named_kind js
+  kinds version fs ds [] [] named pairs = tt
+  kinds version fs ds [] (j ∷ js) named pairs = absurd pairs
+  kinds version fs ds (k ∷ ks) [] named pairs = absurd pairs
+  kinds version fs ds (k ∷ ks) (j ∷ js) named pairs = (subst Utf8 (sym pairs.0.name) named.0, kinds version fs ds ks js named.1 pairs.1)
 
 -- ---- cells, expressions and templates
 
 key : (k : At) → Utf8 (written_key k)
 key at.Alone = none
 key at.OwnKey = ascii (codes "[key]") refl
+key at.OwnItem = ascii (codes "[item]") refl
 key (at.Fixed k) = ascii (codes "[") refl also number k also ascii (codes "]") refl
 
 operator : (o : Op) → Utf8 (op_text o)
 operator op.Plus = ascii (codes "+") refl
 operator op.Minus = ascii (codes "-") refl
 operator op.Times = ascii (codes "*") refl
+operator op.Divide = ascii (codes "/") refl
+operator op.Remainder = ascii (codes "%") refl
 operator op.Less = ascii (codes "<") refl
 operator op.LessEq = ascii (codes "<=") refl
 operator op.More = ascii (codes ">") refl
@@ -211,66 +215,71 @@ module _ (text : List ℕ) (utf8 : IsUtf8 text) (fs : List Family) (named : AllB
   cell : (c : CellRef) → Utf8 (written_cell fs c)
   cell c = family c.family also key c.at
 
-  module _ (keyed has_value : Bool) where
-    term : {e : Tree} {t : Term} → MeansTerm text fs keyed has_value e t → Utf8 (term_text fs t)
+  module _ (under : Under) where
+    term : {e : Tree} {t : Term} → MeansTerm text fs under e t → Utf8 (term_text fs t)
     term (means_number n) = signed n.value
     term (means_value at h) = ascii (codes "value") refl
     term (means_key at h) = ascii (codes "key") refl
+    term (means_item r item has) = ascii (codes "item") refl
     term (means_time at) = ascii (codes "time") refl
-    term (means_read r c means) = cell c
+    term (means_read r c other means) = cell c
     term (means_held at r c means) = ascii (codes "has ") refl also cell c
     term (means_inside at e t means) = term means
     term (means_negative at e t means) = ascii (codes "(- ") refl also term means also ascii (codes ")") refl
     term (means_negation at e t means) = ascii (codes "(not ") refl also term means also ascii (codes ")") refl
-    term (means_operation o left right a b first second) =
+    term (means_operation o at left right a b fits first second) =
         ascii (codes "(") refl also term first also blank also operator o also blank also term second also ascii (codes ")") refl
 
-    part : (in_flush : Bool) (v : WrittenPiece) (p : Piece) → MeansPiece text fs keyed has_value in_flush v p → Utf8 (written_piece fs p)
-    part in_flush (w.Plain s) (piece.Plain t) means = name text utf8 s t means
-    part in_flush _ piece.Value means = ascii (codes "{value}") refl
-    part in_flush _ piece.Key means = ascii (codes "{key}") refl
-    part in_flush _ piece.Time means = ascii (codes "{time}") refl
-    part in_flush _ piece.CellValue means = ascii (codes "{cell}") refl
-    part in_flush _ (piece.Read c) means = ascii (codes "{") refl also cell c also ascii (codes "}") refl
-    part in_flush _ (piece.Plain t) means = absurd means
+    part : (flushed : Option ℕ) (v : WrittenPiece) (p : Piece) → MeansPiece text fs under flushed v p → Utf8 (written_piece fs p)
+    part flushed (w.Plain s) (piece.Plain t) means = name text utf8 s t means
+    part flushed _ piece.Value means = ascii (codes "{value}") refl
+    part flushed _ piece.Key means = ascii (codes "{key}") refl
+    part flushed _ piece.Time means = ascii (codes "{time}") refl
+    part flushed _ piece.CellValue means = ascii (codes "{cell}") refl
+    part flushed _ piece.Item means = ascii (codes "{item}") refl
+    part flushed _ (piece.FamilyCell number) means = ascii (codes "{") refl also family number also ascii (codes "}") refl
+    part flushed _ (piece.Read c) means = ascii (codes "{") refl also cell c also ascii (codes "}") refl
+    part flushed _ (piece.Plain t) means = absurd means
 
-    template : (in_flush : Bool) (s : WrittenSpan) (ps : List Piece) → MeansTemplate text fs keyed has_value in_flush s ps → Utf8 (written_template fs ps)
-    template in_flush s ps means = items (MeansPiece text fs keyed has_value in_flush) (written_piece fs) (part in_flush) means.parts ps means.means
+    template : (flushed : Option ℕ) (s : WrittenSpan) (ps : List Piece) → MeansTemplate text fs under flushed s ps → Utf8 (written_template fs ps)
+    template flushed s ps means = items (MeansPiece text fs under flushed) (written_piece fs) (part flushed) means.parts ps means.means
 
     -- ---- actions
-    deed : {d : Deed} {act : PlainAct} → MeansDeed text fs keyed has_value d act → Utf8 (act_text fs act)
+    deed : {d : Deed} {act : PlainAct} → MeansDeed text fs under d act → Utf8 (act_text fs act)
     deed (means_add r e c t is means) = ascii (codes "add ") refl also cell c also blank also term means.means
     deed (means_raise r e c t is means) = ascii (codes "raise ") refl also cell c also blank also term means.means
     deed (means_set r e c t is means) = ascii (codes "set ") refl also cell c also blank also term means.means
     deed (means_clear r c is) = ascii (codes "clear ") refl also cell c
-    deed (means_emit s ps means) = ascii (codes "emit ") refl also quotes (template false s ps means)
-    deed (means_flush n s number ps is means) = ascii (codes "flush ") refl also family number also blank also quotes (template true s ps means)
+    deed (means_clear_family r number third alone is) = ascii (codes "clear ") refl also family number
+    deed (means_emit s ps means) = ascii (codes "emit ") refl also quotes (template None s ps means)
+    deed (means_flush n s number ps is means) = ascii (codes "flush ") refl also family number also blank also quotes (template (Some number) s ps means)
 
-    guard : (written : Option Tree) (o : Option Term) → IfWritten (MeansExpression text fs keyed has_value) written o → Utf8 (guard_text fs o)
+    guard : (written : Option Tree) (o : Option Term) → IfWritten (MeansExpression text fs under) written o → Utf8 (guard_text fs o)
     guard written None means = none
     guard None (Some t) means = absurd means
     guard (Some e) (Some t) means = ascii (codes " when ") refl also term means.means
 
-    action : (written : Action) (a : PlainAction) → MeansAction text fs keyed has_value written a → Utf8 (action_text fs a)
+    action : (written : Action) (a : PlainAction) → MeansAction text fs under written a → Utf8 (action_text fs a)
     action written a means = deed means.act also guard written.guard a.guard means.guard
 
-    actions : (name : List ℕ) → Utf8 name → (ws : List Action) (js : List PlainAction) → Pairs (MeansAction text fs keyed has_value) ws js
+    actions : (name : List ℕ) → Utf8 name → (ws : List Action) (js : List PlainAction) → Pairs (MeansAction text fs under) ws js
         → Utf8 (actions_line fs name js)
     actions name is ws [] pairs = none
     actions name is [] (a ∷ js) pairs = absurd pairs
     actions name is (v ∷ ws) (a ∷ js) pairs =
         ascii (codes "on ") refl also is also ascii (codes ": ") refl
-        also marked (MeansAction text fs keyed has_value) (codes "; ") (action_text fs) (ascii (codes "; ") refl) action (v ∷ ws) (a ∷ js) pairs also end
+        also marked (MeansAction text fs under) (codes "; ") (action_text fs) (ascii (codes "; ") refl) action (v ∷ ws) (a ∷ js) pairs also end
 
-  line : (ds : Declarations) (k : DeclaredKind) (j : PlainKind) → Utf8 j.name → MeansDeclaredKind text fs ds k j → Utf8 (on_line fs j)
-  line ds k j is means = actions k.keyed k.has_value j.name is (flat_map (actions_in text k.name) ds) j.actions means.actions
+  line : (version : ℕ) (ds : Declarations) (k : DeclaredKind) (j : PlainKind) → Utf8 j.name → MeansDeclaredKind text version fs ds k j → Utf8 (on_line fs j)
+  line version ds k j is means = actions (under_kind version k) j.name is (flat_map (actions_in text k.name) ds) j.actions means.actions
 
-  lines : (ds : Declarations) (ks : List DeclaredKind) (js : List PlainKind) → AllByRecursion named_kind js → Pairs (MeansDeclaredKind text fs ds) ks js
+  lines : (version : ℕ) (ds : Declarations) (ks : List DeclaredKind) (js : List PlainKind) → AllByRecursion named_kind js
+      → Pairs (MeansDeclaredKind text version fs ds) ks js
       → Utf8 (flat_map (on_line fs) js)
-  lines ds [] [] is pairs = none
-  lines ds [] (j ∷ js) is pairs = absurd pairs
-  lines ds (k ∷ ks) [] is pairs = absurd pairs
-  lines ds (k ∷ ks) (j ∷ js) is pairs = line ds k j is.0 pairs.0 also lines ds ks js is.1 pairs.1
+  lines version ds [] [] is pairs = none
+  lines version ds [] (j ∷ js) is pairs = absurd pairs
+  lines version ds (k ∷ ks) [] is pairs = absurd pairs
+  lines version ds (k ∷ ks) (j ∷ js) is pairs = line version ds k j is.0 pairs.0 also lines version ds ks js is.1 pairs.1
 
 -- ---- the other lines
 
@@ -287,6 +296,10 @@ sort_name sort.Sum = ascii (codes " sum") refl
 sort_name sort.Max = ascii (codes " max") refl
 sort_name sort.Last = ascii (codes " last") refl
 
+item_word : (b : Bool) → Utf8 (item_text b)
+item_word true = ascii (codes " item") refl
+item_word false = none
+
 value_word : (b : Bool) → Utf8 (value_text b)
 value_word true = ascii (codes " int") refl
 value_word false = ascii (codes " none") refl
@@ -301,7 +314,8 @@ cells (f ∷ fs) named = ascii (codes "cell ") refl also named.0 also keyed_word
 
 tags : (ks : List PlainKind) → AllByRecursion named_kind ks → Utf8 (flat_map tag_line ks)
 tags [] named = none
-tags (k ∷ ks) named = ascii (codes "tag ") refl also named.0 also keyed_word k.keyed also value_word k.has_value also end also tags ks named.1
+tags (k ∷ ks) named = ascii (codes "tag ") refl also named.0 also keyed_word k.keyed also item_word k.has_item also value_word k.has_value also end also tags ks
+    named.1
 
 listed_keys : (ks : Keys) → Utf8 (keys_text ks)
 listed_keys keys.Alone = none
@@ -346,9 +360,10 @@ normal_form_is_utf8 bytes job is =
     let ds = is.written.declarations in
     let means = is.means in
     let fs : AllByRecursion named_family job.families = subst (AllByRecursion named_family) (sym means.families) (families bytes utf8 ds) in
-    let ks = kinds bytes utf8 job.families ds (flat_map (kinds_in bytes) ds) job.kinds (declared bytes utf8 ds) means.kinds in
-    let version = word (job.version == 2) (codes "version 2" ++ line_end) [] (ascii (codes "version 2" ++ line_end) refl) none in
-    let ons = lines bytes utf8 job.families fs ds (flat_map (kinds_in bytes) ds) job.kinds ks means.kinds in
+    let ks = kinds bytes utf8 job.version job.families ds (flat_map (kinds_in bytes) ds) job.kinds (declared bytes utf8 ds) means.kinds in
+    let third = word (job.version == 3) (codes "version 3" ++ line_end) [] (ascii (codes "version 3" ++ line_end) refl) none in
+    let version = word (job.version == 2) (codes "version 2" ++ line_end) _ (ascii (codes "version 2" ++ line_end) refl) third in
+    let ons = lines bytes utf8 job.families fs job.version ds (flat_map (kinds_in bytes) ds) job.kinds ks means.kinds in
     let sources = items (MeansSource bytes (flat_map (kinds_in bytes) ds)) (source_line job.kinds)
     (λ written s source_means. source job.kinds ks s (name bytes utf8 written.name s.name source_means.name)
     (subst Utf8 (sym source_means.file) (between bytes (written.file.from + 1) (written.file.to - 1) utf8)))

@@ -1,10 +1,11 @@
 -- What each fault of a job text says: which rule is broken, and where.
 use Rattle.std.specs.Prelude.{◌≡◌, ◌≢◌, ◌<◌, ◌≤◌, ◌+◌, ◌&&◌, ◌⊎◌, ℕ, Bool, true, false, List, []}
-use Rattle.std.specs.Prelude.{◌∷◌, ◌++◌, length, sum_by, Option, Some, Err, slice_get, IsTrue}
+use Rattle.std.specs.Prelude.{◌∷◌, ◌++◌, length, sum_by, Option, Some, Err, slice_get, codes, IsTrue}
 use Rattle.std.specs.List.{flat_map}
 use Rattle.std.specs.Str.{IsUtf8}
 use Rattle.std.specs.Str.Lossy.{utf8_valid_len}
 use Rattle.flu_model.specs.declared.limits.What.TheVariants.{Bytes, Nesting, Families, Kinds, Sources, Depends as DependsLimit, Key, Itags, Rate, Slack}
+use Rattle.flu_model.specs.declared.jobs.Sort.{Sort}
 use Rattle.flu_model.specs.declared.jobs.TagRef.{TagRef}
 use Rattle.flu_model.specs.Contents.{key_count}
 use Rattle.flu_model.specs.Rules.{is_version}
@@ -18,7 +19,7 @@ use Rattle.flu_text.specs.Grammar.{AreTokens, IsFirstBadPlace}
 use Rattle.flu_syntax.specs.declared.tree.WrittenTag.{WrittenTag}
 use Rattle.flu_syntax.specs.declared.tree.WrittenRelation.{WrittenRelation}
 use Rattle.flu_syntax.specs.declared.tree.WrittenRelation.TheVariants as r
-use Rattle.flu_syntax.specs.Tree.{Action, Declaration, Declarations, Depends, On, Source, Job as WrittenJob}
+use Rattle.flu_syntax.specs.Tree.{Action, Declaration, Declarations, Cell, Tag, Depends, On, Source, Job as WrittenJob}
 use Rattle.flu_syntax.specs.Grammar.{IsJob}
 use Rattle.flu_layout.specs.Spelling.{name_of, inside, written_value}
 use Rattle.flu_parse.specs.declared.faults.JobFault.{JobFault}
@@ -26,9 +27,10 @@ use Rattle.flu_parse.specs.declared.faults.JobFault.TheVariants as j
 use Rattle.flu_parse.specs.Listings.{written_keys, tag_count}
 use Rattle.flu_parse.specs.Reading.{job_in}
 use Rattle.flu_grammar.specs.Texts.{IsShortText}
-use Rattle.flu_grammar.specs.Declared.{DeclaredKind, WrittenSource, families_in, kinds_in, depends_in, sources_in}
+use Rattle.flu_grammar.specs.Declared.{DeclaredKind, under_kind, WrittenSource, families_in, kinds_in, depends_in, sources_in}
 use Rattle.flu_grammar.specs.Sources.{MeansKind, MeansTag}
 use Rattle.flu_grammar.specs.Faults.{NoneIsNamed, IsNotContinued, OpensTooMany, IsDeclaredTwice, IsOnTwice, IsFileTwice}
+use Rattle.flu_grammar.specs.Jobs.{MeansVersion}
 use Rattle.flu_grammar.specs.Broken.{BreaksActions}
 
 abbrev pub declared_name : DeclaredKind → List ℕ
@@ -81,33 +83,40 @@ pub data BreaksTag (text : List ℕ) (kinds : List DeclaredKind) (itags : ℕ) (
 
 -- ---- declarations
 
-pub data BreaksDeclaration (text : List ℕ) (all before : Declarations) : Declaration → JobFault → Type 0 where
+-- a declaration of a job of this version, behind others
+pub data BreaksDeclaration (text : List ℕ) (version : ℕ) (all before : Declarations) : Declaration → JobFault → Type 0 where
+  -- in version 3 no cell is called `item`
+  called_item : (name : WrittenSpan) (keyed : Bool) (sort : Sort) → version ≡ 3 → name_of text name ≡ codes "item"
+      → BreaksDeclaration text version all before (Cell name keyed sort) (j.WrongShape name.from)
+  -- only in version 3 kinds have items
+  items_of_older : (name : WrittenSpan) (keyed : Bool) (at : ℕ) (has_value : Bool) → version ≢ 3
+      → BreaksDeclaration text version all before (Tag name keyed (Some at) has_value) (j.WrongShape at)
   first_unknown : (a b : WrittenSpan) (relation : WrittenRelation) → NoneIsNamed declared_name (flat_map (kinds_in text) all) (name_of text a)
-      → BreaksDeclaration text all before (Depends a b relation) (j.UnknownName a.from)
+      → BreaksDeclaration text version all before (Depends a b relation) (j.UnknownName a.from)
   second_unknown : (a b : WrittenSpan) (relation : WrittenRelation) → NoneIsNamed declared_name (flat_map (kinds_in text) all) (name_of text b)
-      → BreaksDeclaration text all before (Depends a b relation) (j.UnknownName b.from)
+      → BreaksDeclaration text version all before (Depends a b relation) (j.UnknownName b.from)
   -- `same` may only be used between two keyed kinds
   same_of_unkeyed : (a b : WrittenSpan) (at i k : ℕ) (x : MeansKind text (flat_map (kinds_in text) all) a i)
       (y : MeansKind text (flat_map (kinds_in text) all) b k)
-      → (x.kind.keyed && y.kind.keyed) ≡ false → BreaksDeclaration text all before (Depends a b (r.Same at)) (j.WrongShape at)
+      → (x.kind.keyed && y.kind.keyed) ≡ false → BreaksDeclaration text version all before (Depends a b (r.Same at)) (j.WrongShape at)
   kind_unknown : (kind : WrittenSpan) (actions : List Action) → NoneIsNamed declared_name (flat_map (kinds_in text) all) (name_of text kind)
-      → BreaksDeclaration text all before (On kind actions) (j.UnknownName kind.from)
+      → BreaksDeclaration text version all before (On kind actions) (j.UnknownName kind.from)
   second_on : (kind : WrittenSpan) (actions : List Action) (at : ℕ) → IsOnTwice text before kind at
-      → BreaksDeclaration text all before (On kind actions) (j.TwiceNamed at)
+      → BreaksDeclaration text version all before (On kind actions) (j.TwiceNamed at)
   in_actions : (kind : WrittenSpan) (actions : List Action) (fault : JobFault) (number : ℕ) (x : MeansKind text (flat_map (kinds_in text) all) kind number)
-      → BreaksActions text (flat_map (families_in text) all) x.kind.keyed x.kind.has_value actions fault
-      → BreaksDeclaration text all before (On kind actions) fault
+      → BreaksActions text (flat_map (families_in text) all) (under_kind version x.kind) actions fault
+      → BreaksDeclaration text version all before (On kind actions) fault
   no_file : (name file : WrittenSpan) (rate slack : Option WrittenNumber) (tags : List WrittenTag) → inside text file ≡ []
-      → BreaksDeclaration text all before (Source name file rate slack tags) (j.WrongShape file.from)
+      → BreaksDeclaration text version all before (Source name file rate slack tags) (j.WrongShape file.from)
   second_file : (name file : WrittenSpan) (rate slack : Option WrittenNumber) (tags : List WrittenTag) (at : ℕ) → IsFileTwice text before file at
-      → BreaksDeclaration text all before (Source name file rate slack tags) (j.TwiceNamed at)
+      → BreaksDeclaration text version all before (Source name file rate slack tags) (j.TwiceNamed at)
   high_rate : (name file : WrittenSpan) (rate : WrittenNumber) (slack : Option WrittenNumber) (tags : List WrittenTag) → 1000000000 < written_value rate.value
-      → BreaksDeclaration text all before (Source name file (Some rate) slack tags) (j.OverLimit Rate (written_value rate.value))
+      → BreaksDeclaration text version all before (Source name file (Some rate) slack tags) (j.OverLimit Rate (written_value rate.value))
   high_slack : (name file : WrittenSpan) (rate : Option WrittenNumber) (slack : WrittenNumber) (tags : List WrittenTag) → 60000 < written_value slack.value
-      → BreaksDeclaration text all before (Source name file rate (Some slack) tags) (j.OverLimit Slack (written_value slack.value))
+      → BreaksDeclaration text version all before (Source name file rate (Some slack) tags) (j.OverLimit Slack (written_value slack.value))
   in_tags : (name file : WrittenSpan) (rate slack : Option WrittenNumber) (earlier later : List WrittenTag) (t : WrittenTag) (fault : JobFault)
       → BreaksTag text (flat_map (kinds_in text) all) (itags_in before) earlier t fault
-      → BreaksDeclaration text all before (Source name file rate slack (earlier ++ t ∷ later)) fault
+      → BreaksDeclaration text version all before (Source name file rate slack (earlier ++ t ∷ later)) fault
 
 -- ---- a written job
 
@@ -119,8 +128,8 @@ pub data BreaksJob (text : List ℕ) (job : WrittenJob) : JobFault → Type 0 wh
   too_many_sources : 64 < length (flat_map sources_in job.declarations) → BreaksJob text job (j.OverLimit Sources 65)
   too_many_depends : 4096 < length (flat_map depends_in job.declarations) → BreaksJob text job (j.OverLimit DependsLimit 4097)
   no_version : (n : WrittenNumber) → job.version ≡ Some n → ¬ IsTrue (is_version (written_value n.value)) → BreaksJob text job (j.WrongShape n.at)
-  in_declaration : (before : Declarations) (x : Declaration) (after : Declarations) (fault : JobFault) → job.declarations ≡ before ++ x ∷ after
-      → BreaksDeclaration text job.declarations before x fault → BreaksJob text job fault
+  in_declaration : (version : ℕ) (before : Declarations) (x : Declaration) (after : Declarations) (fault : JobFault) → MeansVersion job.version version
+      → job.declarations ≡ before ++ x ∷ after → BreaksDeclaration text version job.declarations before x fault → BreaksJob text job fault
 
 -- ---- a job text
 

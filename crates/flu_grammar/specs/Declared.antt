@@ -1,5 +1,5 @@
 -- What the declarations of a written job declare, in their order.
-use Rattle.std.specs.Prelude.{ℕ, Bool, List, [], ◌∷◌, Option, if◌then◌else◌}
+use Rattle.std.specs.Prelude.{◌≡◌, ◌≢◌, ℕ, Bool, true, List, [], ◌∷◌, Option, is_some, if◌then◌else◌, codes}
 use Rattle.std.specs.Str.{bytes_eq}
 use Rattle.flu_model.specs.declared.jobs.Family.{Family}
 use Rattle.flu_text.specs.declared.written.WrittenSpan.{WrittenSpan}
@@ -8,11 +8,12 @@ use Rattle.flu_syntax.specs.declared.tree.WrittenTag.{WrittenTag}
 use Rattle.flu_syntax.specs.declared.tree.WrittenRelation.{WrittenRelation}
 use Rattle.flu_syntax.specs.Tree.{Declaration, Cell, Tag, Depends, On, Source, Action}
 use Rattle.flu_layout.specs.Spelling.{name_of}
+use Rattle.flu_grammar.specs.Means.{Under}
 
 -- the name that a declaration gives: the names of cells, tags and sources are one set
 abbrev pub names_in : List ℕ → Declaration → List (List ℕ)
 names_in text (Cell name keyed sort) = name_of text name ∷ []
-names_in text (Tag name keyed has_value) = name_of text name ∷ []
+names_in text (Tag name keyed item has_value) = name_of text name ∷ []
 names_in text (Depends a b relation) = []
 names_in text (On kind actions) = []
 names_in text (Source name file rate slack tags) = name_of text name ∷ []
@@ -20,7 +21,7 @@ names_in text (Source name file rate slack tags) = name_of text name ∷ []
 -- a `cell` declares a family
 abbrev pub families_in : List ℕ → Declaration → List Family
 families_in text (Cell name keyed sort) = record { name = name_of text name; keyed = keyed; sort = sort } ∷ []
-families_in text (Tag name keyed has_value) = []
+families_in text (Tag name keyed item has_value) = []
 families_in text (Depends a b relation) = []
 families_in text (On kind actions) = []
 families_in text (Source name file rate slack tags) = []
@@ -29,11 +30,17 @@ families_in text (Source name file rate slack tags) = []
 pub record DeclaredKind : Type 0 where
   pub name : List ℕ
   pub keyed : Bool
+  pub has_item : Bool
   pub has_value : Bool
+
+-- under which the actions of this kind stand, in a job of this version
+abbrev pub under_kind : ℕ → DeclaredKind → Under
+under_kind version kind = record { version = version; keyed = kind.keyed; has_item = kind.has_item; has_value = kind.has_value }
 
 abbrev pub kinds_in : List ℕ → Declaration → List DeclaredKind
 kinds_in text (Cell name keyed sort) = []
-kinds_in text (Tag name keyed has_value) = record { name = name_of text name; keyed = keyed; has_value = has_value } ∷ []
+kinds_in text (Tag name keyed item has_value) =
+    record { name = name_of text name; keyed = keyed; has_item = is_some item; has_value = has_value } ∷ []
 kinds_in text (Depends a b relation) = []
 kinds_in text (On kind actions) = []
 kinds_in text (Source name file rate slack tags) = []
@@ -45,7 +52,7 @@ pub record WrittenDepend : Type 0 where
 
 abbrev pub depends_in : Declaration → List WrittenDepend
 depends_in (Cell name keyed sort) = []
-depends_in (Tag name keyed has_value) = []
+depends_in (Tag name keyed item has_value) = []
 depends_in (Depends a b relation) = record { a = a; b = b; relation = relation } ∷ []
 depends_in (On kind actions) = []
 depends_in (Source name file rate slack tags) = []
@@ -53,7 +60,7 @@ depends_in (Source name file rate slack tags) = []
 -- an `on` names a kind
 abbrev pub ons_in : List ℕ → Declaration → List (List ℕ)
 ons_in text (Cell name keyed sort) = []
-ons_in text (Tag name keyed has_value) = []
+ons_in text (Tag name keyed item has_value) = []
 ons_in text (Depends a b relation) = []
 ons_in text (On kind actions) = name_of text kind ∷ []
 ons_in text (Source name file rate slack tags) = []
@@ -61,7 +68,7 @@ ons_in text (Source name file rate slack tags) = []
 -- and has the actions of the kind of this name, if it is that one
 abbrev pub actions_in : List ℕ → List ℕ → Declaration → List Action
 actions_in text kind_name (Cell name keyed sort) = []
-actions_in text kind_name (Tag name keyed has_value) = []
+actions_in text kind_name (Tag name keyed item has_value) = []
 actions_in text kind_name (Depends a b relation) = []
 actions_in text kind_name (On kind actions) = if bytes_eq (name_of text kind) kind_name then actions else []
 actions_in text kind_name (Source name file rate slack tags) = []
@@ -75,7 +82,15 @@ pub record WrittenSource : Type 0 where
 
 abbrev pub sources_in : Declaration → List WrittenSource
 sources_in (Cell name keyed sort) = []
-sources_in (Tag name keyed has_value) = []
+sources_in (Tag name keyed item has_value) = []
 sources_in (Depends a b relation) = []
 sources_in (On kind actions) = []
 sources_in (Source name file rate slack tags) = record { name = name; file = file; rate = rate; slack = slack; tags = tags } ∷ []
+
+-- In version 3 `item` means the event's item, so no family is called so; and only there a kind has items.
+abbrev pub IsDeclaredIn : List ℕ → ℕ → Declaration → Type 0
+IsDeclaredIn text version (Cell name keyed sort) = version ≡ 3 → name_of text name ≢ codes "item"
+IsDeclaredIn text version (Tag name keyed item has_value) = is_some item ≡ true → version ≡ 3
+IsDeclaredIn text version (Depends a b relation) = Unit {0}
+IsDeclaredIn text version (On kind actions) = Unit {0}
+IsDeclaredIn text version (Source name file rate slack tags) = Unit {0}

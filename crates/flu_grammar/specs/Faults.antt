@@ -18,7 +18,7 @@ use Rattle.flu_syntax.specs.Tree.{Action, Declaration, Declarations, Cell, Tag, 
 use Rattle.flu_layout.specs.Spelling.{name_of, inside}
 use Rattle.flu_parse.specs.declared.faults.JobFault.{JobFault}
 use Rattle.flu_parse.specs.declared.faults.JobFault.TheVariants as j
-use Rattle.flu_parse.specs.Naming.{Naming, naming_of, family_of, kind_of}
+use Rattle.flu_parse.specs.Naming.{Naming, in_version, naming_of, family_of, kind_of}
 use Rattle.flu_parse.specs.Listings.{file_of}
 use Rattle.flu_parse.specs.Resolving.{Drafted, with_on, draft_of}
 use Rattle.flu_parse.specs.Reading.{job_in}
@@ -121,7 +121,7 @@ ChildIsUnknown =
 -- the written name that a declaration gives
 abbrev pub spans_in : Declaration → List WrittenSpan
 spans_in (Cell name keyed sort) = name ∷ []
-spans_in (Tag name keyed has_value) = name ∷ []
+spans_in (Tag name keyed item has_value) = name ∷ []
 spans_in (Depends a b relation) = []
 spans_in (On kind actions) = []
 spans_in (SourceLine name file rate slack tags) = name ∷ []
@@ -150,8 +150,9 @@ pub record IsOnTwice (text : List ℕ) (before : Declarations) (kind : WrittenSp
 
 abbrev pub TwiceNamedIsOnTwice : Type 0
 TwiceNamedIsOnTwice =
-    (text : List ℕ) (ds before : Declarations) (n : Naming) (x : Drafted) (kind : WrittenSpan) (actions : List Action) (at : ℕ) → naming_of text ds ≡ Ok n
-    → draft_of text n before ≡ Ok x → with_on text n x kind actions ≡ Err (j.TwiceNamed at) → IsOnTwice text before kind at
+    (text : List ℕ) (ds before : Declarations) (n : Naming) (version : ℕ) (x : Drafted) (kind : WrittenSpan) (actions : List Action) (at : ℕ)
+    → naming_of text ds ≡ Ok n → draft_of text (in_version n version) before ≡ Ok x
+    → with_on text (in_version n version) x kind actions ≡ Err (j.TwiceNamed at) → IsOnTwice text before kind at
 
 -- This file text at this place, with a source before it that has the same.
 pub record IsFileTwice (text : List ℕ) (before : Declarations) (file : WrittenSpan) (at : ℕ) : Type 0 where
@@ -163,8 +164,8 @@ pub record IsFileTwice (text : List ℕ) (before : Declarations) (file : Written
 
 abbrev pub TwiceNamedIsFileTwice : Type 0
 TwiceNamedIsFileTwice =
-    (text : List ℕ) (ds before : Declarations) (n : Naming) (x : Drafted) (file : WrittenSpan) (at : ℕ) → naming_of text ds ≡ Ok n
-    → draft_of text n before ≡ Ok x → file_of text x.sources file ≡ Err (j.TwiceNamed at) → IsFileTwice text before file at
+    (text : List ℕ) (ds before : Declarations) (n : Naming) (version : ℕ) (x : Drafted) (file : WrittenSpan) (at : ℕ) → naming_of text ds ≡ Ok n
+    → draft_of text (in_version n version) before ≡ Ok x → file_of text x.sources file ≡ Err (j.TwiceNamed at) → IsFileTwice text before file at
 
 -- This node is the first that has the name of an earlier one.
 pub record IsNodeTwice (text : List ℕ) (nodes : List WrittenNode) (name : List ℕ) : Type 0 where

@@ -10,35 +10,38 @@ use Rattle.flu_model.specs.Rules.{is_version}
 use Rattle.flu_text.specs.declared.words.Token.{Token}
 use Rattle.flu_text.specs.declared.written.WrittenNumber.{WrittenNumber}
 use Rattle.flu_text.specs.Grammar.{AreTokens}
-use Rattle.flu_syntax.specs.Tree.{Job as WrittenJob, Declarations}
+use Rattle.flu_syntax.specs.Tree.{Job as WrittenJob, Declaration, Declarations}
 use Rattle.flu_syntax.specs.Grammar.{IsJob}
 use Rattle.flu_layout.specs.Spelling.{written_value}
 use Rattle.flu_grammar.specs.Means.{AllDiffer, IsNamed}
 use Rattle.flu_grammar.specs.Texts.{IsShortText}
 use Rattle.flu_grammar.specs.Actions.{MeansAction}
-use Rattle.flu_grammar.specs.Declared.{DeclaredKind, names_in, families_in, kinds_in, depends_in, ons_in, actions_in, sources_in}
+use Rattle.flu_grammar.specs.Declared.{DeclaredKind, under_kind, IsDeclaredIn, names_in, families_in, kinds_in, depends_in, ons_in, actions_in, sources_in}
 use Rattle.flu_grammar.specs.Sources.{MeansDepend, MeansSource}
 
--- version 1 or 2, and 1 if none is written
+-- version 1, 2 or 3, and 1 if none is written
 abbrev pub MeansVersion : Option WrittenNumber → ℕ → Type 0
 MeansVersion None version = version ≡ 1
 MeansVersion (Some n) version = (version ≡ written_value n.value) × IsTrue (is_version version)
 
 -- A declared kind is the job's kind of its name, with the actions of its `on`, in their order, if it has one.
-pub record MeansDeclaredKind (text : List ℕ) (families : List Family) (declarations : Declarations) (declared : DeclaredKind) (kind : PlainKind) : Type 0 where
+pub record MeansDeclaredKind (text : List ℕ) (version : ℕ) (families : List Family) (declarations : Declarations) (declared : DeclaredKind) (kind : PlainKind)
+    : Type 0 where
   pub name : kind.name ≡ declared.name
   pub keyed : kind.keyed ≡ declared.keyed
+  pub has_item : kind.has_item ≡ declared.has_item
   pub has_value : kind.has_value ≡ declared.has_value
-  pub actions : Pairs (MeansAction text families declared.keyed declared.has_value) (flat_map (actions_in text declared.name) declarations) kind.actions
+  pub actions : Pairs (MeansAction text families (under_kind version declared)) (flat_map (actions_in text declared.name) declarations) kind.actions
   pub few_actions : length kind.actions ≤ 32
 
--- The declarations mean these parts of a job, each in the order of the text. All names differ, each `on` is of a declared kind and
--- no two are of the same one, and no two sources read the same file.
+-- The declarations mean these parts of a job, each in the order of the text. Each is one that the version has. All names differ, each
+-- `on` is of a declared kind and no two are of the same one, and no two sources read the same file.
 pub record MeansJob (text : List ℕ) (written : WrittenJob) (job : Job) : Type 0 where
   pub version : MeansVersion written.version job.version
+  pub allowed : (i : ℕ) (x : Declaration) → slice_get written.declarations i ≡ Some x → IsDeclaredIn text job.version x
   pub own_names : AllDiffer (flat_map (names_in text) written.declarations)
   pub families : job.families ≡ flat_map (families_in text) written.declarations
-  pub kinds : Pairs (MeansDeclaredKind text job.families written.declarations) (flat_map (kinds_in text) written.declarations) job.kinds
+  pub kinds : Pairs (MeansDeclaredKind text job.version job.families written.declarations) (flat_map (kinds_in text) written.declarations) job.kinds
   pub known_ons : (i : ℕ) (name : List ℕ) → slice_get (flat_map (ons_in text) written.declarations) i ≡ Some name
       → (number : ℕ) × IsNamed (λ (k : DeclaredKind). k.name) (flat_map (kinds_in text) written.declarations) name number
   pub own_ons : AllDiffer (flat_map (ons_in text) written.declarations)

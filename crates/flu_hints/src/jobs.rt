@@ -107,7 +107,7 @@ fn is_within(expr: &WrittenExpr, levels: u32) -> bool {
             inner,
             levels - 1,
         ),
-        WrittenExpr::Two(_, left, right) => {
+        WrittenExpr::Two { left, right, .. } => {
             is_within(left, levels - 1) && is_within(right, levels - 1)
         }
     }

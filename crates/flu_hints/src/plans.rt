@@ -1,7 +1,7 @@
 //! The places at which a plan exceeds its limits.
 
 use crate::limits::spelled;
-use flu_text::{Mark, Reserved, Token, Word};
+use flu_text::{Contextual, Mark, Reserved, Token, Word};
 use std::alloc::{AllocFailed, Global};
 
 /// The greatest depth of a node; the root has depth 0.
@@ -22,7 +22,9 @@ pub fn predicates_place(found: &[Token], count: usize) -> Option<usize> {
     let mut met = 0usize;
     let mut may_begin = false;
     for token in found {
-        if may_begin && (token.word == Word::Name || token.word == Word::Mark(Mark::At)) {
+        if may_begin
+            && (matches!(token.word, Word::Name(_)) || token.word == Word::Mark(Mark::At))
+        {
             met = met.saturating_add(1);
             if met == count {
                 return Some(token.from);
@@ -54,7 +56,7 @@ fn children_of<'t>(
 ) -> Result<Vec<Child<'t>>, AllocFailed<Child<'t>>> {
     let mut children = Vec::new(alloc);
     let mut parent = "";
-    let mut before = Word::Name;
+    let mut before = Word::Name(Contextual::Other);
     let mut left = 0u32;
     for token in found {
         let name = spelled(text, token).unwrap_or("");

@@ -11,6 +11,11 @@ use std::rt;
 const FORMS: &str = "  a row is TIME,TAG,VALUE or TIME,TAG or TIME,beat or end
 ";
 
+/// Those of an event of a kind with items, which jobs of version 3 have.
+const FORMS_WITH_ITEMS: &str =
+    "  an event of a kind with items is TIME,TAG,ITEM,VALUE or TIME,TAG,ITEM
+";
+
 /// The text of the row that the line of an answer names, in the file of its source, and the forms that rows have.
 pub fn row_hint<R: rt::Files + AllocGlobal>(
     rt: &R,
@@ -18,12 +23,19 @@ pub fn row_hint<R: rt::Files + AllocGlobal>(
     line: &str,
 ) -> Result<String, AllocError> {
     let mut told = String::new(rt.alloc());
-    if let (Some(job), Some((source, row))) = (job, row_of(line)) {
-        if let Some(file) = file_of(rt, job.as_str(), source)? {
-            push_row(rt, &mut told, file.as_str(), row)?;
+    let program = match job {
+        Some(job) => program_of(rt, job.as_str()),
+        None => None,
+    };
+    if let (Some(program), Some((source, row))) = (&program, row_of(line)) {
+        if let Some(file) = file_of(program, source) {
+            push_row(rt, &mut told, file, row)?;
         }
     }
     told.push_str(FORMS)?;
+    if program.is_some_and(|program| has_items(&program)) {
+        told.push_str(FORMS_WITH_ITEMS)?;
+    }
     Ok(told)
 }
 
@@ -43,20 +55,18 @@ fn program_of<R: rt::Files + AllocGlobal>(rt: &R, job: &str) -> Option<Program> 
 }
 
 // The name of the file of a job's source.
-fn file_of<R: rt::Files + AllocGlobal>(
-    rt: &R,
-    job: &str,
-    wanted: &str,
-) -> Result<Option<String>, AllocError> {
-    let Some(program) = program_of(rt, job) else {
-        return Ok(None);
-    };
+fn file_of<'p>(program: &'p Program, wanted: &str) -> Option<&'p str> {
     for source in program.sources.items() {
         if source.name.as_str() == wanted {
-            return Ok(Some(String::from_str(rt.alloc(), source.file.as_str())?));
+            return Some(source.file.as_str());
         }
     }
-    Ok(None)
+    None
+}
+
+// Whether a kind of the job has items.
+fn has_items(program: &Program) -> bool {
+    program.kinds.items().iter().any(|kind| kind.has_item)
 }
 
 // Appends a row of a file to a text, with the file's name and its number.

@@ -9,14 +9,15 @@ use Rattle.flu_model.specs.declared.events.Worth.{Worth}
 use Rattle.flu_model.specs.declared.jobs.Family.{Family}
 use Rattle.flu_model.specs.declared.jobs.Sort.TheVariants.{Sum as SumSort, Max as MaxSort}
 use Rattle.flu_model.specs.declared.jobs.Act.{Act}
-use Rattle.flu_model.specs.declared.jobs.Act.TheVariants.{Add, Raise, Set, Clear, Emit, Flush}
+use Rattle.flu_model.specs.declared.jobs.Act.TheVariants.{Add, Raise, Set, Clear, ClearFamily, Emit, Flush}
 use Rattle.flu_model.specs.declared.jobs.Action.{Action}
 use Rattle.flu_model.specs.Contents.{Contents, cell, is_same_cell, with_worth, added, raised, joined_worth}
-use Rattle.flu_model.specs.Expressions.{cell_of, value_of_expr}
+use Rattle.flu_model.specs.Expressions.{item_of, cell_of, value_of_expr}
 use Rattle.flu_model.specs.Updates.{changes_to, effect_of_act, effect_of_action, effect_of_actions, passes_guard}
-use Rattle.flu_model.specs.Modes.{means, act_overwrites, act_adds, act_raises}
-use Rattle.flu_laws.specs.Changes.{amount_of_act, amount_of_action, amount_added, level_of_act, level_of_action, level_reached, higher}
+use Rattle.flu_model.specs.Modes.{act_overwrites, act_adds, act_raises}
+use Rattle.flu_laws.specs.Changes.{hits, amount_of_act, amount_of_action, amount_added, level_of_act, level_of_action, level_reached, higher}
 use Rattle.flu_lemmas.proofs.Booleans.{or_false_left, or_false_right}
+use Rattle.flu_laws.proofs.Reading.{unmeant}
 use Rattle.flu_laws.proofs.Values.{HoldsSort}
 use Rattle.flu_laws.proofs.Algebra.{added-zero, added-added, added-holds, raised-raised, raised-joined, raised-holds}
 
@@ -55,24 +56,27 @@ module _ (families : List Family) (x : Event) (key : ℕ) (c : Cell) where
   -- ---- acts
   act_keeps : (a : Act) (s : Contents) → act_overwrites key c a ≡ false → act_adds key c a ≡ false → act_raises key c a ≡ false
       → (effect_of_act families a s x key).cells c ≡ s c
-  act_keeps (Add r e) s own add raise = elsewhere s (cell_of r key) c _ add
-  act_keeps (Raise r e) s own add raise = elsewhere s (cell_of r key) c _ raise
-  act_keeps (Set r e) s own add raise = elsewhere s (cell_of r key) c _ own
-  act_keeps (Clear r) s own add raise = elsewhere s (cell_of r key) c None own
+  act_keeps (Add r e) s own add raise = elsewhere s (cell_of r key (item_of x)) c _ (unmeant r key (item_of x) c add)
+  act_keeps (Raise r e) s own add raise = elsewhere s (cell_of r key (item_of x)) c _ (unmeant r key (item_of x) c raise)
+  act_keeps (Set r e) s own add raise = elsewhere s (cell_of r key (item_of x)) c _ (unmeant r key (item_of x) c own)
+  act_keeps (Clear r) s own add raise = elsewhere s (cell_of r key (item_of x)) c None (unmeant r key (item_of x) c own)
+  act_keeps (ClearFamily f) s own add raise = ap (λ b. cond b None (s c)) own
   act_keeps (Emit qs) s own add raise = refl
   act_keeps (Flush f qs) s own add raise = ap (λ b. cond b None (s c)) own
 
   act_gains : (a : Act) (s : Contents) → act_overwrites key c a ≡ false → act_raises key c a ≡ false → HoldsSort SumSort (s c)
       → (effect_of_act families a s x key).cells c ≡ added (s c) (amount_of_act a s x key c)
   act_gains (Add r e) s own raise holds =
-      elim (means key c r) as (λ b. means key c r ≡ b → with_worth s (cell_of r key) (added (s (cell_of r key)) (value_of_expr e s x key)) c ≡ added (s c)
-      (cond b (value_of_expr e s x key) (pos 0))) [
-        | true ↦ λ m. there s (cell_of r key) c (λ w. added w (value_of_expr e s x key)) m
-        | false ↦ λ m. elsewhere s (cell_of r key) c _ m ∙ sym (added-zero (s c) holds)
+      let d : Cell = cell_of r key (item_of x) in
+      let v : ℤ = value_of_expr e s x key in
+      elim (hits x key c r) as (λ b. hits x key c r ≡ b → with_worth s d (added (s d) v) c ≡ added (s c) (cond b v (pos 0))) [
+        | true ↦ λ m. there s d c (λ w. added w v) m
+        | false ↦ λ m. elsewhere s d c _ m ∙ sym (added-zero (s c) holds)
       ] refl
   act_gains (Raise r e) s own raise holds = act_keeps (Raise r e) s own refl raise ∙ sym (added-zero (s c) holds)
   act_gains (Set r e) s own raise holds = act_keeps (Set r e) s own refl refl ∙ sym (added-zero (s c) holds)
   act_gains (Clear r) s own raise holds = act_keeps (Clear r) s own refl refl ∙ sym (added-zero (s c) holds)
+  act_gains (ClearFamily f) s own raise holds = act_keeps (ClearFamily f) s own refl refl ∙ sym (added-zero (s c) holds)
   act_gains (Emit qs) s own raise holds = sym (added-zero (s c) holds)
   act_gains (Flush f qs) s own raise holds = act_keeps (Flush f qs) s own refl refl ∙ sym (added-zero (s c) holds)
 
@@ -80,13 +84,15 @@ module _ (families : List Family) (x : Event) (key : ℕ) (c : Cell) where
       → (effect_of_act families a s x key).cells c ≡ raised_to (s c) (level_of_act a s x key c)
   act_reaches (Add r e) s own add = act_keeps (Add r e) s own add refl
   act_reaches (Raise r e) s own add =
-      elim (means key c r) as (λ b. means key c r ≡ b → with_worth s (cell_of r key) (raised (s (cell_of r key)) (value_of_expr e s x key)) c ≡ raised_to
-      (s c) (cond b (Some (value_of_expr e s x key)) None)) [
-        | true ↦ λ m. there s (cell_of r key) c (λ w. raised w (value_of_expr e s x key)) m
-        | false ↦ λ m. elsewhere s (cell_of r key) c _ m
+      let d : Cell = cell_of r key (item_of x) in
+      let v : ℤ = value_of_expr e s x key in
+      elim (hits x key c r) as (λ b. hits x key c r ≡ b → with_worth s d (raised (s d) v) c ≡ raised_to (s c) (cond b (Some v) None)) [
+        | true ↦ λ m. there s d c (λ w. raised w v) m
+        | false ↦ λ m. elsewhere s d c _ m
       ] refl
   act_reaches (Set r e) s own add = act_keeps (Set r e) s own refl refl
   act_reaches (Clear r) s own add = act_keeps (Clear r) s own refl refl
+  act_reaches (ClearFamily f) s own add = act_keeps (ClearFamily f) s own refl refl
   act_reaches (Emit qs) s own add = refl
   act_reaches (Flush f qs) s own add = act_keeps (Flush f qs) s own refl refl
 

@@ -10,10 +10,10 @@ use Rattle.flu_model.specs.declared.events.Worth.TheVariants.{Last}
 use Rattle.flu_model.specs.declared.jobs.Sort.TheVariants.{Sum as SumSort, Max as MaxSort, Last as LastSort}
 use Rattle.flu_model.specs.declared.jobs.Family.{Family}
 use Rattle.flu_model.specs.declared.jobs.Act.{Act}
-use Rattle.flu_model.specs.declared.jobs.Act.TheVariants.{Add, Raise, Set, Clear, Emit, Flush}
+use Rattle.flu_model.specs.declared.jobs.Act.TheVariants.{Add, Raise, Set, Clear, ClearFamily, Emit, Flush}
 use Rattle.flu_model.specs.declared.jobs.Action.{Action}
-use Rattle.flu_model.specs.Contents.{Contents, cell, is_same_cell, with_worth, key_count}
-use Rattle.flu_model.specs.Expressions.{cell_of, value_of_expr}
+use Rattle.flu_model.specs.Contents.{Contents, cell, is_same_cell, with_worth, without_family, key_count}
+use Rattle.flu_model.specs.Expressions.{item_of, cell_of, value_of_expr}
 use Rattle.flu_model.specs.Updates.{changes_to, effect_of_act, effect_of_action, effect_of_actions, passes_guard}
 use Rattle.flu_model.specs.Sorts.{MayHold, IsStateOf}
 use Rattle.flu_model.specs.Rules.{has_sort, act_fits, action_fits}
@@ -32,31 +32,35 @@ with_kept families s d w sorted holds c =
     ] refl
 
 module _ (families : List Family) (keyed has_value : Bool) (x : Event) (key : ℕ) (in_range : nat_lt key key_count ≡ true) where
-  act_keeps : (a : Act) (s : Contents) → act_fits families keyed has_value a ≡ true → IsStateOf families s
-      → IsStateOf families (effect_of_act families a s x key).cells
-  act_keeps (Add r e) s fits sorted =
-      let c : Cell = cell_of r key in
-      let there = cell_is_there families keyed r key in_range (and_left _ _ (and_left _ _ fits)) in
-      let sort : has_sort (slice_get families r.family) SumSort ≡ true = and_right _ _ (and_left _ _ fits) in
-      with_kept families s c _ sorted (may_hold families c SumSort _ sort there (added-holds (s c) (value_of_expr e s x key)))
-  act_keeps (Raise r e) s fits sorted =
-      let c : Cell = cell_of r key in
-      let there = cell_is_there families keyed r key in_range (and_left _ _ (and_left _ _ fits)) in
-      let sort : has_sort (slice_get families r.family) MaxSort ≡ true = and_right _ _ (and_left _ _ fits) in
-      let held : HoldsSort MaxSort (s c) = holds_sort families c MaxSort (s c) sort (sorted c) in
-      with_kept families s c _ sorted (may_hold families c MaxSort _ sort there (raised-holds (s c) (value_of_expr e s x key) held))
-  act_keeps (Set r e) s fits sorted =
-      let c : Cell = cell_of r key in
-      let there = cell_is_there families keyed r key in_range (and_left _ _ (and_left _ _ fits)) in
-      let sort : has_sort (slice_get families r.family) LastSort ≡ true = and_right _ _ (and_left _ _ fits) in
-      with_kept families s c _ sorted (may_hold families c LastSort (Some (Last (value_of_expr e s x key))) sort there tt)
-  act_keeps (Clear r) s fits sorted = with_kept families s (cell_of r key) None sorted tt
-  act_keeps (Emit qs) s fits sorted = sorted
-  act_keeps (Flush f qs) s fits sorted =
+  without_kept : (f : ℕ) (s : Contents) → IsStateOf families s → IsStateOf families (without_family s f)
+  without_kept f s sorted =
       λ c. elim (c.family == f) as (λ b. MayHold families c (cond b None (s c))) [
         | true ↦ tt
         | false ↦ sorted c
       ]
+
+  act_keeps : (a : Act) (s : Contents) → act_fits families keyed has_value a ≡ true → IsStateOf families s
+      → IsStateOf families (effect_of_act families a s x key).cells
+  act_keeps (Add r e) s fits sorted =
+      let c : Cell = cell_of r key (item_of x) in
+      let there = cell_is_there families keyed r key x in_range (and_left _ _ (and_left _ _ fits)) in
+      let sort : has_sort (slice_get families r.family) SumSort ≡ true = and_right _ _ (and_left _ _ fits) in
+      with_kept families s c _ sorted (may_hold families c SumSort _ sort there (added-holds (s c) (value_of_expr e s x key)))
+  act_keeps (Raise r e) s fits sorted =
+      let c : Cell = cell_of r key (item_of x) in
+      let there = cell_is_there families keyed r key x in_range (and_left _ _ (and_left _ _ fits)) in
+      let sort : has_sort (slice_get families r.family) MaxSort ≡ true = and_right _ _ (and_left _ _ fits) in
+      let held : HoldsSort MaxSort (s c) = holds_sort families c MaxSort (s c) sort (sorted c) in
+      with_kept families s c _ sorted (may_hold families c MaxSort _ sort there (raised-holds (s c) (value_of_expr e s x key) held))
+  act_keeps (Set r e) s fits sorted =
+      let c : Cell = cell_of r key (item_of x) in
+      let there = cell_is_there families keyed r key x in_range (and_left _ _ (and_left _ _ fits)) in
+      let sort : has_sort (slice_get families r.family) LastSort ≡ true = and_right _ _ (and_left _ _ fits) in
+      with_kept families s c _ sorted (may_hold families c LastSort (Some (Last (value_of_expr e s x key))) sort there tt)
+  act_keeps (Clear r) s fits sorted = with_kept families s (cell_of r key (item_of x)) None sorted tt
+  act_keeps (ClearFamily f) s fits sorted = without_kept f s sorted
+  act_keeps (Emit qs) s fits sorted = sorted
+  act_keeps (Flush f qs) s fits sorted = without_kept f s sorted
 
   pub actions_keep : (all : List Action) (s : Contents) → list_all (action_fits families keyed has_value) all ≡ true → IsStateOf families s
       → IsStateOf families (effect_of_actions families all s x key).cells

@@ -1,15 +1,16 @@
 -- The keys of tags and of the cells that references mean are in range.
-use Rattle.std.proofs.Common.{◌≡◌, ◌≤◌, ◌+◌, ◌-◌, ◌<◌, ℕ, zero, suc, Bool, true, false, Option, Some, None, List, [], ◌∷◌, map, get_or, refl, ◌∙◌, arith}
+use Rattle.std.proofs.Common.{◌≡◌, ◌≤◌, ◌+◌, ◌-◌, ◌<◌, ℕ, zero, suc, Bool, true, false, Option, Some, None, List, [], ◌∷◌, map, get_or, cond, refl, ◌∙◌, arith}
 use Rattle.std.specs.Prelude.{nat_lt, nat_le, ◌==◌, ◌&&◌, ◌||◌, not, slice_get}
 use Rattle.std.specs.List.{list_all, flat_map}
 use Rattle.std.proofs.lemmas.Bool.{or_left}
 use Rattle.std.proofs.lemmas.List.Folds.{list_all-append, list_all-map}
 use Rattle.flu_lemmas.proofs.Ranges.{all_below}
 use Rattle.flu_lemmas.proofs.Tests.{and_left, and_right, both, true_lt, true_le}
+use Rattle.flu_model.specs.declared.events.Event.{Event}
 use Rattle.flu_model.specs.declared.events.Itag.{Itag}
 use Rattle.flu_model.specs.declared.events.Tag.{Tag}
 use Rattle.flu_model.specs.declared.jobs.At.{At}
-use Rattle.flu_model.specs.declared.jobs.At.TheVariants.{Alone, OwnKey, Fixed}
+use Rattle.flu_model.specs.declared.jobs.At.TheVariants.{Alone, OwnKey, OwnItem, Fixed}
 use Rattle.flu_model.specs.declared.jobs.CellRef.{CellRef}
 use Rattle.flu_model.specs.declared.jobs.Family.{Family}
 use Rattle.flu_model.specs.declared.jobs.Kind.{Kind}
@@ -19,7 +20,7 @@ use Rattle.flu_model.specs.declared.jobs.Program.{Program}
 use Rattle.flu_model.specs.declared.jobs.Source.{Source}
 use Rattle.flu_model.specs.declared.jobs.TagRef.{TagRef}
 use Rattle.flu_model.specs.Contents.{key_count}
-use Rattle.flu_model.specs.Expressions.{cell_of, key_of}
+use Rattle.flu_model.specs.Expressions.{item_of, key_of, cell_of}
 use Rattle.flu_model.specs.Itags.{itags, tag_of_itag}
 use Rattle.flu_model.specs.Listing.{tag, listed_keys, listed_tags, tags_of_source, itags_of_sources}
 use Rattle.flu_model.specs.Rules.{keys_fit, listed_kind_fits, tag_ref_fits, source_fits, are_sources, key_fits, family_fits, ref_fits}
@@ -67,22 +68,32 @@ one_below (t ∷ ts) (suc i) e = one_below ts i (and_right (is_below t.0) _ e)
 pub key_in_range : (p : Program) (i : Itag) → nat_lt (tag_of_itag p i).key key_count ≡ true
 key_in_range p i = one_below (itags p) i.0 (sources_below p.kinds 0 p.sources p.sources_fit)
 
+-- ---- items
+pub item_in_range : (x : Event) → nat_lt (item_of x) key_count ≡ true
+item_in_range x =
+    elim (nat_lt x.item key_count) as (λ b. nat_lt x.item key_count ≡ b → nat_lt (cond b x.item 0) key_count ≡ true) [
+      | true ↦ λ e. e
+      | false ↦ λ e. refl
+    ] refl
+
 -- ---- references
-key_is_there : (keyed own : Bool) (at : At) (key : ℕ) → nat_lt key key_count ≡ true → key_fits keyed own at ≡ true
-    → ((keyed && nat_lt (key_of at key) key_count) || (not keyed && (key_of at key == 0))) ≡ true
-key_is_there true own Alone key lt e = cc
-key_is_there false own Alone key lt e = refl
-key_is_there true own OwnKey key lt e = or_left _ _ lt
-key_is_there false own OwnKey key lt e = cc
-key_is_there true own (Fixed k) key lt e = or_left _ _ e
-key_is_there false own (Fixed k) key lt e = cc
+key_is_there : (keyed own : Bool) (at : At) (key item : ℕ) → nat_lt key key_count ≡ true → nat_lt item key_count ≡ true → key_fits keyed own at ≡ true
+    → ((keyed && nat_lt (key_of at key item) key_count) || (not keyed && (key_of at key item == 0))) ≡ true
+key_is_there true own Alone key item lt in_items e = cc
+key_is_there false own Alone key item lt in_items e = refl
+key_is_there true own OwnKey key item lt in_items e = or_left _ _ lt
+key_is_there false own OwnKey key item lt in_items e = cc
+key_is_there true own OwnItem key item lt in_items e = or_left _ _ in_items
+key_is_there false own OwnItem key item lt in_items e = cc
+key_is_there true own (Fixed k) key item lt in_items e = or_left _ _ e
+key_is_there false own (Fixed k) key item lt in_items e = cc
 
-in_family : (o : Option Family) (own : Bool) (at : At) (key : ℕ) → nat_lt key key_count ≡ true → family_fits o own at ≡ true
-    → key_is_in o (key_of at key) ≡ true
-in_family None own at key lt e = cc
-in_family (Some f) own at key lt e = key_is_there f.keyed own at key lt e
+in_family : (o : Option Family) (own : Bool) (at : At) (key item : ℕ) → nat_lt key key_count ≡ true → nat_lt item key_count ≡ true
+    → family_fits o own at ≡ true → key_is_in o (key_of at key item) ≡ true
+in_family None own at key item lt in_items e = cc
+in_family (Some f) own at key item lt in_items e = key_is_there f.keyed own at key item lt in_items e
 
--- a reference that fits means a cell of the job, for each tag
-pub cell_is_there : (families : List Family) (keyed : Bool) (r : CellRef) (key : ℕ) → nat_lt key key_count ≡ true → ref_fits families keyed r ≡ true
-    → is_cell_of families (cell_of r key) ≡ true
-cell_is_there families keyed r key lt e = in_family (slice_get families r.family) keyed r.at key lt e
+-- a reference that fits means a cell of the job, for each tag and each event
+pub cell_is_there : (families : List Family) (keyed : Bool) (r : CellRef) (key : ℕ) (x : Event) → nat_lt key key_count ≡ true
+    → ref_fits families keyed r ≡ true → is_cell_of families (cell_of r key (item_of x)) ≡ true
+cell_is_there families keyed r key x lt e = in_family (slice_get families r.family) keyed r.at key (item_of x) lt (item_in_range x) e

@@ -1,34 +1,34 @@
 -- An accepted job is lawful, and acceptance is that uses of one cell are dependent.
-use Rattle.std.proofs.Common.{◌≡◌, ℤ, true, false, Option, Some, None, refl, sym, ap, ◌∙◌}
+use Rattle.std.proofs.Common.{◌≡◌, ℤ, true, false, Option, Some, None, refl, sym, ap, subst, ◌∙◌}
 use Rattle.std.specs.Prelude.{slice_get}
 use Rattle.flu_model.specs.declared.events.Cell.{Cell}
 use Rattle.flu_model.specs.declared.events.Event.{Event}
-use Rattle.flu_model.specs.declared.events.Itag.{Itag}
 use Rattle.flu_model.specs.declared.events.Tag.{Tag}
 use Rattle.flu_model.specs.declared.events.Worth.{Worth}
 use Rattle.flu_model.specs.declared.jobs.Program.{Program}
 use Rattle.flu_model.specs.declared.jobs.Sort.TheVariants.{Sum as SumSort, Max as MaxSort}
 use Rattle.flu_model.specs.declared.modes.Mode.{Mode}
 use Rattle.flu_model.specs.declared.modes.Mode.TheVariants.{None as NoMode, Add as AddMode, Raise as RaiseMode, Read as ReadMode, Own}
-use Rattle.flu_model.specs.Contents.{Contents, added, raised, joined_worth}
+use Rattle.flu_model.specs.Contents.{Contents, added, joined_worth}
 use Rattle.flu_model.specs.Itags.{tag_of_itag, is_dependent}
 use Rattle.flu_model.specs.Updates.{effect_of, actions_of}
 use Rattle.flu_model.specs.Rules.{has_sort}
 use Rattle.flu_model.specs.Modes.{mode_of, modes_conflict, IsAccepted}
-use Rattle.flu_model.specs.Sorts.{is_cell_of, MayHold, IsStateOf}
+use Rattle.flu_model.specs.Sorts.{MayHold, IsStateOf}
 use Rattle.flu_laws.specs.Uses.{needs, writes, mixes, mode_at}
 use Rattle.flu_laws.specs.Changes.{applied, reach, level_reached, amount_added, change_by}
 use Rattle.flu_laws.specs.Lawful.{UsesAreDependent, AcceptanceByUses, amount_of, AcceptedIsLawful}
 use Rattle.flu_laws.specs.Updating.{ChangesKeepSorts, ChangesMix}
 use Rattle.flu_laws.proofs.Algebra.{joined-none, joined_sums-comm, joined_sums-assoc, joined_maxima-comm, joined_maxima-assoc}
-use Rattle.flu_laws.proofs.Algebra.{added-holds, added-mixes, raised-holds, raised-mixes, joined_family}
+use Rattle.flu_laws.proofs.Algebra.{added-mixes, raised-mixes, joined_family}
+use Rattle.flu_laws.proofs.Amounts.{amount_may, level_may}
 use Rattle.flu_laws.proofs.Changing.{keeps}
 use Rattle.flu_laws.proofs.Keys.{key_in_range}
 use Rattle.flu_laws.proofs.Programs.{found_fits}
-use Rattle.flu_laws.proofs.SortLemmas.{adds-sort, raises-sort, adds-there, raises-there, not_sum_and_max}
+use Rattle.flu_laws.proofs.SortLemmas.{adds-sort, raises-sort, not_sum_and_max}
 use Rattle.flu_laws.proofs.Updating.{texts_are_local, cells_are_local, changes_are_local, updates_are_changes, keeps_sorts}
 use Rattle.flu_laws.proofs.Uses.{quiet_among, sums_among, maxima_among, uses_conflict, dependent_turns}
-use Rattle.flu_laws.proofs.Values.{HoldsSort, holds_sort, may_hold}
+use Rattle.flu_laws.proofs.Values.{HoldsSort, holds_sort}
 
 -- ---- the sorts of the cells that a tag mixes into
 pub added_sort : (p : Program) (t : Tag) (c : Cell) → mode_of p t c ≡ AddMode → has_sort (slice_get p.families c.family) SumSort ≡ true
@@ -43,20 +43,22 @@ raised_sort p t c e =
     let all = actions_of (slice_get p.kinds t.kind) in
     raises-sort p.families found.0 found.1.0 t.key c all found.1.1 (maxima_among p.version all t.key c e).2
 
--- and they are cells of their families
-pub added_there : (p : Program) (i : Itag) (c : Cell) → mode_of p (tag_of_itag p i) c ≡ AddMode → is_cell_of p.families c ≡ true
-added_there p i c e =
-    let t : Tag = tag_of_itag p i in
-    let found = found_fits p.families p.kinds t.kind p.kinds_fit in
-    let all = actions_of (slice_get p.kinds t.kind) in
-    adds-there p.families found.0 found.1.0 t.key c all (key_in_range p i) found.1.1 (sums_among p.version all t.key c e).1
+-- and what it mixes into a neutral one is what this may hold
+pub added_may : (p : Program) (s : Contents) (x : Event) (c : Cell) → mode_at p x c ≡ AddMode
+    → (let g : Tag = tag_of_itag p x.itag in MayHold p.families c
+    (added None (amount_added p.families (actions_of (slice_get p.kinds g.kind)) s x g.key c)))
+added_may p s x c e =
+    let g : Tag = tag_of_itag p x.itag in
+    let found = found_fits p.families p.kinds g.kind p.kinds_fit in
+    amount_may p.families found.0 found.1.0 x g.key c (key_in_range p x.itag) (actions_of (slice_get p.kinds g.kind)) s found.1.1 (added_sort p g c e)
 
-pub raised_there : (p : Program) (i : Itag) (c : Cell) → mode_of p (tag_of_itag p i) c ≡ RaiseMode → is_cell_of p.families c ≡ true
-raised_there p i c e =
-    let t : Tag = tag_of_itag p i in
-    let found = found_fits p.families p.kinds t.kind p.kinds_fit in
-    let all = actions_of (slice_get p.kinds t.kind) in
-    raises-there p.families found.0 found.1.0 t.key c all (key_in_range p i) found.1.1 (maxima_among p.version all t.key c e).2
+pub raised_may : (p : Program) (s : Contents) (x : Event) (c : Cell) → mode_at p x c ≡ RaiseMode
+    → (let g : Tag = tag_of_itag p x.itag in MayHold p.families c
+    (applied (reach (level_reached p.families (actions_of (slice_get p.kinds g.kind)) s x g.key c)) None))
+raised_may p s x c e =
+    let g : Tag = tag_of_itag p x.itag in
+    let found = found_fits p.families p.kinds g.kind p.kinds_fit in
+    level_may p.families found.0 found.1.0 x g.key c (key_in_range p x.itag) (actions_of (slice_get p.kinds g.kind)) s found.1.1 (raised_sort p g c e)
 
 -- ---- acceptance
 accepted_uses : (p : Program) → IsAccepted p → UsesAreDependent p
@@ -137,12 +139,6 @@ next_leaves p s x c quiet =
     keeps p.families x g.key c (actions_of (slice_get p.kinds g.kind)) s idle.0 idle.1 idle.2
 
 -- ---- changes of one cell
-reach_keeps : (p : Program) (c : Cell) (l : Option ℤ) (w : Option Worth) → has_sort (slice_get p.families c.family) MaxSort ≡ true
-    → is_cell_of p.families c ≡ true
-    → MayHold p.families c w → MayHold p.families c (applied (reach l) w)
-reach_keeps p c None w sort there h = h
-reach_keeps p c (Some v) w sort there h = may_hold p.families c MaxSort (raised w v) sort there (raised-holds w v (holds_sort p.families c MaxSort w sort h))
-
 pub changes_keep_sorts : ChangesKeepSorts
 changes_keep_sorts p s x c w sorted holds = at_mode (mode_at p x c) refl
   where
@@ -152,10 +148,13 @@ changes_keep_sorts p s x c w sorted holds = at_mode (mode_at p x c) refl
     at_mode AddMode e =
         let g : Tag = tag_of_itag p x.itag in
         let n : ℤ = amount_added p.families (actions_of (slice_get p.kinds g.kind)) s x g.key c in
-        may_hold p.families c SumSort (added w n) (added_sort p g c e) (added_there p x.itag c e) (added-holds w n)
+        subst (MayHold p.families c) (sym (added-mixes w n (holds_sort p.families c SumSort w (added_sort p g c e) holds)))
+        (joined_family p.families c w (added None n) holds (added_may p s x c e))
     at_mode RaiseMode e =
         let g : Tag = tag_of_itag p x.itag in
-        reach_keeps p c (level_reached p.families (actions_of (slice_get p.kinds g.kind)) s x g.key c) w (raised_sort p g c e) (raised_there p x.itag c e) holds
+        let l : Option ℤ = level_reached p.families (actions_of (slice_get p.kinds g.kind)) s x g.key c in
+        subst (MayHold p.families c) (sym (reach_mixes l w (holds_sort p.families c MaxSort w (raised_sort p g c e) holds)))
+        (joined_family p.families c w (applied (reach l) None) holds (raised_may p s x c e))
     at_mode ReadMode e = holds
     at_mode Own e = keeps_sorts p s x sorted c
 
@@ -195,13 +194,8 @@ amount_holds p s x c mix = at_mode (mode_at p x c) refl mix
         → (let g : Tag = tag_of_itag p x.itag in MayHold p.families c
         (applied (change_by p.families m (actions_of (slice_get p.kinds g.kind)) s x g.key c) None))
     at_mode NoMode e h = cc
-    at_mode AddMode e h =
-        let g : Tag = tag_of_itag p x.itag in
-        let n : ℤ = amount_added p.families (actions_of (slice_get p.kinds g.kind)) s x g.key c in
-        may_hold p.families c SumSort (added None n) (added_sort p g c e) (added_there p x.itag c e) (added-holds None n)
-    at_mode RaiseMode e h =
-        let g : Tag = tag_of_itag p x.itag in
-        reach_keeps p c (level_reached p.families (actions_of (slice_get p.kinds g.kind)) s x g.key c) None (raised_sort p g c e) (raised_there p x.itag c e) tt
+    at_mode AddMode e h = added_may p s x c e
+    at_mode RaiseMode e h = raised_may p s x c e
     at_mode ReadMode e h = cc
     at_mode Own e h = cc
 

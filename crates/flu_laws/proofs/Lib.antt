@@ -4,6 +4,7 @@ pub mod Keys
 pub mod Algebra
 pub mod Locality
 pub mod Changing
+pub mod Amounts
 pub mod SortLemmas
 pub mod Programs
 pub mod Uses

@@ -10,36 +10,42 @@ use Rattle.flu_model.specs.declared.events.Worth.{Worth}
 use Rattle.flu_model.specs.declared.events.Worth.TheVariants.{Last}
 use Rattle.flu_model.specs.declared.jobs.Family.{Family}
 use Rattle.flu_model.specs.declared.jobs.Piece.{Piece}
-use Rattle.flu_model.specs.declared.jobs.Piece.TheVariants.{Plain, Value as ValueField, Key as KeyField, Time as TimeField, Read as ReadField, CellValue}
+use Rattle.flu_model.specs.declared.jobs.Piece.TheVariants.{Plain, Value as ValueField, Key as KeyField, Item as ItemField, Time as TimeField}
+use Rattle.flu_model.specs.declared.jobs.Piece.TheVariants.{Read as ReadField, CellValue, FamilyCell}
 use Rattle.flu_model.specs.declared.jobs.Act.{Act}
-use Rattle.flu_model.specs.declared.jobs.Act.TheVariants.{Add, Raise, Set, Clear, Emit, Flush}
+use Rattle.flu_model.specs.declared.jobs.Act.TheVariants.{Add, Raise, Set, Clear, ClearFamily, Emit, Flush}
 use Rattle.flu_model.specs.declared.jobs.Action.{Action}
 use Rattle.flu_model.specs.Contents.{Contents, cell, is_same_cell, with_worth, added, raised, held_keys, all_keys}
-use Rattle.flu_model.specs.Expressions.{cell_of, value_of_expr}
-use Rattle.flu_model.specs.Texts.{pieces_text, piece_text}
+use Rattle.flu_model.specs.Expressions.{item_of, cell_of, value_of_expr}
+use Rattle.flu_model.specs.Texts.{neutral_of, worth_text, key_in, pieces_text, piece_text}
 use Rattle.flu_model.specs.Updates.{changes_to, effect_of_act, effect_of_action, effect_of_actions, passes_guard}
 use Rattle.flu_model.specs.Rules.{act_fits, action_fits, flush_piece_fits, flush_template_fits, are_apart, is_keyed}
-use Rattle.flu_model.specs.Modes.{means, guard_reads}
-use Rattle.flu_laws.specs.Changes.{amount_of_act, amount_added, level_of_act, level_reached, higher}
+use Rattle.flu_model.specs.Modes.{means, guard_reads, piece_reads}
+use Rattle.flu_laws.specs.Changes.{hits, amount_of_act, amount_added, level_of_act, level_reached, higher}
 use Rattle.flu_lemmas.proofs.Tests.{and_left, and_right}
 use Rattle.flu_lemmas.proofs.Numbers.{same_number}
 use Rattle.flu_laws.proofs.Reading.{Agree, act_needs, action_needs, value-agree, guard-agree, pieces-agree}
 
--- the templates of a flush read no cell by name
-flush_piece-agree : (families : List Family) (q : Piece) (v : Bool) (s t : Contents) (x : Event) (k : ℕ) (h : Option Worth) → flush_piece_fits v q ≡ true
-    → piece_text families q s x k h ≡ piece_text families q t x k h
-flush_piece-agree families (Plain u) v s t x k h fits = refl
-flush_piece-agree families ValueField v s t x k h fits = refl
-flush_piece-agree families KeyField v s t x k h fits = refl
-flush_piece-agree families TimeField v s t x k h fits = refl
-flush_piece-agree families (ReadField r) v s t x k h fits = cc
-flush_piece-agree families CellValue v s t x k h fits = refl
+-- the templates of a flush read no cell by name, but whole other families, at whatever key is flushed; `own` is the key of the tag
+flush_piece-agree : (families : List Family) (f own : ℕ) (q : Piece) (v : Bool) (s t : Contents) (x : Event) (k : ℕ) (h : Option Worth)
+    → flush_piece_fits families f v q ≡ true → Agree (λ c. piece_reads own c q) s t → piece_text families q s x k h ≡ piece_text families q t x k h
+flush_piece-agree families f own (Plain u) v s t x k h fits same = refl
+flush_piece-agree families f own ValueField v s t x k h fits same = refl
+flush_piece-agree families f own KeyField v s t x k h fits same = refl
+flush_piece-agree families f own ItemField v s t x k h fits same = refl
+flush_piece-agree families f own TimeField v s t x k h fits same = refl
+flush_piece-agree families f own (ReadField r) v s t x k h fits same = cc
+flush_piece-agree families f own CellValue v s t x k h fits same = refl
+flush_piece-agree families f own (FamilyCell g) v s t x k h fits same =
+    ap (worth_text (neutral_of (slice_get families g))) (same (cell g (key_in (slice_get families g) k)) (same_number g))
 
-flush_pieces-agree : (families : List Family) (qs : List Piece) (v : Bool) (s t : Contents) (x : Event) (k : ℕ) (h : Option Worth)
-    → list_all (flush_piece_fits v) qs ≡ true → pieces_text families qs s x k h ≡ pieces_text families qs t x k h
-flush_pieces-agree families [] v s t x k h fits = refl
-flush_pieces-agree families (q ∷ qs) v s t x k h fits =
-    λ i. flush_piece-agree families q v s t x k h (and_left _ _ fits) i ++ flush_pieces-agree families qs v s t x k h (and_right _ _ fits) i
+flush_pieces-agree : (families : List Family) (f own : ℕ) (qs : List Piece) (v : Bool) (s t : Contents) (x : Event) (k : ℕ) (h : Option Worth)
+    → list_all (flush_piece_fits families f v) qs ≡ true → Agree (λ c. list_any (piece_reads own c) qs) s t
+    → pieces_text families qs s x k h ≡ pieces_text families qs t x k h
+flush_pieces-agree families f own [] v s t x k h fits same = refl
+flush_pieces-agree families f own (q ∷ qs) v s t x k h fits same =
+    λ i. flush_piece-agree families f own q v s t x k h (and_left _ _ fits) (λ c r. same c (or_left _ _ r)) i
+    ++ flush_pieces-agree families f own qs v s t x k h (and_right _ _ fits) (λ c r. same c (or_right (piece_reads own c q) _ r)) i
 
 -- the cells of a family, by key
 abbrev row : Contents → ℕ → ℕ → Option Worth
@@ -68,27 +74,30 @@ module _ (families : List Family) (keyed has_value : Bool) (x : Event) (key : �
   act_texts-agree (Raise r e) s t fits same = refl
   act_texts-agree (Set r e) s t fits same = refl
   act_texts-agree (Clear r) s t fits same = refl
+  act_texts-agree (ClearFamily f) s t fits same = refl
   act_texts-agree (Emit qs) s t fits same = ap (λ u. u ∷ []) (pieces-agree families qs s t x key None same)
   act_texts-agree (Flush f qs) s t fits same =
       let rows : row s f ≡ row t f = row-agree s t f (family-agree f qs s t same) in
       let before : ℕ → List ℕ = λ k. pieces_text families qs s x k (s (cell f k)) in
       let after : ℕ → List ℕ = λ k. pieces_text families qs t x k (s (cell f k)) in
       let texts : before ≡ after =
-      (λ i k. flush_pieces-agree families qs has_value s t x k (s (cell f k))
-      (and_left _ _ (and_left (list_all (flush_piece_fits has_value) qs && are_apart qs) _
-      (and_right (is_keyed (slice_get families f)) (flush_template_fits families has_value qs) fits))) i) in
+      (λ i k. flush_pieces-agree families f key qs has_value s t x k (s (cell f k))
+      (and_left _ _ (and_left (list_all (flush_piece_fits families f has_value) qs && are_apart qs) _
+      (and_right (is_keyed (slice_get families f)) (flush_template_fits families f has_value qs) fits)))
+      (λ c r. same c (or_right (c.family == f) _ r)) i) in
       ap (λ g. map g (held_keys s f)) texts
       ∙ ap (λ (h : ℕ → Option Worth). map (λ k. pieces_text families qs t x k (h k)) (filter (λ k. is_some (h k)) all_keys)) rows
 
   pub act_cells-agree : (a : Act) (s t : Contents) → Agree (λ c. act_needs key c a) s t → (c : Cell) → s c ≡ t c
       → (effect_of_act families a s x key).cells c ≡ (effect_of_act families a t x key).cells c
-  act_cells-agree (Add r e) s t same c here = changed-agree s t c (cell_of r key) (λ w. added w (value_of_expr e s x key))
+  act_cells-agree (Add r e) s t same c here = changed-agree s t c (cell_of r key (item_of x)) (λ w. added w (value_of_expr e s x key))
       (λ w. added w (value_of_expr e t x key)) here (λ w. ap (added w) (value-agree e s t x key same))
-  act_cells-agree (Raise r e) s t same c here = changed-agree s t c (cell_of r key) (λ w. raised w (value_of_expr e s x key))
+  act_cells-agree (Raise r e) s t same c here = changed-agree s t c (cell_of r key (item_of x)) (λ w. raised w (value_of_expr e s x key))
       (λ w. raised w (value_of_expr e t x key)) here (λ w. ap (raised w) (value-agree e s t x key same))
-  act_cells-agree (Set r e) s t same c here = λ i. cond (is_same_cell c (cell_of r key))
+  act_cells-agree (Set r e) s t same c here = λ i. cond (is_same_cell c (cell_of r key (item_of x)))
       (Some (Last (value-agree e s t x key (λ d h. same d (or_right (means key d r) _ h)) i))) (here i)
-  act_cells-agree (Clear r) s t same c here = λ i. cond (is_same_cell c (cell_of r key)) None (here i)
+  act_cells-agree (Clear r) s t same c here = λ i. cond (is_same_cell c (cell_of r key (item_of x))) None (here i)
+  act_cells-agree (ClearFamily f) s t same c here = λ i. cond (c.family == f) None (here i)
   act_cells-agree (Emit qs) s t same c here = here
   act_cells-agree (Flush f qs) s t same c here = λ i. cond (c.family == f) None (here i)
 
@@ -140,18 +149,20 @@ module _ (families : List Family) (keyed has_value : Bool) (x : Event) (key : �
 
   -- ---- amounts
   act_amount-agree : (a : Act) (s t : Contents) (c : Cell) → Agree (λ d. act_needs key d a) s t → amount_of_act a s x key c ≡ amount_of_act a t x key c
-  act_amount-agree (Add r e) s t c same = ap (λ v. cond (means key c r) v (pos 0)) (value-agree e s t x key same)
+  act_amount-agree (Add r e) s t c same = ap (λ v. cond (hits x key c r) v (pos 0)) (value-agree e s t x key same)
   act_amount-agree (Raise r e) s t c same = refl
   act_amount-agree (Set r e) s t c same = refl
   act_amount-agree (Clear r) s t c same = refl
+  act_amount-agree (ClearFamily f) s t c same = refl
   act_amount-agree (Emit qs) s t c same = refl
   act_amount-agree (Flush f qs) s t c same = refl
 
   act_level-agree : (a : Act) (s t : Contents) (c : Cell) → Agree (λ d. act_needs key d a) s t → level_of_act a s x key c ≡ level_of_act a t x key c
   act_level-agree (Add r e) s t c same = refl
-  act_level-agree (Raise r e) s t c same = ap (λ v. cond (means key c r) (Some v) None) (value-agree e s t x key same)
+  act_level-agree (Raise r e) s t c same = ap (λ v. cond (hits x key c r) (Some v) None) (value-agree e s t x key same)
   act_level-agree (Set r e) s t c same = refl
   act_level-agree (Clear r) s t c same = refl
+  act_level-agree (ClearFamily f) s t c same = refl
   act_level-agree (Emit qs) s t c same = refl
   act_level-agree (Flush f qs) s t c same = refl
 

@@ -1,29 +1,24 @@
 -- A cell that a job's actions add to or raise is of a family of that sort.
 use Rattle.std.proofs.Common.{◌≡◌, ℕ, Bool, true, false, Option, Some, None, List, sym, ap, ◌∙◌}
-use Rattle.std.specs.Prelude.{nat_lt, slice_get}
+use Rattle.std.specs.Prelude.{◌==◌, slice_get}
 use Rattle.std.specs.List.{list_any, list_all}
-use Rattle.flu_lemmas.proofs.TwoNumbers.{made_alike}
 use Rattle.flu_model.specs.declared.events.Cell.{Cell}
 use Rattle.flu_model.specs.declared.jobs.Sort.{Sort}
 use Rattle.flu_model.specs.declared.jobs.Sort.TheVariants.{Sum as SumSort, Max as MaxSort, Last as LastSort}
 use Rattle.flu_model.specs.declared.jobs.Family.{Family}
 use Rattle.flu_model.specs.declared.jobs.CellRef.{CellRef}
 use Rattle.flu_model.specs.declared.jobs.Act.{Act}
-use Rattle.flu_model.specs.declared.jobs.Act.TheVariants.{Add, Raise, Set, Clear, Emit, Flush}
+use Rattle.flu_model.specs.declared.jobs.Act.TheVariants.{Add, Raise, Set, Clear, ClearFamily, Emit, Flush}
 use Rattle.flu_model.specs.declared.jobs.Action.{Action}
-use Rattle.flu_model.specs.Contents.{cell, key_count}
-use Rattle.flu_model.specs.Expressions.{cell_of}
-use Rattle.flu_model.specs.Sorts.{is_cell_of}
-use Rattle.flu_model.specs.Rules.{has_sort, is_sort, ref_fits, act_fits, action_fits}
+use Rattle.flu_model.specs.Rules.{has_sort, is_sort, act_fits, action_fits}
 use Rattle.flu_model.specs.Modes.{means, act_adds, act_raises}
 use Rattle.flu_lemmas.proofs.Elements.{from_any}
-use Rattle.flu_lemmas.proofs.Tests.{and_left, and_right, false_if_not}
-use Rattle.flu_laws.proofs.Keys.{cell_is_there}
+use Rattle.flu_lemmas.proofs.Tests.{and_left, and_right, true_eq, false_if_not}
 
 meant_sort : (families : List Family) (key : ℕ) (c : Cell) (r : CellRef) (sort : Sort) → means key c r ≡ true
     → has_sort (slice_get families r.family) sort ≡ true → has_sort (slice_get families c.family) sort ≡ true
 meant_sort families key c r sort m e =
-    ap (λ (d : Cell). has_sort (slice_get families d.family) sort) (sym (made_alike cell (cell_of r key).family (cell_of r key).key c.family c.key m)) ∙ e
+    ap (λ f. has_sort (slice_get families f) sort) (sym (true_eq r.family c.family (and_left (r.family == c.family) _ m))) ∙ e
 
 act_adds-sort : (families : List Family) (keyed has_value : Bool) (key : ℕ) (c : Cell) (a : Act) → act_fits families keyed has_value a ≡ true
     → act_adds key c a ≡ true → has_sort (slice_get families c.family) SumSort ≡ true
@@ -31,6 +26,7 @@ act_adds-sort families keyed has_value key c (Add r e) fits m = meant_sort famil
 act_adds-sort families keyed has_value key c (Raise r e) fits m = cc
 act_adds-sort families keyed has_value key c (Set r e) fits m = cc
 act_adds-sort families keyed has_value key c (Clear r) fits m = cc
+act_adds-sort families keyed has_value key c (ClearFamily f) fits m = cc
 act_adds-sort families keyed has_value key c (Emit qs) fits m = cc
 act_adds-sort families keyed has_value key c (Flush f qs) fits m = cc
 
@@ -40,6 +36,7 @@ act_raises-sort families keyed has_value key c (Add r e) fits m = cc
 act_raises-sort families keyed has_value key c (Raise r e) fits m = meant_sort families key c r MaxSort m (and_right _ _ (and_left _ _ fits))
 act_raises-sort families keyed has_value key c (Set r e) fits m = cc
 act_raises-sort families keyed has_value key c (Clear r) fits m = cc
+act_raises-sort families keyed has_value key c (ClearFamily f) fits m = cc
 act_raises-sort families keyed has_value key c (Emit qs) fits m = cc
 act_raises-sort families keyed has_value key c (Flush f qs) fits m = cc
 
@@ -56,42 +53,6 @@ pub raises-sort : (families : List Family) (keyed has_value : Bool) (key : ℕ) 
 raises-sort families keyed has_value key c all fits any =
     from_any (action_fits families keyed has_value) (λ (a : Action). act_raises key c a.act) all fits any
     (λ a f m. act_raises-sort families keyed has_value key c a.act (and_left _ _ f) m)
-
--- such a cell is one of its family, for a key in range
-meant_is_there : (families : List Family) (keyed : Bool) (key : ℕ) (c : Cell) (r : CellRef) → nat_lt key key_count ≡ true
-    → means key c r ≡ true → ref_fits families keyed r ≡ true → is_cell_of families c ≡ true
-meant_is_there families keyed key c r lt m e = ap (is_cell_of families) (sym (made_alike cell (cell_of r key).family (cell_of r key).key c.family c.key m))
-    ∙ cell_is_there families keyed r key lt e
-
-act_adds-there : (families : List Family) (keyed has_value : Bool) (key : ℕ) (c : Cell) (a : Act) → nat_lt key key_count ≡ true
-    → act_fits families keyed has_value a ≡ true → act_adds key c a ≡ true → is_cell_of families c ≡ true
-act_adds-there families keyed has_value key c (Add r e) lt fits m = meant_is_there families keyed key c r lt m (and_left _ _ (and_left _ _ fits))
-act_adds-there families keyed has_value key c (Raise r e) lt fits m = cc
-act_adds-there families keyed has_value key c (Set r e) lt fits m = cc
-act_adds-there families keyed has_value key c (Clear r) lt fits m = cc
-act_adds-there families keyed has_value key c (Emit qs) lt fits m = cc
-act_adds-there families keyed has_value key c (Flush f qs) lt fits m = cc
-
-act_raises-there : (families : List Family) (keyed has_value : Bool) (key : ℕ) (c : Cell) (a : Act) → nat_lt key key_count ≡ true
-    → act_fits families keyed has_value a ≡ true → act_raises key c a ≡ true → is_cell_of families c ≡ true
-act_raises-there families keyed has_value key c (Add r e) lt fits m = cc
-act_raises-there families keyed has_value key c (Raise r e) lt fits m = meant_is_there families keyed key c r lt m (and_left _ _ (and_left _ _ fits))
-act_raises-there families keyed has_value key c (Set r e) lt fits m = cc
-act_raises-there families keyed has_value key c (Clear r) lt fits m = cc
-act_raises-there families keyed has_value key c (Emit qs) lt fits m = cc
-act_raises-there families keyed has_value key c (Flush f qs) lt fits m = cc
-
-pub adds-there : (families : List Family) (keyed has_value : Bool) (key : ℕ) (c : Cell) (all : List Action) → nat_lt key key_count ≡ true
-    → list_all (action_fits families keyed has_value) all ≡ true → list_any (λ (a : Action). act_adds key c a.act) all ≡ true → is_cell_of families c ≡ true
-adds-there families keyed has_value key c all lt fits any =
-    from_any (action_fits families keyed has_value) (λ (a : Action). act_adds key c a.act) all fits any
-    (λ a f m. act_adds-there families keyed has_value key c a.act lt (and_left _ _ f) m)
-
-pub raises-there : (families : List Family) (keyed has_value : Bool) (key : ℕ) (c : Cell) (all : List Action) → nat_lt key key_count ≡ true
-    → list_all (action_fits families keyed has_value) all ≡ true → list_any (λ (a : Action). act_raises key c a.act) all ≡ true → is_cell_of families c ≡ true
-raises-there families keyed has_value key c all lt fits any =
-    from_any (action_fits families keyed has_value) (λ (a : Action). act_raises key c a.act) all fits any
-    (λ a f m. act_raises-there families keyed has_value key c a.act lt (and_left _ _ f) m)
 
 -- no family is both of sums and of maxima
 pub not_sum_and_max : (o : Option Family) → has_sort o SumSort ≡ true → has_sort o MaxSort ≡ true → ⊥

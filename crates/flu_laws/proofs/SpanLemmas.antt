@@ -1,5 +1,5 @@
 -- Spans add up over counts.
-use Rattle.std.proofs.Common.{inl, inr, ◌≡◌, ◌≤◌, ℕ, true, false, cond, ℤ, Option, Some, None, List, [], ◌∷◌, refl, sym, ap, ◌∙◌, arith}
+use Rattle.std.proofs.Common.{inl, inr, ◌≡◌, ◌≤◌, ℕ, true, false, cond, ℤ, Option, Some, None, List, [], ◌∷◌, refl, sym, ap, subst, ◌∙◌, arith}
 use Rattle.std.specs.Prelude.{nat_le, nat_lt, ◌&&◌, ◌⊎◌, slice_index, slice_get, ⊤}
 use Rattle.std.specs.List.{filter, AllByRecursion}
 use Rattle.std.proofs.lemmas.Grind.{common_steps}
@@ -17,14 +17,15 @@ use Rattle.flu_model.specs.Contents.{joined_worth, added, raised}
 use Rattle.flu_model.specs.Itags.{tag_of_itag}
 use Rattle.flu_model.specs.Rules.{has_sort}
 use Rattle.flu_model.specs.Updates.{actions_of}
-use Rattle.flu_model.specs.Sorts.{is_cell_of, MayHold}
+use Rattle.flu_model.specs.Sorts.{MayHold}
 use Rattle.flu_laws.specs.Uses.{needs, mode_at}
 use Rattle.flu_laws.specs.Changes.{Change, Keep, Put, Gain, Reach, applied, reach, level_reached, change_by}
 use Rattle.flu_laws.specs.Spans.{Moment, is_between, change_at, changed_by, AreAtMost, SpansAddUp}
 use Rattle.flu_laws.proofs.Algebra.{added-joined, added-holds, joined_sums-comm, raised-joined, raised-holds, joined_maxima-comm}
+use Rattle.flu_laws.proofs.Algebra.{added-mixes, raised-mixes, joined_family}
 use Rattle.std.proofs.lemmas.Bool.{and_left as and_false_left, and_right as and_false_right}
-use Rattle.flu_laws.proofs.Lawful.{added_sort, raised_sort, added_there, raised_there}
-use Rattle.flu_laws.proofs.Values.{HoldsSort, holds_sort, may_hold}
+use Rattle.flu_laws.proofs.Lawful.{added_sort, raised_sort, added_may, raised_may}
+use Rattle.flu_laws.proofs.Values.{HoldsSort, holds_sort}
 
 -- an index is in the first part, in the second, or in neither
 abbrev Parts : ℕ → ℕ → ℕ → ℕ → Type 0
@@ -59,15 +60,16 @@ parts i a b d ab bd =
 IsMix : List Family → Cell → Change → Type 0
 IsMix families c Keep = ⊤
 IsMix families c (Put w) = ⊥
-IsMix families c (Gain n) = (has_sort (slice_get families c.family) SumSort ≡ true) × (is_cell_of families c ≡ true)
-IsMix families c (Reach v) = (has_sort (slice_get families c.family) MaxSort ≡ true) × (is_cell_of families c ≡ true)
+IsMix families c (Gain n) = (has_sort (slice_get families c.family) SumSort ≡ true) × MayHold families c (added None n)
+IsMix families c (Reach v) = (has_sort (slice_get families c.family) MaxSort ≡ true) × MayHold families c (raised None v)
 
 -- an event that does not need the cell mixes into it, if anything
 is_mix : (p : Program) (c : Cell) (m : Moment) → needs (mode_at p m.event c) ≡ false → IsMix p.families c (change_at p c m)
 unfolding IsMix
 is_mix p c m quiet = at_mode (mode_at p m.event c) refl quiet
   where
-    reached : (l : Option ℤ) → (has_sort (slice_get p.families c.family) MaxSort ≡ true) × (is_cell_of p.families c ≡ true) → IsMix p.families c (reach l)
+    reached : (l : Option ℤ) → (has_sort (slice_get p.families c.family) MaxSort ≡ true) × MayHold p.families c (applied (reach l) None)
+        → IsMix p.families c (reach l)
     reached None sort = tt
     reached (Some v) sort = sort
 
@@ -75,11 +77,11 @@ is_mix p c m quiet = at_mode (mode_at p m.event c) refl quiet
         → (let g : Tag = tag_of_itag p m.event.itag in IsMix p.families c
         (change_by p.families n (actions_of (slice_get p.kinds g.kind)) m.before m.event g.key c))
     at_mode NoMode e q = tt
-    at_mode AddMode e q = (added_sort p (tag_of_itag p m.event.itag) c e, added_there p m.event.itag c e)
+    at_mode AddMode e q = (added_sort p (tag_of_itag p m.event.itag) c e, added_may p m.before m.event c e)
     at_mode RaiseMode e q =
         let g : Tag = tag_of_itag p m.event.itag in
         reached (level_reached p.families (actions_of (slice_get p.kinds g.kind)) m.before m.event g.key c)
-        (raised_sort p g c e, raised_there p m.event.itag c e)
+        (raised_sort p g c e, raised_may p m.before m.event c e)
     at_mode ReadMode e q = cc
     at_mode Own e q = cc
 
@@ -111,8 +113,10 @@ module _ (families : List Family) (c : Cell) where
   unfolding IsMix
   mix_holds Keep u g p = p
   mix_holds (Put w) u g p = absurd g
-  mix_holds (Gain n) u g p = may_hold families c SumSort (added u n) g.0 g.1 (added-holds u n)
-  mix_holds (Reach n) u g p = may_hold families c MaxSort (raised u n) g.0 g.1 (raised-holds u n (holds_sort families c MaxSort u g.0 p))
+  mix_holds (Gain n) u g p =
+      subst (MayHold families c) (sym (added-mixes u n (holds_sort families c SumSort u g.0 p))) (joined_family families c u (added None n) p g.1)
+  mix_holds (Reach n) u g p =
+      subst (MayHold families c) (sym (raised-mixes u n (holds_sort families c MaxSort u g.0 p))) (joined_family families c u (raised None n) p g.1)
 
 module _ (p : Program) (c : Cell) (a b d : List ℕ) (ab : AreAtMost a b) (bd : AreAtMost b d) where
   adds : (ms : List Moment) (u v : Option Worth) → AllByRecursion (λ m. is_between a d m ≡ true → needs (mode_at p m.event c) ≡ false) ms

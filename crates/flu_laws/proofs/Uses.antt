@@ -3,7 +3,7 @@ use Rattle.std.proofs.Common.{◌≡◌, ℕ, Bool, true, false, cond, List, ref
 use Rattle.std.specs.Prelude.{◌==◌, ◌||◌, ◌&&◌, not, slice_get}
 use Rattle.std.specs.List.{list_any}
 use Rattle.flu_lemmas.proofs.Searches.{list_any_within, list_any_or}
-use Rattle.flu_lemmas.proofs.Tests.{not_both, false_if_not}
+use Rattle.flu_lemmas.proofs.Tests.{not_both, true_eq, false_if_not}
 use Rattle.flu_model.specs.declared.events.Cell.{Cell}
 use Rattle.flu_model.specs.declared.events.Event.{Event}
 use Rattle.flu_model.specs.declared.events.Tag.{Tag}
@@ -15,7 +15,7 @@ use Rattle.flu_model.specs.declared.modes.Mode.TheVariants.{None as NoMode, Add 
 use Rattle.flu_model.specs.Contents.{Contents}
 use Rattle.flu_model.specs.Itags.{tag_of_itag, ties_tags, is_dependent}
 use Rattle.flu_model.specs.Updates.{actions_of}
-use Rattle.flu_model.specs.Modes.{mode_in_version_1, mode_in_version_2, mode_among, modes_conflict}
+use Rattle.flu_model.specs.Modes.{mode_in_version_1, mode_with_reads, mode_among, modes_conflict}
 use Rattle.flu_model.specs.Modes.{guard_reads, act_reads, action_reads, act_overwrites, act_adds, act_raises}
 use Rattle.flu_laws.specs.Uses.{needs, writes, AgreeOnNeeds, NeedsByActions, WritesByActions}
 use Rattle.flu_lemmas.proofs.Booleans.{or_turns}
@@ -26,25 +26,25 @@ use Rattle.flu_laws.proofs.Reading.{Agree, action_needs}
 
 -- as `mode_from`, with the test of the version made
 abbrev mode_where : Bool → Bool → Bool → Bool → Bool → Mode
-mode_where shared r o a m = cond shared (mode_in_version_2 r o a m) (mode_in_version_1 r o a m)
+mode_where first r o a m = cond first (mode_in_version_1 r o a m) (mode_with_reads r o a m)
 
-needs_where : (shared r o a m : Bool) → needs (mode_where shared r o a m) ≡ (r || o)
-needs_where true true true a m = refl
-needs_where true true false true m = refl
-needs_where true true false false true = refl
-needs_where true true false false false = refl
-needs_where true false true a m = refl
-needs_where true false false true m = refl
-needs_where true false false false true = refl
-needs_where true false false false false = refl
-needs_where false true o a m = refl
+needs_where : (first r o a m : Bool) → needs (mode_where first r o a m) ≡ (r || o)
+needs_where false true true a m = refl
+needs_where false true false true m = refl
+needs_where false true false false true = refl
+needs_where false true false false false = refl
 needs_where false false true a m = refl
 needs_where false false false true m = refl
 needs_where false false false false true = refl
 needs_where false false false false false = refl
+needs_where true true o a m = refl
+needs_where true false true a m = refl
+needs_where true false false true m = refl
+needs_where true false false false true = refl
+needs_where true false false false false = refl
 
--- in version 2
-writes_shared : (r o a m : Bool) → writes (mode_in_version_2 r o a m) ≡ (o || (a || m))
+-- in the versions after the first
+writes_shared : (r o a m : Bool) → writes (mode_with_reads r o a m) ≡ (o || (a || m))
 writes_shared true true a m = refl
 writes_shared true false true m = refl
 writes_shared true false false true = refl
@@ -57,66 +57,67 @@ writes_shared false false false false = refl
 pub needs_by_actions : NeedsByActions
 needs_by_actions p t c =
     let all = actions_of (slice_get p.kinds t.kind) in
-    needs_where (p.version == 2) (list_any (action_reads t.key c) all) (list_any (λ (a : Action). act_overwrites t.key c a.act) all)
+    needs_where (p.version == 1) (list_any (action_reads t.key c) all) (list_any (λ (a : Action). act_overwrites t.key c a.act) all)
     (list_any (λ (a : Action). act_adds t.key c a.act) all) (list_any (λ (a : Action). act_raises t.key c a.act) all)
 
 pub writes_by_actions : WritesByActions
-writes_by_actions p t c second =
+writes_by_actions p t c later =
     let all = actions_of (slice_get p.kinds t.kind) in
     let reads = list_any (action_reads t.key c) all in
     let overwrites = list_any (λ (a : Action). act_overwrites t.key c a.act) all in
     let adds = list_any (λ (a : Action). act_adds t.key c a.act) all in
     let raises = list_any (λ (a : Action). act_raises t.key c a.act) all in
-    ap (λ n. writes (mode_where (n == 2) reads overwrites adds raises)) second ∙ writes_shared reads overwrites adds raises
+    ap (λ b. writes (mode_where b reads overwrites adds raises)) (false_if_not (p.version == 1) (λ e. later (true_eq p.version 1 e)))
+    ∙ writes_shared reads overwrites adds raises
 
 -- no overwriting, adding and raising
 abbrev Quiet : Bool → Bool → Bool → Type 0
 Quiet o a m = (o ≡ false) × (a ≡ false) × (m ≡ false)
 
-quiet_where : (shared r o a m : Bool) → writes (mode_where shared r o a m) ≡ false → Quiet o a m
-quiet_where true true true a m e = cc
-quiet_where true true false true m e = cc
-quiet_where true true false false true e = cc
-quiet_where true true false false false e = (refl, refl, refl)
-quiet_where true false true a m e = cc
-quiet_where true false false true m e = cc
-quiet_where true false false false true e = cc
-quiet_where true false false false false e = (refl, refl, refl)
-quiet_where false true o a m e = cc
+quiet_where : (first r o a m : Bool) → writes (mode_where first r o a m) ≡ false → Quiet o a m
+quiet_where false true true a m e = cc
+quiet_where false true false true m e = cc
+quiet_where false true false false true e = cc
+quiet_where false true false false false e = (refl, refl, refl)
 quiet_where false false true a m e = cc
 quiet_where false false false true m e = cc
 quiet_where false false false false true e = cc
 quiet_where false false false false false e = (refl, refl, refl)
+quiet_where true true o a m e = cc
+quiet_where true false true a m e = cc
+quiet_where true false false true m e = cc
+quiet_where true false false false true e = cc
+quiet_where true false false false false e = (refl, refl, refl)
 
-sums_where : (shared r o a m : Bool) → mode_where shared r o a m ≡ AddMode → (o ≡ false) × (a ≡ true)
-sums_where true true true a m e = cc
-sums_where true true false true m e = cc
-sums_where true true false false true e = cc
-sums_where true true false false false e = cc
-sums_where true false true a m e = cc
-sums_where true false false true m e = (refl, refl)
-sums_where true false false false true e = cc
-sums_where true false false false false e = cc
-sums_where false true o a m e = cc
+sums_where : (first r o a m : Bool) → mode_where first r o a m ≡ AddMode → (o ≡ false) × (a ≡ true)
+sums_where false true true a m e = cc
+sums_where false true false true m e = cc
+sums_where false true false false true e = cc
+sums_where false true false false false e = cc
 sums_where false false true a m e = cc
 sums_where false false false true m e = (refl, refl)
 sums_where false false false false true e = cc
 sums_where false false false false false e = cc
+sums_where true true o a m e = cc
+sums_where true false true a m e = cc
+sums_where true false false true m e = (refl, refl)
+sums_where true false false false true e = cc
+sums_where true false false false false e = cc
 
-maxima_where : (shared r o a m : Bool) → mode_where shared r o a m ≡ RaiseMode → (o ≡ false) × (a ≡ false) × (m ≡ true)
-maxima_where true true true a m e = cc
-maxima_where true true false true m e = cc
-maxima_where true true false false true e = cc
-maxima_where true true false false false e = cc
-maxima_where true false true a m e = cc
-maxima_where true false false true m e = cc
-maxima_where true false false false true e = (refl, refl, refl)
-maxima_where true false false false false e = cc
-maxima_where false true o a m e = cc
+maxima_where : (first r o a m : Bool) → mode_where first r o a m ≡ RaiseMode → (o ≡ false) × (a ≡ false) × (m ≡ true)
+maxima_where false true true a m e = cc
+maxima_where false true false true m e = cc
+maxima_where false true false false true e = cc
+maxima_where false true false false false e = cc
 maxima_where false false true a m e = cc
 maxima_where false false false true m e = cc
 maxima_where false false false false true e = (refl, refl, refl)
 maxima_where false false false false false e = cc
+maxima_where true true o a m e = cc
+maxima_where true false true a m e = cc
+maxima_where true false false true m e = cc
+maxima_where true false false false true e = (refl, refl, refl)
+maxima_where true false false false false e = cc
 
 -- a guard reads, an act overwrites or reads
 regroup : (g o r : Bool) → (g || (o || r)) ≡ ((g || r) || o)
@@ -141,19 +142,19 @@ module _ (version : ℕ) (all : List Action) (key : ℕ) (c : Cell) where
 
   pub needs_among : needs (mode_among version all key c) ≡ list_any (action_needs key c) all
   needs_among =
-      needs_where (version == 2) reads overwrites adds raises
+      needs_where (version == 1) reads overwrites adds raises
       ∙ sym (list_any_within (action_needs key c) (λ a. action_reads key c a || act_overwrites key c a.act) all
       (λ a. regroup (guard_reads key c a.guard) (act_overwrites key c a.act) (act_reads key c a.act))
       ∙ list_any_or (action_reads key c) (λ a. act_overwrites key c a.act) all)
 
   pub quiet_among : writes (mode_among version all key c) ≡ false → (overwrites ≡ false) × (adds ≡ false) × (raises ≡ false)
-  quiet_among e = quiet_where (version == 2) reads overwrites adds raises e
+  quiet_among e = quiet_where (version == 1) reads overwrites adds raises e
 
   pub sums_among : mode_among version all key c ≡ AddMode → (overwrites ≡ false) × (adds ≡ true)
-  sums_among e = sums_where (version == 2) reads overwrites adds raises e
+  sums_among e = sums_where (version == 1) reads overwrites adds raises e
 
   pub maxima_among : mode_among version all key c ≡ RaiseMode → (overwrites ≡ false) × (adds ≡ false) × (raises ≡ true)
-  maxima_among e = maxima_where (version == 2) reads overwrites adds raises e
+  maxima_among e = maxima_where (version == 1) reads overwrites adds raises e
 
 -- ---- conflicts
 pub uses_conflict : (m n : Mode) → needs m ≡ true → writes n ≡ true → modes_conflict m n ≡ true

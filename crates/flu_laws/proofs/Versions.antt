@@ -6,7 +6,7 @@ use Rattle.flu_model.specs.declared.jobs.Action.{Action}
 use Rattle.flu_model.specs.declared.modes.Mode.{Mode}
 use Rattle.flu_model.specs.declared.modes.Mode.TheVariants.{None as NoMode, Add as AddMode, Raise as RaiseMode, Read as ReadMode, Own}
 use Rattle.flu_model.specs.Updates.{actions_of}
-use Rattle.flu_model.specs.Modes.{mode_in_version_1, mode_in_version_2, modes_conflict, action_reads, act_overwrites, act_adds, act_raises}
+use Rattle.flu_model.specs.Modes.{mode_in_version_1, mode_with_reads, modes_conflict, action_reads, act_overwrites, act_adds, act_raises}
 use Rattle.flu_laws.specs.Versions.{NothingIsShared, OwnsWhatItReads, Differ, ConflictsWithoutRead}
 
 pub owns_what_it_reads : OwnsWhatItReads
@@ -16,7 +16,7 @@ owns_what_it_reads p t c first =
     let overwrites = list_any (λ (a : Action). act_overwrites t.key c a.act) all in
     let adds = list_any (λ (a : Action). act_adds t.key c a.act) all in
     let raises = list_any (λ (a : Action). act_raises t.key c a.act) all in
-    ap (λ n. cond (n == 2) (mode_in_version_2 reads overwrites adds raises) (mode_in_version_1 reads overwrites adds raises)) first
+    ap (λ n. cond (n == 1) (mode_in_version_1 reads overwrites adds raises) (mode_with_reads reads overwrites adds raises)) first
 
 never_read : (r o a m : Bool) → mode_in_version_1 r o a m ≢ ReadMode
 never_read true o a m e = cc

@@ -1,5 +1,5 @@
 -- What an event's tag asks of a cell and does to it, by its mode there. Laws speak of modes in these words alone.
-use Rattle.std.specs.Prelude.{◌≡◌, Bool, true, false, not, ◌&&◌, ◌||◌, slice_get}
+use Rattle.std.specs.Prelude.{◌≡◌, ◌≢◌, Bool, true, false, not, ◌&&◌, ◌||◌, slice_get}
 use Rattle.std.specs.List.{list_any}
 use Rattle.flu_model.specs.declared.events.Cell.{Cell}
 use Rattle.flu_model.specs.declared.events.Event.{Event}
@@ -49,10 +49,10 @@ NeedsByActions =
     → (let all = actions_of (slice_get p.kinds t.kind) in
     needs (mode_of p t c) ≡ (list_any (action_reads t.key c) all || list_any (λ a. act_overwrites t.key c a.act) all))
 
--- in version 2 it writes those that they overwrite, add to or raise
+-- in the versions after the first it writes those that they overwrite, add to or raise
 abbrev pub WritesByActions : Type 0
 WritesByActions =
-    (p : Program) (t : Tag) (c : Cell) → p.version ≡ 2
+    (p : Program) (t : Tag) (c : Cell) → p.version ≢ 1
     → (let all = actions_of (slice_get p.kinds t.kind) in
     writes (mode_of p t c)
     ≡ (list_any (λ a. act_overwrites t.key c a.act) all || (list_any (λ a. act_adds t.key c a.act) all || list_any (λ a. act_raises t.key c a.act) all)))

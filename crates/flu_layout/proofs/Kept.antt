@@ -12,18 +12,22 @@ use Rattle.flu_text.specs.declared.words.Token.{Token}
 use Rattle.flu_text.specs.Grammar.{IsName, Spells, IsToken, IsSpan, IsInsideOfText}
 use Rattle.flu_text.specs.Laws.{NamesAreTested, ReadingIsTokens, EachIsToken, EachIsSpan, EachIsInside}
 use Rattle.flu_text.specs.declared.written.WrittenSpan.{WrittenSpan}
-use Rattle.flu_text.specs.Signs.{Spanned}
-use Rattle.flu_text.specs.Signs.{Stands}
+use Rattle.flu_text.specs.Signs.{Spanned, Named, Stands, is_name_word}
 use Rattle.flu_layout.specs.Spelling.{name_of, inside}
 use Rattle.flu_layout.specs.Stands.{IsQuoted}
 use Rattle.flu_layout.specs.Laws.{ReadMayBePrinted}
+
+-- what spells a name, whichever word it may spell besides, is one
+spells_name : (word : Word) (s : List ℕ) → is_name_word word ≡ true → Spells word s → IsName s
+spells_name (w.Name _) s named spelled = spelled.0
+spells_name _ s named spelled = absurd cc
 
 module _ (text : List ℕ) (ts : List Token) where
   -- what holds of all tokens holds of the one that a sign stands for
   of_token : (P : Token → Type 0) → All P ts → (t : Token) → Contains ts t → P t
   of_token P all t here = subst P here.2 (all here.0 t here.1)
 
-  name_stands : NamesAreTested → All (IsToken text) ts → All (IsSpan text) ts → (s : WrittenSpan) → Stands ts (Spanned w.Name s)
+  name_stands : NamesAreTested → All (IsToken text) ts → All (IsSpan text) ts → (s : WrittenSpan) → Stands ts (Named s)
       → is_name (name_of text s) ≡ true
   name_stands names each spans s stands =
       let t = stands.0 in
@@ -32,7 +36,7 @@ module _ (text : List ℕ) (ts : List Token) where
       let bytes : name_of text s ≡ slice_range text s.from s.to =
       spelled_slice text s.from s.to (omega (arith, span.rises)) (subst (IsCharBoundary text) stands.2.1 span.begins)
       (subst (IsCharBoundary text) stands.2.2 span.ends) in
-      let name : IsName (slice_range text t.from t.to) = subst (λ (word : Word). Spells word (slice_range text t.from t.to)) stands.2.0 token.spelled in
+      let name : IsName (slice_range text t.from t.to) = spells_name t.word (slice_range text t.from t.to) stands.2.0 token.spelled in
       let from_there : IsName (slice_range text s.from t.to) = subst (λ (k : ℕ). IsName (slice_range text k t.to)) stands.2.1 name in
       let there : IsName (slice_range text s.from s.to) = subst (λ (k : ℕ). IsName (slice_range text s.from k)) stands.2.2 from_there in
       ap is_name bytes ∙ (names (slice_range text s.from s.to)).1 there

@@ -1,5 +1,6 @@
 -- Words that are laid out by the rules are spelled as the lexical grammar wants them, and each ends where its spelling does.
 use Rattle.std.proofs.Common.{◌≡◌, ◌≢◌, ℕ, ◌<◌, ◌^◌, ℤ, pos, negsuc, true, false, List, [], ◌∷◌, ◌++◌, length, refl, sym, ap, arith}
+use Rattle.std.specs.Prelude.{codes}
 use Rattle.std.specs.Char.{is_ascii_digit}
 use Rattle.std.specs.Fmt.{decimal, signed_decimal}
 use Rattle.std.proofs.lemmas.Bool.Decides.{nat_tests}
@@ -9,11 +10,13 @@ use Rattle.flu_lemmas.proofs.Digits.{decimal_digits}
 use Rattle.flu_names.specs.Names.{is_name_byte}
 use Rattle.flu_text.specs.declared.words.Mark.{Mark}
 use Rattle.flu_text.specs.declared.words.Mark.TheVariants as m
+use Rattle.flu_text.specs.declared.words.Contextual.TheVariants as c
+use Rattle.flu_text.specs.Spelling.{contextual_of}
 use Rattle.flu_text.specs.Grammar.{IsNumber}
 use Rattle.flu_text.specs.Layout.{Piece, layout, NotFirst, makes_longer, IsLaid}
 use Rattle.flu_text.specs.Laws.{NamesAreTested}
 use Rattle.flu_model.specs.Rules.{is_literal}
-use Rattle.flu_layout.specs.Laid.{AreLaid, laid_none, laid_name, laid_reserved, laid_number, laid_text, laid_mark, laid_spaced}
+use Rattle.flu_layout.specs.Laid.{AreLaid, laid_none, laid_name, laid_item, laid_reserved, laid_number, laid_text, laid_mark, laid_spaced}
 
 digit_is_name_byte : (b : ℕ) → is_name_byte b ≡ false → is_ascii_digit b ≡ false
 digit_is_name_byte b h = grind (arith, nat_tests)
@@ -48,9 +51,14 @@ not_by_blank m.More = refl
 not_by_blank m.Minus = refl
 not_by_blank _ = refl
 
+item_is : c.Item ≡ contextual_of (codes "item")
+unfolding contextual_of
+item_is = refl
+
 pub is_laid : NamesAreTested → (ps : List Piece) → AreLaid ps → IsLaid ps
 is_laid names ps laid_none = tt
-is_laid names ps (laid_name n behind rest named blank ends more) = ((names n).0 named, blank, ends, is_laid names rest more)
+is_laid names ps (laid_name n behind rest named blank ends more) = (((names n).0 named, refl), blank, ends, is_laid names rest more)
+is_laid names ps (laid_item behind rest blank ends more) = (((names (codes "item")).0 refl, item_is), blank, ends, is_laid names rest more)
 is_laid names ps (laid_reserved word behind rest blank ends more) = (refl, blank, ends, is_laid names rest more)
 is_laid names ps (laid_number n behind rest literal blank ends more) =
     (spells_number n literal, blank, not_digit (behind ++ layout rest) ends, is_laid names rest more)

@@ -1,6 +1,6 @@
 -- The tokens of laid out words: each stands in the text as its word is spelled there.
 use Rattle.std.proofs.Common.{◌≡◌, ◌<◌, ℕ, ◌+◌, true, List, [], ◌∷◌, ◌++◌, length, refl, ap, ◌∙◌, append_assoc, length-append, arith}
-use Rattle.std.specs.Prelude.{nat_le, not}
+use Rattle.std.specs.Prelude.{nat_le, not, codes}
 use Rattle.std.specs.List.{list_all}
 use Rattle.std.specs.Str.{IsUtf8}
 use Rattle.flu_lemmas.specs.Spans.{spelled}
@@ -8,10 +8,10 @@ use Rattle.flu_lemmas.proofs.Booleans.{four_second}
 use Rattle.flu_lemmas.proofs.Digits.{alphanumeric_ascii}
 use Rattle.flu_lemmas.proofs.Spans.{spelled_passing}
 use Rattle.flu_names.specs.Names.{is_name, is_name_byte, begins_as_name, is_reserved}
-use Rattle.flu_text.specs.declared.words.Word.TheVariants as w
 use Rattle.flu_text.specs.Layout.{Piece, layout, tokens_of}
 use Rattle.flu_text.specs.Laws.{LayoutIsRead, NamesAreTested}
-use Rattle.flu_layout.specs.Laid.{AreLaid, laid_none, laid_name, laid_reserved, laid_number, laid_text, laid_mark, laid_spaced}
+use Rattle.flu_text.specs.Signs.{is_name_word}
+use Rattle.flu_layout.specs.Laid.{AreLaid, laid_none, laid_name, laid_item, laid_reserved, laid_number, laid_text, laid_mark, laid_spaced}
 use Rattle.flu_layout.specs.Stands.{Stand}
 use Rattle.flu_layout.specs.Laws.{LaidIsRead, BegunAreSigns}
 use Rattle.flu_layout.proofs.Laid.{is_laid}
@@ -31,7 +31,7 @@ name_at whole before n after from utf8 named is here =
 -- ---- words
 -- the first word stands in the text, and the others behind it
 put : (before : List ℕ) (p : Piece) (ps : List Piece) (whole : List ℕ) (place : ℕ) → whole ≡ before ++ layout (p ∷ ps) → place ≡ length before
-    → (p.word ≡ w.Name → spelled whole place (place + length p.spelling) ≡ p.spelling)
+    → (is_name_word p.word ≡ true → spelled whole place (place + length p.spelling) ≡ p.spelling)
     → ((whole ≡ (before ++ (p.spelling ++ p.gap)) ++ layout ps) → (place + length p.spelling + length p.gap ≡ length (before ++ (p.spelling ++ p.gap)))
     → Stand whole ps (tokens_of (place + length p.spelling + length p.gap) ps))
     → Stand whole (p ∷ ps) (tokens_of place (p ∷ ps))
@@ -52,6 +52,9 @@ stand_from : (whole : List ℕ) → IsUtf8 whole → (ps : List Piece) → AreLa
 stand_from whole utf8 ps laid_none before place is at = refl
 stand_from whole utf8 ps (laid_name n behind rest named blank ends more) before place is at =
     put before _ rest whole place is at (λ e. name_at whole before n (behind ++ layout rest) place utf8 named is at)
+    (λ next here. stand_from whole utf8 rest more _ _ next here)
+stand_from whole utf8 ps (laid_item behind rest blank ends more) before place is at =
+    put before _ rest whole place is at (λ e. name_at whole before (codes "item") (behind ++ layout rest) place utf8 refl is at)
     (λ next here. stand_from whole utf8 rest more _ _ next here)
 stand_from whole utf8 ps (laid_reserved word behind rest blank ends more) before place is at =
     put before _ rest whole place is at (λ e. absurd cc) (λ next here. stand_from whole utf8 rest more _ _ next here)

@@ -1,12 +1,13 @@
 -- The words of a text that is printed, each with the blanks after it, and how they are laid out.
-use Rattle.std.specs.Prelude.{◌≤◌, ℕ, ℤ, IsTrue, IsFalse, List, [], ◌∷◌, ◌++◌, length}
+use Rattle.std.specs.Prelude.{◌≤◌, ℕ, ℤ, IsTrue, IsFalse, List, [], ◌∷◌, ◌++◌, length, codes}
 use Rattle.std.specs.Fmt.{signed_decimal}
 use Rattle.std.specs.List.{list_all}
 use Rattle.flu_names.specs.declared.reserved.Reserved.{Reserved}
 use Rattle.flu_names.specs.Names.{is_name, is_name_byte, is_text_byte, reserved_spelling}
 use Rattle.flu_text.specs.declared.words.Word.TheVariants as w
+use Rattle.flu_text.specs.declared.words.Contextual.TheVariants as c
 use Rattle.flu_text.specs.declared.words.Mark.{Mark}
-use Rattle.flu_text.specs.Spelling.{mark_spelling}
+use Rattle.flu_text.specs.Spelling.{mark_spelling, contextual_of}
 use Rattle.flu_text.specs.Grammar.{is_blank}
 use Rattle.flu_text.specs.Layout.{Piece, layout, NotFirst, makes_longer}
 use Rattle.flu_model.specs.Rules.{is_literal}
@@ -29,7 +30,11 @@ abbrev pub mark : Mark → List ℕ → Piece
 mark word behind = record { word = w.Mark word; spelling = mark_spelling word; gap = behind }
 
 abbrev pub name : List ℕ → List ℕ → Piece
-name spelling behind = record { word = w.Name; spelling = spelling; gap = behind }
+name spelling behind = record { word = w.Name (contextual_of spelling); spelling = spelling; gap = behind }
+
+-- the word `item`, where the grammar has it
+abbrev pub item : List ℕ → Piece
+item behind = record { word = w.Name c.Item; spelling = codes "item"; gap = behind }
 
 abbrev pub text : List ℕ → List ℕ → Piece
 text inside behind = record { word = w.Text; spelling = quoted inside; gap = behind }
@@ -48,6 +53,7 @@ pub data AreLaid : List Piece → Type 0 where
   laid_none : AreLaid []
   laid_name : (n behind : List ℕ) (rest : List Piece) → IsTrue (is_name n) → IsTrue (list_all is_blank behind) → EndsName behind rest → AreLaid rest
       → AreLaid (name n behind ∷ rest)
+  laid_item : (behind : List ℕ) (rest : List Piece) → IsTrue (list_all is_blank behind) → EndsName behind rest → AreLaid rest → AreLaid (item behind ∷ rest)
   laid_reserved : (word : Reserved) (behind : List ℕ) (rest : List Piece) → IsTrue (list_all is_blank behind) → EndsName behind rest → AreLaid rest
       → AreLaid (reserved word behind ∷ rest)
   laid_number : (n : ℤ) (behind : List ℕ) (rest : List Piece) → IsTrue (is_literal n) → IsTrue (list_all is_blank behind) → EndsName behind rest → AreLaid rest

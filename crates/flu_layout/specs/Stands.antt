@@ -1,5 +1,5 @@
 -- Tokens of a text that stand for words that were laid out, and words of a text that tokens stand for.
-use Rattle.std.specs.Prelude.{◌≡◌, ◌≤◌, ◌+◌, ◌-◌, ℕ, IsTrue, All, List, [], ◌∷◌, ◌++◌, length, slice_range}
+use Rattle.std.specs.Prelude.{◌≡◌, ◌≤◌, ◌+◌, ◌-◌, ℕ, true, IsTrue, All, List, [], ◌∷◌, ◌++◌, length, slice_range}
 use Rattle.std.specs.List.{list_all}
 use Rattle.std.specs.Str.{IsUtf8, IsCharBoundary}
 use Rattle.flu_names.specs.Names.{is_name, is_text_byte}
@@ -8,8 +8,7 @@ use Rattle.flu_text.specs.declared.words.Token.{Token}
 use Rattle.flu_text.specs.Grammar.{IsToken}
 use Rattle.flu_text.specs.Layout.{Piece}
 use Rattle.flu_text.specs.declared.written.WrittenSpan.{WrittenSpan}
-use Rattle.flu_text.specs.Signs.{Spanned}
-use Rattle.flu_text.specs.Signs.{Stands}
+use Rattle.flu_text.specs.Signs.{Spanned, Named, Stands, is_name_word}
 use Rattle.flu_lemmas.specs.Spans.{spelled}
 use Rattle.flu_layout.specs.Spelling.{name_of, inside}
 
@@ -21,7 +20,7 @@ pub record StandsFor (whole : List ℕ) (p : Piece) (t : Token) : Type 0 where
   pub from : t.from ≡ length before
   pub to : t.to ≡ length before + length p.spelling
   pub word : t.word ≡ p.word
-  pub named : p.word ≡ w.Name → spelled whole t.from t.to ≡ p.spelling
+  pub named : is_name_word p.word ≡ true → spelled whole t.from t.to ≡ p.spelling
 
 -- the tokens are these words, one by one
 abbrev pub Stand : List ℕ → List Piece → List Token → Type 0
@@ -41,5 +40,5 @@ pub record IsQuoted (whole : List ℕ) (s : WrittenSpan) : Type 0 where
 pub record AreRead (whole : List ℕ) (ts : List Token) : Type 0 where
   pub utf8 : IsUtf8 whole
   pub tokens : All (IsToken whole) ts
-  pub names : (s : WrittenSpan) → Stands ts (Spanned w.Name s) → IsTrue (is_name (name_of whole s))
+  pub names : (s : WrittenSpan) → Stands ts (Named s) → IsTrue (is_name (name_of whole s))
   pub texts : (s : WrittenSpan) → Stands ts (Spanned w.Text s) → IsQuoted whole s

@@ -1,6 +1,6 @@
 -- What stays of a mailbox when an entry changes, and what its entries tell.
 use Rattle.std.proofs.Common.{◌≡◌, ◌<◌, ◌≤◌, ◌+◌, ◌^◌, ℕ, zero, suc, Some, None, Option, List, [], ◌∷◌}
-use Rattle.std.proofs.Common.{Vec, Global, length, get_or, refl, sym, ap, subst, ◌∙◌, true, arith}
+use Rattle.std.proofs.Common.{Vec, Global, length, get_or, refl, sym, ap, ◌∙◌, true, arith}
 use Rattle.std.specs.Prelude.{map, IfSome, slice_get, slice_index, slice_index_or}
 use Rattle.std.proofs.Math.ListN.{set}
 use Rattle.std.proofs.lemmas.List.{length-set, length-map, get_or_past}
@@ -17,7 +17,7 @@ use Rattle.flu_mail.specs.declared.entries.Entry.{Entry}
 use Rattle.flu_mail.specs.declared.mailbox.Mailbox.{Mailbox}
 use Rattle.flu_mail.specs.Passing.{pending_event}
 use Rattle.flu_mail.specs.Waiting.{itag, is_leaf}
-use Rattle.flu_mail.specs.Entries.{IsEntryAt, IsEntryOver}
+use Rattle.flu_mail.specs.Entries.{IsEntryOver}
 use Rattle.flu_mail.specs.Mailboxes.{seen_of, counts_of, IsAt, IsOver}
 use Rattle.flu_mail.proofs.PassingLemmas.{event_of_stream}
 use Rattle.flu_mail.proofs.WaitingLemmas.{stream_of}
@@ -54,16 +54,10 @@ pub record Changes (m n : Mailbox) (i : ℕ) (e v : Entry) : Type 0 where
 pub one_each_kept : (m n : Mailbox) (i : ℕ) (e v : Entry) → Changes m n i e v → length (seen_of n) ≡ length (seen_of m)
 one_each_kept m n i e v change = length-seen n ∙ ap length change.items ∙ length-set m.entries.items i v ∙ sym (length-seen m)
 
-pub at_kept : (p : Program) (nodes : List Node) (m n : Mailbox) (i : ℕ) (e v : Entry) → Changes m n i e v → v.role ≡ e.role → IsAt p nodes m
-    → IsAt p nodes n
-at_kept p nodes m n i e v change role at = record {
+pub at_kept : (p : Program) (nodes : List Node) (m n : Mailbox) (i : ℕ) (e v : Entry) → Changes m n i e v → IsAt p nodes m → IsAt p nodes n
+at_kept p nodes m n i e v change at = record {
   one_each = one_each_kept m n i e v change ∙ at.one_each;
   leaf = change.leaf ∙ at.leaf ∙ sym (ap (is_leaf nodes) change.node);
-  at_node = λ j x found.
-      let old = at.at_node i e change.there in
-      let here : IsEntryAt p nodes m.node (itag i) v = record { role = role ∙ old.role } in
-      subst (λ w. IsEntryAt p nodes w (itag j) x) (sym change.node)
-      (each_set (λ k y. IsEntryAt p nodes m.node (itag k) y) m.entries.items i v at.at_node here j x (ap (λ ys. slice_get ys j) (sym change.items) ∙ found));
 }
 
 pub over_kept : (lists : List (List Item)) (m n : Mailbox) (i : ℕ) (e v : Entry) → Changes m n i e v → IsEntryOver (slice_index_or lists i []) v

@@ -10,7 +10,7 @@ use Rattle.flu_tables.specs.Tables.{program_in, nodes_in}
 use Rattle.flu_mail.specs.declared.entries.Entry.{Entry}
 use Rattle.flu_mail.specs.declared.mailbox.Mailbox.{Mailbox}
 use Rattle.flu_mail.specs.Waiting.{itag, is_leaf}
-use Rattle.flu_mail.specs.Entries.{IsEntryAt, IsEntryOver}
+use Rattle.flu_mail.specs.Entries.{IsEntryOver}
 
 -- the node whose worker's it is
 abbrev pub node_of : Mailbox → ℕ
@@ -24,11 +24,10 @@ seen_of m = map (λ (e : Entry). e.seen) m.entries.items
 abbrev pub counts_of : Mailbox → List ℕ
 counts_of m = map (λ (e : Entry). e.count) m.entries.items
 
--- the entries are those of the mailbox's node in a plan of a job, one for each itag
+-- the mailbox is one of its node in a plan of a job: it has an entry for each itag, and knows whether the node is a leaf
 pub record IsAt (p : Program) (nodes : List Node) (m : Mailbox) : Type 0 where
   pub one_each : length (seen_of m) ≡ count_of_itags p
   pub leaf : m.leaf ≡ is_leaf nodes m.node
-  pub at_node : (j : ℕ) (e : Entry) → slice_get m.entries.items j ≡ Some e → IsEntryAt p nodes m.node (itag j) e
 
 -- an ancestor of the mailbox's node owns itag i, in the job and the plan of some tables
 abbrev pub is_above : Tables → Mailbox → ℕ → Bool

@@ -8,5 +8,4 @@ mod passing;
 mod places;
 mod waiting;
 
-pub use entries::Role;
 pub use mailbox::Mailbox;

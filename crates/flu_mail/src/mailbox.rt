@@ -12,11 +12,10 @@ ghost use Rattle.flu_model.specs.Merging.{events_of};
 ghost use Rattle.flu_deps.specs.Checking.{program_of};
 ghost use Rattle.flu_deps.specs.Validated.{plan_of, IsValidFor};
 ghost use Rattle.flu_tables.specs.Tables.{program_in, nodes_in};
-ghost use Rattle.flu_mail.specs.Entries.{role_at};
 ghost use Rattle.flu_mail.specs.Passing.{seen_items, next_event, pending_event, passes};
 ghost use Rattle.flu_mail.specs.Waiting.{is_ready, is_ready_to_serve};
 
-use crate::entries::{Entry, Role, new_entry};
+use crate::entries::{Entry, new_entry};
 use crate::passing::{event_at, first_items, last_passes};
 use crate::places::place_after;
 use crate::waiting::{Purpose, asks};
@@ -61,7 +60,7 @@ impl Mailbox {
         let leaf = v.kids(node).is_none();
         let mut entries = Vec::new(alloc);
         for i in 0..itag_count(c.program()) {
-            entries.push(new_entry(c, v, s, node, Itag(i)))?;
+            entries.push(new_entry(s, Itag(i)))?;
         }
         Ok(Mailbox {
             node,
@@ -101,14 +100,6 @@ impl Mailbox {
             Some(entry) => entry.count,
             None => 0,
         }
-    }
-
-    /// Whether the node owns an itag, an ancestor of it does, or neither.
-    pub fn role(&self, i: Itag) -> Role
-        requires { i.0 < length (seen_of self.now) }
-        ensures { (p : Program) (nodes : List Node) → IsAt p nodes self.now → result ≡ role_at p nodes (node_of self.now) i }
-    {
-        self.entries[i.0 as usize].role
     }
 
     /// The first event of an itag that is not counted, seen or not.

@@ -4,9 +4,9 @@ use Rattle.flu_model.specs.declared.jobs.CellRef.{CellRef}
 use Rattle.flu_model.specs.declared.jobs.Op.{Op}
 use Rattle.flu_model.specs.declared.jobs.Piece.{Piece}
 use Rattle.flu_model.specs.declared.jobs.Expr.{Expr}
-use Rattle.flu_model.specs.declared.jobs.Expr.TheVariants.{Lit, Value, Key, Time, Read, Has, Neg', Not', Two'}
+use Rattle.flu_model.specs.declared.jobs.Expr.TheVariants.{Lit, Value, Key, Item, Time, Read, Has, Neg', Not', Two'}
 use Rattle.flu_model.specs.declared.jobs.Act.{Act}
-use Rattle.flu_model.specs.declared.jobs.Act.TheVariants.{Add, Raise, Set, Clear, Emit, Flush}
+use Rattle.flu_model.specs.declared.jobs.Act.TheVariants.{Add, Raise, Set, Clear, ClearFamily, Emit, Flush}
 use Rattle.flu_model.specs.declared.jobs.Action.{Action}
 use Rattle.flu_model.specs.declared.jobs.Kind.{Kind}
 use Rattle.flu_model.specs.declared.jobs.Family.{Family}
@@ -19,6 +19,7 @@ pub data Term : Type 0 where
   Literal : (n : ℤ) → Term
   EventValue : Term
   EventKey : Term
+  EventItem : Term
   EventTime : Term
   CellRead : (r : CellRef) → Term
   CellHeld : (r : CellRef) → Term
@@ -30,6 +31,7 @@ abbrev pub term_of : Expr → Term
 term_of (Lit n) = Literal n
 term_of Value = EventValue
 term_of Key = EventKey
+term_of Item = EventItem
 term_of Time = EventTime
 term_of (Read r) = CellRead r
 term_of (Has r) = CellHeld r
@@ -43,6 +45,7 @@ pub data PlainAct : Type 0 where
   Raising : (r : CellRef) (e : Term) → PlainAct
   Setting : (r : CellRef) (e : Term) → PlainAct
   Clearing : (r : CellRef) → PlainAct
+  ClearingFamily : (f : ℕ) → PlainAct
   Emitting : (ps : List Piece) → PlainAct
   Flushing : (f : ℕ) (ps : List Piece) → PlainAct
 
@@ -51,6 +54,7 @@ plain_act (Add r e) = Adding r (term_of e)
 plain_act (Raise r e) = Raising r (term_of e)
 plain_act (Set r e) = Setting r (term_of e)
 plain_act (Clear r) = Clearing r
+plain_act (ClearFamily f) = ClearingFamily f
 plain_act (Emit ps) = Emitting ps
 plain_act (Flush f ps) = Flushing f ps
 
@@ -64,11 +68,12 @@ plain_action a = record { act = plain_act a.act; guard = option_map term_of a.gu
 pub record PlainKind : Type 0 where
   pub name : List ℕ
   pub keyed : Bool
+  pub has_item : Bool
   pub has_value : Bool
   pub actions : List PlainAction
 
 abbrev pub plain_kind : Kind → PlainKind
-plain_kind k = record { name = k.name; keyed = k.keyed; has_value = k.has_value; actions = map plain_action k.actions }
+plain_kind k = record { name = k.name; keyed = k.keyed; has_item = k.has_item; has_value = k.has_value; actions = map plain_action k.actions }
 
 -- a job as it is written
 pub record Job : Type 0 where

@@ -5,6 +5,7 @@ pub mod Templates
 pub mod Listing
 pub mod Itags
 pub mod Rules
+pub mod Versions
 pub mod Updates
 pub mod Modes
 pub mod Sorts

@@ -7,14 +7,14 @@ use Rattle.flu_model.specs.declared.jobs.Sort.{Sort}
 use Rattle.flu_model.specs.declared.jobs.Sort.TheVariants.{Sum, Max, Last}
 use Rattle.flu_model.specs.declared.jobs.Family.{Family}
 use Rattle.flu_model.specs.declared.jobs.At.{At}
-use Rattle.flu_model.specs.declared.jobs.At.TheVariants.{Alone, OwnKey, Fixed}
+use Rattle.flu_model.specs.declared.jobs.At.TheVariants.{Alone, OwnKey, OwnItem, Fixed}
 use Rattle.flu_model.specs.declared.jobs.CellRef.{CellRef}
 use Rattle.flu_model.specs.declared.jobs.Expr.{Expr}
-use Rattle.flu_model.specs.declared.jobs.Expr.TheVariants.{Lit, Value, Key, Time, Read, Has, Neg', Not', Two'}
+use Rattle.flu_model.specs.declared.jobs.Expr.TheVariants.{Lit, Value, Key, Item, Time, Read, Has, Neg', Not', Two'}
 use Rattle.flu_model.specs.declared.jobs.Piece.{Piece}
-use Rattle.flu_model.specs.declared.jobs.Piece.TheVariants.{Plain, Value as ValueField, Key as KeyField, Time as TimeField, Read as ReadField, CellValue}
+use Rattle.flu_model.specs.declared.jobs.Piece.TheVariants.{Plain, Value as ValueField, Key as KeyField, Item as ItemField, Time as TimeField, Read as ReadField, CellValue, FamilyCell}
 use Rattle.flu_model.specs.declared.jobs.Act.{Act}
-use Rattle.flu_model.specs.declared.jobs.Act.TheVariants.{Add, Raise, Set, Clear, Emit, Flush}
+use Rattle.flu_model.specs.declared.jobs.Act.TheVariants.{Add, Raise, Set, Clear, ClearFamily, Emit, Flush}
 use Rattle.flu_model.specs.declared.jobs.Action.{Action}
 use Rattle.flu_model.specs.declared.jobs.Kind.{Kind}
 use Rattle.flu_model.specs.declared.jobs.Depend.{Depend}
@@ -36,10 +36,12 @@ abbrev pub are_distinct : {X : Type 0} → (X → X → Bool) → List X → Boo
 are_distinct same [] = true
 are_distinct same (x ∷ xs) = not (list_any (same x) xs) && are_distinct same xs
 
--- ---- references, expressions and templates, each under a kind that is keyed or not and has a value or not
+-- ---- references, expressions and templates, each under a kind that is keyed or not and has a value or not; what asks for a kind
+-- with items is said apart (Versions)
 abbrev pub key_fits : Bool → Bool → At → Bool
 key_fits family_keyed kind_keyed Alone = not family_keyed
 key_fits family_keyed kind_keyed OwnKey = family_keyed && kind_keyed
+key_fits family_keyed kind_keyed OwnItem = family_keyed
 key_fits family_keyed kind_keyed (Fixed k) = family_keyed && nat_lt k key_count
 
 abbrev pub is_sort : Sort → Sort → Bool
@@ -55,6 +57,10 @@ family_fits (Some f) kind_keyed at = key_fits f.keyed kind_keyed at
 abbrev pub has_sort : Option Family → Sort → Bool
 has_sort None sort = false
 has_sort (Some f) sort = is_sort f.sort sort
+
+abbrev pub is_declared : Option Family → Bool
+is_declared None = false
+is_declared (Some f) = true
 
 abbrev pub is_keyed : Option Family → Bool
 is_keyed None = false
@@ -75,6 +81,7 @@ abbrev pub expr_fits : List Family → Bool → Bool → Expr → Bool
 expr_fits families keyed has_value (Lit n) = is_literal n
 expr_fits families keyed has_value Value = has_value
 expr_fits families keyed has_value Key = keyed
+expr_fits families keyed has_value Item = true
 expr_fits families keyed has_value Time = true
 expr_fits families keyed has_value (Read r) = ref_fits families keyed r
 expr_fits families keyed has_value (Has r) = ref_fits families keyed r
@@ -86,6 +93,7 @@ abbrev pub height : Expr → ℕ
 height (Lit n) = 1
 height Value = 1
 height Key = 1
+height Item = 1
 height Time = 1
 height (Read r) = 1
 height (Has r) = 1
@@ -107,17 +115,22 @@ abbrev pub emit_piece_fits : List Family → Bool → Bool → Piece → Bool
 emit_piece_fits families keyed has_value (Plain t) = is_plain t
 emit_piece_fits families keyed has_value ValueField = has_value
 emit_piece_fits families keyed has_value KeyField = keyed
+emit_piece_fits families keyed has_value ItemField = true
 emit_piece_fits families keyed has_value TimeField = true
 emit_piece_fits families keyed has_value (ReadField r) = ref_fits families keyed r
 emit_piece_fits families keyed has_value CellValue = false
+emit_piece_fits families keyed has_value (FamilyCell f) = false
 
-abbrev pub flush_piece_fits : Bool → Piece → Bool
-flush_piece_fits has_value (Plain t) = is_plain t
-flush_piece_fits has_value ValueField = has_value
-flush_piece_fits has_value KeyField = true
-flush_piece_fits has_value TimeField = true
-flush_piece_fits has_value (ReadField r) = false
-flush_piece_fits has_value CellValue = true
+-- in a flush of the family with this number; its own cell is `CellValue` alone, so that a template has one form
+abbrev pub flush_piece_fits : List Family → ℕ → Bool → Piece → Bool
+flush_piece_fits families flushed has_value (Plain t) = is_plain t
+flush_piece_fits families flushed has_value ValueField = has_value
+flush_piece_fits families flushed has_value KeyField = true
+flush_piece_fits families flushed has_value ItemField = true
+flush_piece_fits families flushed has_value TimeField = true
+flush_piece_fits families flushed has_value (ReadField r) = false
+flush_piece_fits families flushed has_value CellValue = true
+flush_piece_fits families flushed has_value (FamilyCell f) = is_declared (slice_get families f) && not (f == flushed)
 
 -- a plain piece is as long as it can be: none follows another, so that a template has one form
 abbrev pub follows_plain : List Piece → Bool
@@ -125,18 +138,22 @@ follows_plain [] = false
 follows_plain (Plain t ∷ ps) = true
 follows_plain (ValueField ∷ ps) = false
 follows_plain (KeyField ∷ ps) = false
+follows_plain (ItemField ∷ ps) = false
 follows_plain (TimeField ∷ ps) = false
 follows_plain (ReadField r ∷ ps) = false
 follows_plain (CellValue ∷ ps) = false
+follows_plain (FamilyCell f ∷ ps) = false
 
 abbrev pub are_apart : List Piece → Bool
 are_apart [] = true
 are_apart (Plain t ∷ ps) = not (follows_plain ps) && are_apart ps
 are_apart (ValueField ∷ ps) = are_apart ps
 are_apart (KeyField ∷ ps) = are_apart ps
+are_apart (ItemField ∷ ps) = are_apart ps
 are_apart (TimeField ∷ ps) = are_apart ps
 are_apart (ReadField r ∷ ps) = are_apart ps
 are_apart (CellValue ∷ ps) = are_apart ps
+are_apart (FamilyCell f ∷ ps) = are_apart ps
 
 -- what is between two quotes has at most 256 bytes
 abbrev pub is_short : List ℕ → Bool
@@ -146,8 +163,9 @@ abbrev pub emit_template_fits : List Family → Bool → Bool → List Piece →
 emit_template_fits families keyed has_value ps =
     list_all (emit_piece_fits families keyed has_value) ps && are_apart ps && is_short (written_template families ps)
 
-abbrev pub flush_template_fits : List Family → Bool → List Piece → Bool
-flush_template_fits families has_value ps = list_all (flush_piece_fits has_value) ps && are_apart ps && is_short (written_template families ps)
+abbrev pub flush_template_fits : List Family → ℕ → Bool → List Piece → Bool
+flush_template_fits families flushed has_value ps =
+    list_all (flush_piece_fits families flushed has_value) ps && are_apart ps && is_short (written_template families ps)
 
 -- ---- actions and kinds
 abbrev pub act_fits : List Family → Bool → Bool → Act → Bool
@@ -155,8 +173,9 @@ act_fits families keyed has_value (Add r e) = ref_fits families keyed r && ref_h
 act_fits families keyed has_value (Raise r e) = ref_fits families keyed r && ref_has_sort families Max r && is_good_expr families keyed has_value e
 act_fits families keyed has_value (Set r e) = ref_fits families keyed r && ref_has_sort families Last r && is_good_expr families keyed has_value e
 act_fits families keyed has_value (Clear r) = ref_fits families keyed r
+act_fits families keyed has_value (ClearFamily f) = is_keyed (slice_get families f)
 act_fits families keyed has_value (Emit ps) = emit_template_fits families keyed has_value ps
-act_fits families keyed has_value (Flush f ps) = is_keyed (slice_get families f) && flush_template_fits families has_value ps
+act_fits families keyed has_value (Flush f ps) = is_keyed (slice_get families f) && flush_template_fits families f has_value ps
 
 abbrev pub guard_fits : List Family → Bool → Bool → Option Expr → Bool
 guard_fits families keyed has_value None = true
@@ -206,7 +225,7 @@ source_fits kinds s =
 
 -- the versions of the language
 abbrev pub is_version : ℕ → Bool
-is_version n = (n == 1) || (n == 2)
+is_version n = (n == 1) || (n == 2) || (n == 3)
 
 abbrev pub are_families : List Family → Bool
 are_families families = list_all (λ (f : Family). is_name f.name) families

@@ -20,11 +20,12 @@ pub struct Tag {
 #[derive(Clone, Copy, PartialEq, Eq, PartialOrd, Ord, Debug)]
 pub struct Itag(pub u32);
 
-/// An event. Its value is 0 where its kind has none.
+/// An event. Its item is 0 where its kind has no items, and its value is 0 where its kind has none.
 #[derive(Clone, Copy, PartialEq, Eq, Debug)]
 pub struct Event {
     pub time: u64,
     pub itag: Itag,
+    pub item: u16,
     pub value: i64,
 }
 

@@ -2,6 +2,7 @@
 
 ghost use Rattle.std.specs.Prelude.{◌≤◌, length, IsTrue};
 ghost use Rattle.flu_model.specs.Listing.{itags_of_sources};
+ghost use Rattle.flu_model.specs.Versions.{fit_version};
 ghost use Rattle.flu_model.specs.Rules.{is_version, are_families, are_kinds, are_depends, are_sources, have_own_names, have_own_files};
 
 use crate::lists::List;
@@ -23,11 +24,12 @@ pub struct Family {
     pub sort: Sort,
 }
 
-/// Which cell of a family is meant: its only one, the one of the event's key, or the one of a number.
+/// Which cell of a family is meant: its only one, the one of the tag's key, the one of the event's item, or the one of a number.
 #[derive(Clone, Copy, PartialEq, Eq, Debug)]
 pub enum At {
     Alone,
     OwnKey,
+    OwnItem,
     Fixed(u32),
 }
 
@@ -38,12 +40,15 @@ pub struct CellRef {
     pub at: At,
 }
 
-/// An operator on two numbers.
+/// An operator on two numbers. `Divide` cuts toward 0, `Remainder` has the sign of the left operand, and both give 0 where the
+/// right operand is 0.
 #[derive(Clone, Copy, PartialEq, Eq, Debug)]
 pub enum Op {
     Plus,
     Minus,
     Times,
+    Divide,
+    Remainder,
     Less,
     LessEq,
     More,
@@ -63,6 +68,7 @@ pub enum Expr {
     Lit(i64),
     Value,
     Key,
+    Item,
     Time,
     Read(CellRef),
     Has(CellRef),
@@ -73,25 +79,30 @@ pub enum Expr {
 
 /// A piece of the text that an action emits: plain bytes, or a field that is filled in.
 ///
-/// `CellValue` occurs only in a flush, where `Key` is the flushed cell's key; `Read` occurs only in an emit.
+/// `CellValue` and `FamilyCell` occur only in a flush, where `Key` is the flushed cell's key: `CellValue` is what the flushed cell
+/// holds, and `FamilyCell` what the cell of another family holds, of a keyed family the one with the flushed key. `Read` occurs only
+/// in an emit.
 #[derive(Drop)]
 pub enum Piece {
     Plain(Text),
     Value,
     Key,
+    Item,
     Time,
     Read(CellRef),
     CellValue,
+    FamilyCell(u32),
 }
 
-/// What an action does: adds to a sum, raises a maximum, sets a last value, makes a cell neutral, emits a text,
-/// or emits a text for each cell of a family that is not neutral and makes all of them neutral.
+/// What an action does: adds to a sum, raises a maximum, sets a last value, makes a cell or all cells of a keyed family neutral,
+/// emits a text, or emits a text for each cell of a family that is not neutral and makes all of them neutral.
 #[derive(Drop)]
 pub enum Act {
     Add(CellRef, Expr),
     Raise(CellRef, Expr),
     Set(CellRef, Expr),
     Clear(CellRef),
+    ClearFamily(u32),
     Emit(List<Piece>),
     Flush(u32, List<Piece>),
 }
@@ -103,11 +114,13 @@ pub struct Action {
     pub guard: Option<Expr>,
 }
 
-/// A kind of tags; a keyed one has a tag for each key.
+/// A kind of tags; a keyed one has a tag for each key. Where it has items, each of its events has one, a number from 0 to 65,535 that
+/// chooses a cell.
 #[derive(Drop)]
 pub struct Kind {
     pub name: Name,
     pub keyed: bool,
+    pub has_item: bool,
     pub has_value: bool,
     pub actions: List<Action>,
 }
@@ -147,7 +160,7 @@ pub struct Source {
 }
 
 /// A job. Its names, shapes and sizes keep the rules of the language (`docs/LANGUAGE.md`), so no caller can make another. The
-/// version of the language, 1 or 2, says how tags that only read a cell may share it.
+/// version of the language, 1 to 3, says how tags that only read a cell may share it, and whether there are items.
 #[derive(Drop)]
 pub struct Program {
     pub version: u32,
@@ -163,6 +176,7 @@ pub struct Program {
     pub ghost few_itags: { length (itags_of_sources 0 sources) ≤ 256 },
     pub ghost families_fit: { IsTrue (are_families families) },
     pub ghost kinds_fit: { IsTrue (are_kinds families kinds) },
+    pub ghost version_fits: { IsTrue (fit_version version families kinds) },
     pub ghost depends_fit: { IsTrue (are_depends kinds depends) },
     pub ghost sources_fit: { IsTrue (are_sources kinds sources) },
     pub ghost own_names: { IsTrue (have_own_names families kinds sources) },

@@ -14,7 +14,7 @@ pub mod plans;
 pub mod streams;
 pub mod words;
 
-pub use cells::{actions_of, cell_of};
+pub use cells::{actions_of, cell_of, item_of};
 pub use events::{Cell, Event, Itag, Item, Out, Outs, Tag, Worth, before};
 pub use itags::{itag_count, key_count, source_of, tag_of};
 pub use jobs::{

@@ -1,5 +1,6 @@
 -- What is read keeps the rules of the language: of names, expressions, templates, actions, listings and whole jobs.
 pub mod Plain
+pub mod Versions
 pub mod Names
 pub mod Terms
 pub mod Sizes

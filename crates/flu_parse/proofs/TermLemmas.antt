@@ -15,7 +15,7 @@ has_level (HasTree at r) = omega arith
 has_level (ParenTree at e) = has_level e
 has_level (NegTree at e) = omega arith
 has_level (NotTree at e) = omega arith
-has_level (TwoTree op a b) = omega arith
+has_level (TwoTree op at a b) = omega arith
 
 pub above_none : (e : Tree) (n : ℕ) → n ≡ 0 → false ≡ nat_le (height e) n
 above_none e n none =

@@ -1,4 +1,4 @@
--- A written reference to a cell, under a kind that is keyed or not.
+-- A written reference to a cell, under a kind that is keyed or not and has items or not.
 use Rattle.std.specs.Prelude.{ℕ, Bool, true, not, ◌&&◌, nat_lt, List, Option, Some, None, Ok}
 use Rattle.flu_model.specs.declared.limits.What.TheVariants.{Key}
 use Rattle.flu_model.specs.declared.jobs.Sort.{Sort}
@@ -16,7 +16,7 @@ use Rattle.flu_parse.specs.declared.faults.JobFault.TheVariants as f
 use Rattle.flu_parse.specs.declared.names.FamilyHead.{FamilyHead}
 use Rattle.flu_parse.specs.declared.names.KindHead.{KindHead}
 use Rattle.flu_parse.specs.Faults.{Found, ◌>>=◌, ◌>>◌, unless}
-use Rattle.flu_parse.specs.Naming.{Naming, family_of}
+use Rattle.flu_parse.specs.Naming.{Naming, takes_items, family_of}
 
 -- a key is at most 65,535
 abbrev pub resolved_key : WrittenNumber → Found ℕ
@@ -28,6 +28,7 @@ resolved_key k = do
 abbrev pub brackets_fit : Bool → WrittenKey → Bool
 brackets_fit keyed k.Alone = not keyed
 brackets_fit keyed (k.OwnKey at) = keyed
+brackets_fit keyed (k.OwnItem at) = keyed
 brackets_fit keyed (k.Fixed key) = keyed
 
 -- the sort is the one that an action needs, if it needs one
@@ -42,18 +43,21 @@ family_for text n wanted r = do
   unless (is_wanted wanted family.sort && brackets_fit family.keyed r.key) (f.WrongShape r.family.from)
   Ok family
 
--- which of the family's cells is meant: `key` only under a keyed kind
-abbrev pub at_of : KindHead → WrittenKey → Found At
-at_of under k.Alone = Ok at.Alone
-at_of under (k.OwnKey place) = do
+-- which of the family's cells is meant: `key` only under a keyed kind, `item` only under a kind with items
+abbrev pub at_of : Naming → KindHead → WrittenKey → Found At
+at_of n under k.Alone = Ok at.Alone
+at_of n under (k.OwnKey place) = do
   unless under.keyed (f.WrongShape place)
   Ok at.OwnKey
-at_of under (k.Fixed number) = do
+at_of n under (k.OwnItem place) = do
+  unless (takes_items n under) (f.WrongShape place)
+  Ok at.OwnItem
+at_of n under (k.Fixed number) = do
   key ← resolved_key number
   Ok (at.Fixed key)
 
 abbrev pub resolved_cell : List ℕ → Naming → KindHead → Option Sort → WrittenRef → Found CellRef
 resolved_cell text n under wanted r = do
   family ← family_for text n wanted r
-  at ← at_of under r.key
+  at ← at_of n under r.key
   Ok (record { family = family.number; at = at })

@@ -1,8 +1,9 @@
 -- The names of a job: families, kinds and sources, each in the order of their declarations, in one set of names.
-use Rattle.std.specs.Prelude.{ℕ, ◌+◌, Bool, not, ◌||◌, List, [], ◌∷◌, ◌++◌, map, length, Option, Some, None, is_some, if◌then◌else◌, Ok, Err}
+use Rattle.std.specs.Prelude.{ℕ, ◌+◌, Bool, not, ◌==◌, ◌&&◌, ◌||◌, List, [], ◌∷◌, ◌++◌, map, length, Option, Some, None, is_some, if◌then◌else◌, Ok, Err}
 use Rattle.std.specs.List.{list_any}
 use Rattle.std.specs.Str.{bytes_eq}
 use Rattle.flu_model.specs.declared.jobs.Sort.{Sort}
+use Rattle.flu_model.specs.declared.jobs.Family.{Family}
 use Rattle.flu_model.specs.declared.limits.What.TheVariants.{Families, Kinds, Sources, Depends}
 use Rattle.flu_text.specs.declared.written.WrittenSpan.{WrittenSpan}
 use Rattle.flu_syntax.specs.Tree.{Declaration}
@@ -14,12 +15,14 @@ use Rattle.flu_parse.specs.declared.names.KindHead.{KindHead}
 use Rattle.flu_parse.specs.declared.names.Names.{Names}
 use Rattle.flu_parse.specs.Faults.{Found, ◌>>=◌, ◌>>◌, unless, room, each}
 
--- the declared names, with the heads of their declarations, and how many `depends` there are
+-- the declared names, with the heads of their declarations, how many `depends` there are, and the version of the language, which is 1
+-- until it is known
 pub record Naming : Type 0 where
   pub families : List (List ℕ × FamilyHead)
   pub kinds : List (List ℕ × KindHead)
   pub sources : List (List ℕ)
   pub depends : ℕ
+  pub version : ℕ
 
 -- the names as plain data
 abbrev pub naming : Names → Naming
@@ -28,7 +31,26 @@ naming n = record {
   kinds = map (λ e. (e.0.now, e.1)) n.kinds.entries;
   sources = map (λ k. k.now) n.sources.keys;
   depends = n.depends;
+  version = n.version;
 }
+
+-- the names of a job of this version
+abbrev pub in_version : Naming → ℕ → Naming
+in_version n version = record n { version = version }
+
+abbrev pub is_version_3 : Naming → Bool
+is_version_3 n = n.version == 3
+
+-- under which kinds an item may stand
+abbrev pub takes_items : Naming → KindHead → Bool
+takes_items n under = is_version_3 n && under.has_item
+
+abbrev pub family : List ℕ × FamilyHead → Family
+family h = record { name = h.0; keyed = h.1.keyed; sort = h.1.sort }
+
+-- the families, in the order of their declarations
+abbrev pub families_of : Naming → List Family
+families_of n = map family n.families
 
 -- what is declared under a name
 abbrev pub look_up : {X : Type 0} → List ℕ → List (List ℕ × X) → Option X
@@ -51,11 +73,11 @@ with_family text n s keyed sort = do
   room Families 64 (length n.families)
   Ok (record n { families = n.families ++ (name, record { number = length n.families; keyed = keyed; sort = sort }) ∷ [] })
 
-unfoldable pub with_kind : List ℕ → Naming → WrittenSpan → Bool → Bool → Found Naming
-with_kind text n s keyed has_value = do
+unfoldable pub with_kind : List ℕ → Naming → WrittenSpan → Bool → Bool → Bool → Found Naming
+with_kind text n s keyed has_item has_value = do
   name ← fresh_name text n s
   room Kinds 64 (length n.kinds)
-  Ok (record n { kinds = n.kinds ++ (name, record { number = length n.kinds; keyed = keyed; has_value = has_value }) ∷ [] })
+  Ok (record n { kinds = n.kinds ++ (name, record { number = length n.kinds; keyed = keyed; has_item = has_item; has_value = has_value }) ∷ [] })
 
 unfoldable pub with_source : List ℕ → Naming → WrittenSpan → Found Naming
 with_source text n s = do
@@ -66,7 +88,7 @@ with_source text n s = do
 -- the names with one more declaration
 unfoldable pub declare : List ℕ → Naming → Declaration → Found Naming
 declare text n (w.Cell s keyed sort) = with_family text n s keyed sort
-declare text n (w.Tag s keyed has_value) = with_kind text n s keyed has_value
+declare text n (w.Tag s keyed item has_value) = with_kind text n s keyed (is_some item) has_value
 declare text n (w.Depends a b relation) = do
   room Depends 4096 n.depends
   Ok (record n { depends = n.depends + 1 })
@@ -74,7 +96,7 @@ declare text n (w.On kind actions) = Ok n
 declare text n (w.Source s file rate slack tags) = with_source text n s
 
 abbrev pub no_names : Naming
-no_names = record { families = []; kinds = []; sources = []; depends = 0 }
+no_names = record { families = []; kinds = []; sources = []; depends = 0; version = 1 }
 
 -- the names of a job, or the first name that is declared twice or is one too many
 abbrev pub naming_of : List ℕ → List Declaration → Found Naming

@@ -1,4 +1,4 @@
--- The normal form of a job text: the version if it is 2, cells, tags, `depends`, the actions of the kinds that have some, and sources,
+-- The normal form of a job text: the version if it is not 1, cells, tags, `depends`, the actions of the kinds that have some, and sources,
 -- each on a line of its own.
 use Rattle.std.specs.Prelude.{ℕ, nat_lt, ◌==◌, if◌then◌else◌, Bool, true, false, Option, Some, None, List, [], ◌∷◌, ◌++◌, slice_get, codes}
 use Rattle.std.specs.Fmt.{decimal, signed_decimal}
@@ -11,8 +11,8 @@ use Rattle.flu_model.specs.declared.jobs.Op.TheVariants as op
 use Rattle.flu_model.specs.declared.jobs.Depend.{Depend}
 use Rattle.flu_model.specs.declared.jobs.TagRef.{TagRef}
 use Rattle.flu_model.specs.declared.jobs.Source.{Source}
-use Rattle.flu_model.specs.Erasure.{Term, Literal, EventValue, EventKey, EventTime, CellRead, CellHeld, Negative, Negation, Operation, PlainAct, Adding}
-use Rattle.flu_model.specs.Erasure.{Raising, Setting, Clearing, Emitting, Flushing, PlainAction, PlainKind, Job}
+use Rattle.flu_model.specs.Erasure.{Term, Literal, EventValue, EventKey, EventItem, EventTime, CellRead, CellHeld, Negative, Negation, Operation}
+use Rattle.flu_model.specs.Erasure.{PlainAct, Adding, Raising, Setting, Clearing, ClearingFamily, Emitting, Flushing, PlainAction, PlainKind, Job}
 use Rattle.flu_model.specs.Templates.{family_name, written_cell, written_template}
 use Rattle.flu_layout.specs.Laid.{line_end, quoted}
 use Rattle.flu_layout.specs.Lists.{separated, keys_text}
@@ -23,6 +23,8 @@ abbrev pub op_text : Op → List ℕ
 op_text op.Plus = codes "+"
 op_text op.Minus = codes "-"
 op_text op.Times = codes "*"
+op_text op.Divide = codes "/"
+op_text op.Remainder = codes "%"
 op_text op.Less = codes "<"
 op_text op.LessEq = codes "<="
 op_text op.More = codes ">"
@@ -37,6 +39,7 @@ abbrev pub term_text : List Family → Term → List ℕ
 term_text families (Literal n) = signed_decimal n
 term_text families EventValue = codes "value"
 term_text families EventKey = codes "key"
+term_text families EventItem = codes "item"
 term_text families EventTime = codes "time"
 term_text families (CellRead r) = written_cell families r
 term_text families (CellHeld r) = codes "has " ++ written_cell families r
@@ -51,6 +54,7 @@ act_text families (Adding r e) = codes "add " ++ written_cell families r ++ code
 act_text families (Raising r e) = codes "raise " ++ written_cell families r ++ codes " " ++ term_text families e
 act_text families (Setting r e) = codes "set " ++ written_cell families r ++ codes " " ++ term_text families e
 act_text families (Clearing r) = codes "clear " ++ written_cell families r
+act_text families (ClearingFamily f) = codes "clear " ++ family_name (slice_get families f)
 act_text families (Emitting pieces) = codes "emit " ++ quoted (written_template families pieces)
 act_text families (Flushing f pieces) = codes "flush " ++ family_name (slice_get families f) ++ codes " " ++ quoted (written_template families pieces)
 
@@ -65,7 +69,7 @@ action_text families a = act_text families a.act ++ guard_text families a.guard
 
 -- the version of the language, which is 1 if no line says otherwise
 abbrev pub version_line : ℕ → List ℕ
-version_line version = if version == 2 then codes "version 2" ++ line_end else []
+version_line version = if version == 2 then codes "version 2" ++ line_end else if version == 3 then codes "version 3" ++ line_end else []
 
 abbrev pub keyed_text : Bool → List ℕ
 keyed_text true = codes " keyed"
@@ -79,12 +83,16 @@ sort_text sort.Last = codes " last"
 abbrev pub cell_line : Family → List ℕ
 cell_line f = codes "cell " ++ f.name ++ keyed_text f.keyed ++ sort_text f.sort ++ line_end
 
+abbrev pub item_text : Bool → List ℕ
+item_text true = codes " item"
+item_text false = []
+
 abbrev pub value_text : Bool → List ℕ
 value_text true = codes " int"
 value_text false = codes " none"
 
 abbrev pub tag_line : PlainKind → List ℕ
-tag_line k = codes "tag " ++ k.name ++ keyed_text k.keyed ++ value_text k.has_value ++ line_end
+tag_line k = codes "tag " ++ k.name ++ keyed_text k.keyed ++ item_text k.has_item ++ value_text k.has_value ++ line_end
 
 abbrev pub kind_name : Option PlainKind → List ℕ
 kind_name None = []

@@ -1,7 +1,7 @@
 -- A written job: its names first, then its declarations in order again, token by token.
-use Rattle.std.specs.Prelude.{ℕ, zero, suc, Bool, true, false, not, ◌&&◌, ◌==◌, List, [], ◌∷◌, ◌++◌, map, Option, Some, None, Ok}
+use Rattle.std.specs.Prelude.{ℕ, zero, suc, Bool, true, false, not, ◌&&◌, ◌==◌, List, [], ◌∷◌, ◌++◌, map, Option, Some, None, codes, Ok}
 use Rattle.std.specs.List.{list_any}
-use Rattle.flu_model.specs.declared.jobs.Family.{Family}
+use Rattle.std.specs.Str.{bytes_eq}
 use Rattle.flu_model.specs.declared.jobs.Depend.{Depend}
 use Rattle.flu_model.specs.declared.jobs.Source.{Source}
 use Rattle.flu_model.specs.Rules.{is_version}
@@ -15,13 +15,12 @@ use Rattle.flu_syntax.specs.Tree.{Action, Declaration}
 use Rattle.flu_syntax.specs.Tree as w
 use Rattle.flu_layout.specs.Spelling.{name_of, written_value}
 use Rattle.flu_parse.specs.declared.faults.JobFault.TheVariants as f
-use Rattle.flu_parse.specs.declared.names.FamilyHead.{FamilyHead}
 use Rattle.flu_parse.specs.declared.names.KindHead.{KindHead}
 use Rattle.flu_parse.specs.declared.drafts.Draft.{Draft}
 use Rattle.flu_parse.specs.declared.drafts.JobParts.{JobParts}
 use Rattle.flu_parse.specs.declared.drafts.TagList.{TagList}
 use Rattle.flu_parse.specs.Faults.{Found, ◌>>=◌, ◌>>◌, unless, each}
-use Rattle.flu_parse.specs.Naming.{Naming, naming_of, kind_of}
+use Rattle.flu_parse.specs.Naming.{Naming, in_version, is_version_3, families_of, naming_of, kind_of}
 use Rattle.flu_parse.specs.Actions.{resolved_actions}
 use Rattle.flu_parse.specs.Listings.{Listed, tags_of, rate_of, slack_of, file_of}
 
@@ -80,20 +79,30 @@ with_source text n d name file written_rate written_slack tags = do
     itags = listed.itags;
   })
 
+-- in version 3 no family is called `item`
+abbrev pub cell_name_fits : List ℕ → Naming → WrittenSpan → Bool
+cell_name_fits text n name = not (is_version_3 n && bytes_eq (name_of text name) (codes "item"))
+
+-- a kind has items only in version 3
+abbrev pub item_word_fits : Naming → Option ℕ → Found (Unit {0})
+item_word_fits n None = Ok tt
+item_word_fits n (Some at) = unless (is_version_3 n) (f.WrongShape at)
+
 -- one more declaration
 unfoldable pub with_declaration : List ℕ → Naming → Drafted → Declaration → Found Drafted
-with_declaration text n d (w.Cell name keyed sort) = Ok d
-with_declaration text n d (w.Tag name keyed has_value) = Ok d
+with_declaration text n d (w.Cell name keyed sort) = do
+  unless (cell_name_fits text n name) (f.WrongShape name.from)
+  Ok d
+with_declaration text n d (w.Tag name keyed item has_value) = do
+  item_word_fits n item
+  Ok d
 with_declaration text n d (w.Depends a b relation) = with_depend text n d a b relation
 with_declaration text n d (w.On name actions) = with_on text n d name actions
 with_declaration text n d (w.Source name file rate slack tags) = with_source text n d name file rate slack tags
 
-abbrev pub family : List ℕ × FamilyHead → Family
-family h = record { name = h.0; keyed = h.1.keyed; sort = h.1.sort }
-
 -- a kind without `on` has no actions
 abbrev pub idle_kind : List ℕ × KindHead → PlainKind
-idle_kind h = record { name = h.0; keyed = h.1.keyed; has_value = h.1.has_value; actions = [] }
+idle_kind h = record { name = h.0; keyed = h.1.keyed; has_item = h.1.has_item; has_value = h.1.has_value; actions = [] }
 
 abbrev pub first_draft : Naming → Drafted
 first_draft n = record { kinds = map idle_kind n.kinds; given = []; depends = []; sources = []; itags = 0 }
@@ -108,10 +117,10 @@ version_of (Some v) = do
   unless (is_version (written_value v.value)) (f.WrongShape v.at)
   Ok (written_value v.value)
 
-abbrev pub job_with : ℕ → Naming → Drafted → Job
-job_with version n d = record {
-  version = version;
-  families = map family n.families;
+abbrev pub job_with : Naming → Drafted → Job
+job_with n d = record {
+  version = n.version;
+  families = families_of n;
   kinds = d.kinds;
   depends = d.depends;
   sources = d.sources;
@@ -122,8 +131,9 @@ unfoldable pub resolved : List ℕ → w.Job → Found Job
 resolved text job = do
   n ← naming_of text job.declarations
   version ← version_of job.version
-  d ← draft_of text n job.declarations
-  Ok (job_with version n d)
+  let m = in_version n version
+  d ← draft_of text m job.declarations
+  Ok (job_with m d)
 
 -- the parts of a job as plain data
 abbrev pub job_of_parts : JobParts → Job

@@ -5,20 +5,27 @@ ghost use Rattle.flu_model.specs.Erasure.{term_of as plain_term, plain_act, plai
 ghost use Rattle.flu_syntax.specs.Tree.{view, deed_of as act_seen, action_of as action_seen};
 ghost use Rattle.flu_parse.specs.Faults.{Gives};
 ghost use Rattle.flu_parse.specs.Naming.{naming};
-ghost use Rattle.flu_parse.specs.Actions.{resolved_act, guard_of, action_of, with_action, resolved_actions};
+ghost use Rattle.flu_parse.specs.Actions.{clears_whole, resolved_act, guard_of, action_of, with_action, resolved_actions};
 
 use crate::cells::resolved_cell;
 use crate::faults::JobFault;
-use crate::names::{KindHead, Names};
-use crate::naming::family_of;
+use crate::names::{FamilyHead, KindHead, Names};
+use crate::naming::{family_of, is_version_3};
 use crate::templates::template_of;
-use crate::terms::{expression_of, shape_at};
+use crate::terms::{expression_of, is_alone, shape_at};
 use flu_model::{Act, Action, Expr, List, Sort, What};
-use flu_syntax::{WrittenAct, WrittenAction, WrittenExpr};
+use flu_syntax::{WrittenAct, WrittenAction, WrittenExpr, WrittenKey};
 use std::alloc::Global;
 
 /// The most actions that a kind has.
 const MOST_ACTIONS: usize = 32;
+
+// Whether a keyed family is cleared whole.
+fn clears_whole(names: &Names, family: FamilyHead, key: &WrittenKey) -> bool
+    ensures { result ≡ clears_whole (naming names.now) family key.now }
+{
+    is_version_3(names) && family.keyed && is_alone(key)
+}
 
 #[tactic(auto, unfolding(crate::specs::Actions::resolved_act))]
 fn resolved_act(
@@ -47,17 +54,21 @@ fn resolved_act(
             Ok(Act::Set(cell, term))
         }
         WrittenAct::Clear(cell) => {
+            let family = family_of(names, text, cell.family)?;
+            if clears_whole(names, family, &cell.key) {
+                return Ok(Act::ClearFamily(family.number));
+            }
             let cell = resolved_cell(text, names, under, None, cell)?;
             Ok(Act::Clear(cell))
         }
         WrittenAct::Emit(template) => {
-            let pieces = template_of(alloc, text, names, under, false, *template)?;
+            let pieces = template_of(alloc, text, names, under, None, *template)?;
             Ok(Act::Emit(pieces))
         }
         WrittenAct::Flush(name, template) => {
             let family = family_of(names, text, *name)?;
             shape_at(family.keyed, name.from)?;
-            let pieces = template_of(alloc, text, names, under, true, *template)?;
+            let pieces = template_of(alloc, text, names, under, Some(family.number), *template)?;
             Ok(Act::Flush(family.number, pieces))
         }
     }

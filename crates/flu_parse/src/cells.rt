@@ -8,7 +8,7 @@ ghost use Rattle.flu_parse.specs.Cells.{resolved_key, brackets_fit, is_wanted, f
 
 use crate::faults::JobFault;
 use crate::names::{FamilyHead, KindHead, Names};
-use crate::naming::family_of;
+use crate::naming::{family_of, takes_items};
 use flu_layout::written_value;
 use flu_model::{At, CellRef, KEY_COUNT, Sort, What};
 use flu_syntax::{WrittenKey, WrittenNumber, WrittenRef};
@@ -34,7 +34,7 @@ pub fn brackets_fit(keyed: bool, key: &WrittenKey) -> bool
 {
     match key {
         WrittenKey::Alone => !keyed,
-        WrittenKey::OwnKey { .. } | WrittenKey::Fixed(_) => keyed,
+        WrittenKey::OwnKey { .. } | WrittenKey::OwnItem { .. } | WrittenKey::Fixed(_) => keyed,
     }
 }
 
@@ -66,14 +66,21 @@ pub fn family_for(
 }
 
 /// Which cell of a family is meant, under a kind.
-pub fn at_of(under: KindHead, key: &WrittenKey) -> Result<At, JobFault>
-    ensures { Gives (λ at. at) result (at_of under key.now) }
+pub fn at_of(names: &Names, under: KindHead, key: &WrittenKey) -> Result<At, JobFault>
+    ensures { Gives (λ at. at) result (at_of (naming names.now) under key.now) }
 {
     match key {
         WrittenKey::Alone => Ok(At::Alone),
         WrittenKey::OwnKey { at } => {
             if under.keyed {
                 Ok(At::OwnKey)
+            } else {
+                Err(JobFault::WrongShape { at: *at })
+            }
+        }
+        WrittenKey::OwnItem { at } => {
+            if takes_items(names, under) {
+                Ok(At::OwnItem)
             } else {
                 Err(JobFault::WrongShape { at: *at })
             }
@@ -96,7 +103,7 @@ pub fn resolved_cell(
     ensures { Gives (λ cell. cell) result (resolved_cell text.now (naming names.now) under wanted written.now) }
 {
     let family = family_for(text, names, wanted, written)?;
-    let at = at_of(under, &written.key)?;
+    let at = at_of(names, under, &written.key)?;
     Ok(CellRef {
         family: family.number,
         at,

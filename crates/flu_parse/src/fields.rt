@@ -4,7 +4,7 @@ ghost use Rattle.std.specs.Prelude.{◌≡◌, ◌+◌, ◌<◌, ◌≤◌, leng
 ghost use Rattle.std.specs.Char.{is_ascii_digit};
 ghost use Rattle.std.specs.List.{list_all};
 ghost use Rattle.flu_text.specs.Lexeme.{number_of};
-ghost use Rattle.flu_parse.specs.Templates.{is_open_bracket, digits_at, key_at, ref_with, ref_at, field_at, braced};
+ghost use Rattle.flu_parse.specs.Templates.{is_open_bracket, digits_at, key_at, ref_with, ref_at, family_at, field_at, braced};
 
 use crate::pieces::WrittenPiece;
 use flu_layout::spelled;
@@ -44,11 +44,13 @@ fn digits_at(word: &[u8], at: usize) -> Option<WrittenKey>
 }
 
 #[tactic(auto, unfolding(crate::specs::Templates::key_at))]
-fn key_at(word: &str, at: usize) -> Option<WrittenKey>
-    ensures { result ≡ key_at word.now at }
+fn key_at(version: u32, word: &str, at: usize) -> Option<WrittenKey>
+    ensures { result ≡ key_at version word.now at }
 {
     if word == "key" {
         Some(WrittenKey::OwnKey { at })
+    } else if version == 3 && word == "item" {
+        Some(WrittenKey::OwnItem { at })
     } else {
         digits_at(word.as_bytes(), at)
     }
@@ -62,8 +64,8 @@ fn bracket_at(word: &[u8]) -> Option<usize>
 }
 
 #[tactic(auto, unfolding(crate::specs::Templates::ref_with))]
-fn ref_alone(text: &str, from: usize, to: usize) -> Option<WrittenPiece>
-    ensures { result ≡ ref_with text.now from to None }
+fn ref_alone(text: &str, version: u32, from: usize, to: usize) -> Option<WrittenPiece>
+    ensures { result ≡ ref_with text.now version from to None }
 {
     if is_name(spelled(text, from, to)) {
         Some(WrittenPiece::Read(WrittenRef {
@@ -76,13 +78,23 @@ fn ref_alone(text: &str, from: usize, to: usize) -> Option<WrittenPiece>
 }
 
 #[tactic(auto, unfolding(crate::specs::Templates::ref_with))]
-fn ref_with_key(text: &str, from: usize, to: usize, bracket: usize) -> Option<WrittenPiece>
+fn ref_with_key(
+    text: &str,
+    version: u32,
+    from: usize,
+    to: usize,
+    bracket: usize,
+) -> Option<WrittenPiece>
     requires { from + bracket < length text.now }
-    ensures { result ≡ ref_with text.now from to (Some bracket) }
+    ensures { result ≡ ref_with text.now version from to (Some bracket) }
 {
     let end = from + bracket;
     if is_name(spelled(text, from, end)) && spelled(text, to.saturating_sub(1), to) == "]" {
-        let key = key_at(spelled(text, end + 1, to.saturating_sub(1)), end + 1)?;
+        let key = key_at(
+            version,
+            spelled(text, end + 1, to.saturating_sub(1)),
+            end + 1,
+        )?;
         Some(WrittenPiece::Read(WrittenRef {
             family: WrittenSpan { from, to: end },
             key,
@@ -92,20 +104,38 @@ fn ref_with_key(text: &str, from: usize, to: usize, bracket: usize) -> Option<Wr
     }
 }
 
-fn ref_at(text: &str, from: usize, to: usize) -> Option<WrittenPiece>
-    ensures { result ≡ ref_at text.now from to }
+fn ref_at(text: &str, version: u32, from: usize, to: usize) -> Option<WrittenPiece>
+    ensures { result ≡ ref_at text.now version from to }
 {
     let word = spelled(text, from, to);
     match bracket_at(word.as_bytes()) {
-        None => ref_alone(text, from, to),
-        Some(bracket) => ref_with_key(text, from, to, bracket),
+        None => ref_alone(text, version, from, to),
+        Some(bracket) => ref_with_key(text, version, from, to, bracket),
+    }
+}
+
+// A family's name alone, which a flush may have in version 3.
+#[tactic(auto, unfolding(crate::specs::Templates::family_at))]
+fn family_at(text: &str, version: u32, from: usize, to: usize) -> Option<WrittenPiece>
+    ensures { result ≡ family_at text.now version from to }
+{
+    if version == 3 && is_name(spelled(text, from, to)) {
+        Some(WrittenPiece::Family(WrittenSpan { from, to }))
+    } else {
+        None
     }
 }
 
 // What a field is, in an emit or in a flush, if it has the form of one.
 #[tactic(auto, unfolding(crate::specs::Templates::field_at))]
-fn field_at(text: &str, in_flush: bool, from: usize, to: usize) -> Option<WrittenPiece>
-    ensures { result ≡ field_at text.now in_flush from to }
+fn field_at(
+    text: &str,
+    version: u32,
+    in_flush: bool,
+    from: usize,
+    to: usize,
+) -> Option<WrittenPiece>
+    ensures { result ≡ field_at text.now version in_flush from to }
 {
     let word = spelled(text, from, to);
     if word == "value" {
@@ -114,22 +144,30 @@ fn field_at(text: &str, in_flush: bool, from: usize, to: usize) -> Option<Writte
         Some(WrittenPiece::Key)
     } else if word == "time" {
         Some(WrittenPiece::Time)
+    } else if version == 3 && word == "item" {
+        Some(WrittenPiece::Item)
     } else if in_flush {
         if word == "cell" {
             Some(WrittenPiece::CellValue)
         } else {
-            None
+            family_at(text, version, from, to)
         }
     } else {
-        ref_at(text, from, to)
+        ref_at(text, version, from, to)
     }
 }
 
 /// What is between two braces, in an emit or in a flush: a field, or something that has the form of none.
-pub fn piece_between(text: &str, in_flush: bool, from: usize, to: usize) -> WrittenPiece
-    ensures { result ≡ braced (field_at text.now in_flush from to) }
+pub fn piece_between(
+    text: &str,
+    version: u32,
+    in_flush: bool,
+    from: usize,
+    to: usize,
+) -> WrittenPiece
+    ensures { result ≡ braced (field_at text.now version in_flush from to) }
 {
-    match field_at(text, in_flush, from, to) {
+    match field_at(text, version, in_flush, from, to) {
         Some(field) => field,
         None => WrittenPiece::Formless,
     }

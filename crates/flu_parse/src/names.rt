@@ -16,14 +16,16 @@ pub struct FamilyHead {
 pub struct KindHead {
     pub number: u32,
     pub keyed: bool,
+    pub has_item: bool,
     pub has_value: bool,
 }
 
-/// The declared names, and how many `depends` there are.
+/// The declared names, how many `depends` there are, and the version of the language, which is 1 until it is known.
 #[derive(Drop)]
 pub struct Names<'t> {
     pub families: IndexMap<&'t str, FamilyHead>,
     pub kinds: IndexMap<&'t str, KindHead>,
     pub sources: IndexSet<&'t str>,
     pub depends: usize,
+    pub version: u32,
 }

@@ -6,15 +6,15 @@ ghost use Rattle.std.specs.Str.{bytes_eq};
 ghost use Rattle.flu_syntax.specs.Tree.{declaration_of};
 ghost use Rattle.flu_parse.specs.Faults.{Gives};
 ghost use Rattle.flu_parse.specs.Naming.{naming, no_names, look_up, is_declared, fresh_name, with_family, with_kind, with_source, declare, naming_of};
-ghost use Rattle.flu_parse.specs.Naming.{family_of, kind_of};
+ghost use Rattle.flu_parse.specs.Naming.{is_version_3, takes_items, families_of, family_of, kind_of};
 
 use crate::faults::JobFault;
 use crate::names::{FamilyHead, KindHead, Names};
 use flu_layout::name_of;
-use flu_model::{Sort, What};
+use flu_model::{Family, Name, Sort, What};
 use flu_syntax::{WrittenDeclaration, WrittenSpan};
 use indexmap::{IndexMap, IndexSet};
-use std::alloc::Global;
+use std::alloc::{AllocError, Global};
 
 /// The most families, kinds and sources of a job.
 const MOST_PARTS: usize = 64;
@@ -30,7 +30,22 @@ fn no_names<'t>(alloc: Global) -> Names<'t>
         kinds: IndexMap::new(alloc),
         sources: IndexSet::new(alloc),
         depends: 0,
+        version: 1,
     }
+}
+
+/// Whether the job is of version 3 of the language.
+pub fn is_version_3(names: &Names) -> bool
+    ensures { result ≡ is_version_3 (naming names.now) }
+{
+    names.version == 3
+}
+
+/// Whether an item may stand under a kind.
+pub fn takes_items(names: &Names, under: KindHead) -> bool
+    ensures { result ≡ takes_items (naming names.now) under }
+{
+    is_version_3(names) && under.has_item
 }
 
 /// The family with this name.
@@ -121,8 +136,9 @@ fn declare<'t>(
         WrittenDeclaration::Tag {
             name,
             keyed,
+            item,
             has_value,
-        } => declare_kind(names, text, *name, *keyed, *has_value),
+        } => declare_kind(names, text, *name, *keyed, item.is_some(), *has_value),
         WrittenDeclaration::Depends { .. } => {
             if names.depends >= MOST_DEPENDS {
                 return Err(JobFault::OverLimit {
@@ -174,9 +190,10 @@ fn declare_kind<'t>(
     text: &'t str,
     span: WrittenSpan,
     keyed: bool,
+    has_item: bool,
     has_value: bool,
 ) -> Result<(), JobFault>
-    ensures { Gives (λ done. naming names.new) result (with_kind text.now (naming names.old) span keyed has_value) }
+    ensures { Gives (λ done. naming names.new) result (with_kind text.now (naming names.old) span keyed has_item has_value) }
 {
     let name = fresh_name(names, text, span)?;
     let count = names.kinds.len();
@@ -193,6 +210,7 @@ fn declare_kind<'t>(
         KindHead {
             number,
             keyed,
+            has_item,
             has_value,
         },
     )
@@ -246,4 +264,20 @@ pub fn kind_of(names: &Names, text: &str, span: WrittenSpan) -> Result<KindHead,
     ensures { Gives (λ head. head) result (kind_of text.now (naming names.now) span) }
 {
     find_kind(names, name_of(text, span)).ok_or(JobFault::UnknownName { at: span.from })
+}
+
+/// The families, in the order of their declarations.
+pub fn families_of(alloc: Global, names: &Names) -> Result<Vec<Family>, AllocError>
+    ensures { IfOk result (λ families. families.items ≡ families_of (naming names.now)) }
+{
+    let mut families = Vec::new(alloc);
+    for (name, head) in names.families.iter() {
+        let name = Name::of(String::from_str(alloc, name)?);
+        families.push(Family {
+            name,
+            keyed: head.keyed,
+            sort: head.sort,
+        })?;
+    }
+    Ok(families)
 }

@@ -2,16 +2,18 @@
 
 use flu_syntax::{WrittenRef, WrittenSpan};
 
-/// A piece: plain bytes by their places, or a field. The value of a flushed cell is written `{cell}`; what is between two
-/// braces may also have the form of no field.
+/// A piece: plain bytes by their places, or a field. The value of a flushed cell is written `{cell}`, and in version 3 a flush may
+/// have the name of a family; what is between two braces may also have the form of no field.
 #[derive(Clone, Copy)]
 pub enum WrittenPiece {
     Plain(WrittenSpan),
     Value,
     Key,
+    Item,
     Time,
     CellValue,
     Read(WrittenRef),
+    Family(WrittenSpan),
     Formless,
 }
 

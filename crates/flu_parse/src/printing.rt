@@ -5,8 +5,8 @@ ghost use Rattle.std.specs.List.{flat_map};
 ghost use Rattle.std.specs.String.{string_bytes};
 ghost use Rattle.flu_model.specs.Erasure.{job_of, plain_kind};
 ghost use Rattle.flu_layout.specs.Lists.{separated};
-ghost use Rattle.flu_parse.specs.Printing.{version_line, sort_text, keyed_text, cell_line, value_text, tag_line, kind_name, same_text, depends_line, on_line};
-ghost use Rattle.flu_parse.specs.Printing.{tag_text, slack_text, source_head, source_line, normal_form};
+ghost use Rattle.flu_parse.specs.Printing.{version_line, sort_text, keyed_text, cell_line, item_text, value_text, tag_line, kind_name, same_text, depends_line};
+ghost use Rattle.flu_parse.specs.Printing.{on_line, tag_text, slack_text, source_head, source_line, normal_form};
 ghost use Rattle.flu_parse.specs.Reading.{job_in};
 
 use crate::laws::printed_is_read;
@@ -20,6 +20,8 @@ fn add_version(text: &mut String, version: u32) -> Result<(), AllocError>
 {
     if version == 2 {
         text.push_str("version 2\n")?;
+    } else if version == 3 {
+        text.push_str("version 3\n")?;
     }
     Ok(())
 }
@@ -52,6 +54,12 @@ fn add_cells(text: &mut String, families: &[Family]) -> Result<(), AllocError>
     Ok(())
 }
 
+fn item_text(has_item: bool) -> &'static str
+    ensures { result.now ≡ item_text has_item }
+{
+    if has_item { " item" } else { "" }
+}
+
 fn value_text(has_value: bool) -> &'static str
     ensures { result.now ≡ value_text has_value }
 {
@@ -64,8 +72,9 @@ fn add_tags(text: &mut String, kinds: &[Kind]) -> Result<(), AllocError>
     for kind in kinds {
         let name = kind.name.as_str();
         let keyed = keyed_text(kind.keyed);
+        let item = item_text(kind.has_item);
         let value = value_text(kind.has_value);
-        write!(text, "tag {name}{keyed}{value}\n")?;
+        write!(text, "tag {name}{keyed}{item}{value}\n")?;
     }
     Ok(())
 }
@@ -192,7 +201,7 @@ fn printed(alloc: Global, p: &Program) -> Result<String, AllocError>
     Ok(text)
 }
 
-/// A job as a text, in normal form (`docs/LANGUAGE.md`): the version if it is 2, cells, tags, `depends`, the actions of the
+/// A job as a text, in normal form (`docs/LANGUAGE.md`): the version if it is not 1, cells, tags, `depends`, the actions of the
 /// kinds that have some, and sources, each on a line of its own with one blank between words. Each operator is in parentheses
 /// of its own, numbers have no needless zeros, the rate is always there, and the slack if it is not 0.
 ///

@@ -19,6 +19,7 @@ fn add_piece(text: &mut String, families: &[Family], piece: &Piece) -> Result<()
         Piece::Plain(plain) => text.push_str(plain.as_str()),
         Piece::Value => text.push_str("{value}"),
         Piece::Key => text.push_str("{key}"),
+        Piece::Item => text.push_str("{item}"),
         Piece::Time => text.push_str("{time}"),
         Piece::CellValue => text.push_str("{cell}"),
         Piece::Read(cell) => {
@@ -26,10 +27,21 @@ fn add_piece(text: &mut String, families: &[Family], piece: &Piece) -> Result<()
             add_cell(text, families, *cell)?;
             text.push_str("}")
         }
+        Piece::FamilyCell(family) => {
+            let name = family_name(families, *family);
+            text.push_str("{")?;
+            text.push_str(name)?;
+            text.push_str("}")
+        }
     }
 }
 
-fn add_pieces(text: &mut String, families: &[Family], pieces: &[Piece]) -> Result<(), AllocError>
+/// Adds the pieces of a template, as they stand between its quotes.
+pub fn add_pieces(
+    text: &mut String,
+    families: &[Family],
+    pieces: &[Piece],
+) -> Result<(), AllocError>
     ensures { OnOk result (string_bytes text.new ≡ string_bytes text.old ++ written_template families.now pieces.now) }
 {
     for piece in pieces {
@@ -72,6 +84,10 @@ fn add_act(text: &mut String, families: &[Family], act: &Act) -> Result<(), Allo
         Act::Clear(cell) => {
             text.push_str("clear ")?;
             add_cell(text, families, *cell)
+        }
+        Act::ClearFamily(family) => {
+            text.push_str("clear ")?;
+            text.push_str(family_name(families, *family))
         }
         Act::Emit(pieces) => {
             text.push_str("emit ")?;

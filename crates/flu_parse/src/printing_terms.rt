@@ -25,11 +25,12 @@ fn add_key(text: &mut String, at: At) -> Result<(), AllocError>
     match at {
         At::Alone => Ok(()),
         At::OwnKey => text.push_str("[key]"),
+        At::OwnItem => text.push_str("[item]"),
         At::Fixed(key) => write!(text, "[{key}]"),
     }
 }
 
-/// Adds a cell, `name`, `name[key]` or `name[digits]`.
+/// Adds a cell, `name`, `name[key]`, `name[item]` or `name[digits]`.
 pub fn add_cell(text: &mut String, families: &[Family], cell: CellRef) -> Result<(), AllocError>
     ensures { OnOk result (string_bytes text.new ≡ string_bytes text.old ++ written_cell families.now cell) }
 {
@@ -44,6 +45,8 @@ fn op_text(op: Op) -> &'static str
         Op::Plus => "+",
         Op::Minus => "-",
         Op::Times => "*",
+        Op::Divide => "/",
+        Op::Remainder => "%",
         Op::Less => "<",
         Op::LessEq => "<=",
         Op::More => ">",
@@ -63,6 +66,7 @@ pub fn add_term(text: &mut String, families: &[Family], expr: &Expr) -> Result<(
         Expr::Lit(number) => write!(text, "{number}"),
         Expr::Value => text.push_str("value"),
         Expr::Key => text.push_str("key"),
+        Expr::Item => text.push_str("item"),
         Expr::Time => text.push_str("time"),
         Expr::Read(cell) => add_cell(text, families, *cell),
         Expr::Has(cell) => {

@@ -83,7 +83,7 @@ fn read_parts(alloc: Global, bytes: &[u8]) -> Result<JobParts, JobFault>
 ///
 /// Then names are checked, in the order of the declarations: [`JobFault::TwiceNamed`] at the second declaration of a name,
 /// [`JobFault::OverLimit`] for a family, kind, source or `depends` that is one too many. Then [`JobFault::WrongShape`] at a version
-/// other than 1 and 2. At last the declarations are checked again, token by token, where [`JobFault::UnknownName`] comes before
+/// other than 1, 2 and 3. At last the declarations are checked again, token by token, where [`JobFault::UnknownName`] comes before
 /// [`JobFault::WrongShape`], that before [`JobFault::OverLimit`], and that before [`JobFault::TwiceNamed`]. [`JobFault::NoMemory`]
 /// if memory runs out.
 pub fn read_job(alloc: Global, bytes: &[u8]) -> Result<Program, JobFault>

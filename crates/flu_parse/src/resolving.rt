@@ -5,19 +5,19 @@ ghost use Rattle.std.specs.List.{list_any};
 ghost use Rattle.flu_model.specs.Erasure.{plain_action, plain_kind};
 ghost use Rattle.flu_syntax.specs.Tree.{action_of as action_seen, declaration_of, job_of};
 ghost use Rattle.flu_parse.specs.Faults.{Gives};
-ghost use Rattle.flu_parse.specs.Naming.{naming};
-ghost use Rattle.flu_parse.specs.Resolving.{drafted, same_of, with_depend, with_actions, with_on, with_source, with_declaration, family, idle_kind};
-ghost use Rattle.flu_parse.specs.Resolving.{first_draft, draft_of, version_of, resolved, job_of_parts};
+ghost use Rattle.flu_parse.specs.Naming.{naming, in_version};
+ghost use Rattle.flu_parse.specs.Resolving.{drafted, same_of, with_depend, with_actions, with_on, with_source, with_declaration, idle_kind};
+ghost use Rattle.flu_parse.specs.Resolving.{cell_name_fits, item_word_fits, first_draft, draft_of, version_of, resolved, job_of_parts};
 
 use crate::actions::resolved_actions;
 use crate::drafts::{Draft, JobParts};
 use crate::faults::JobFault;
 use crate::listings::{file_of, rate_of, slack_of, tags_of};
 use crate::names::{KindHead, Names};
-use crate::naming::{kind_of, naming_of};
+use crate::naming::{families_of, is_version_3, kind_of, naming_of};
 use crate::terms::shape_at;
 use flu_layout::{name_of, written_value};
-use flu_model::{Action, Depend, Family, Kind, List, Name, Source, Text};
+use flu_model::{Action, Depend, Kind, List, Name, Source, Text};
 use flu_syntax::{
     WrittenAction, WrittenDeclaration, WrittenJob, WrittenNumber, WrittenRelation, WrittenSpan,
     WrittenTag,
@@ -127,6 +127,23 @@ fn add_source(
     Ok(())
 }
 
+// Whether a family may have this name.
+fn cell_name_fits(text: &str, names: &Names, name: WrittenSpan) -> bool
+    ensures { result ≡ cell_name_fits text.now (naming names.now) name }
+{
+    !(is_version_3(names) && name_of(text, name) == "item")
+}
+
+// A wrong shape at the word `item` of a kind, unless the language has items.
+fn item_word_fits(names: &Names, item: &Option<usize>) -> Result<(), JobFault>
+    ensures { Gives (λ done. done) result (item_word_fits (naming names.now) item.now) }
+{
+    match item {
+        None => Ok(()),
+        Some(at) => shape_at(is_version_3(names), *at),
+    }
+}
+
 #[tactic(auto, unfolding(crate::specs::Resolving::with_declaration))]
 fn add_declaration(
     alloc: Global,
@@ -138,7 +155,14 @@ fn add_declaration(
     ensures { Gives (λ done. drafted draft.new) result (with_declaration text.now (naming names.now) (drafted draft.old) (declaration_of declaration.now)) }
 {
     match declaration {
-        WrittenDeclaration::Cell { .. } | WrittenDeclaration::Tag { .. } => Ok(()),
+        WrittenDeclaration::Cell { name, .. } => {
+            shape_at(cell_name_fits(text, names, *name), name.from)?;
+            Ok(())
+        }
+        WrittenDeclaration::Tag { item, .. } => {
+            item_word_fits(names, item)?;
+            Ok(())
+        }
         WrittenDeclaration::Depends { a, b, relation } => {
             add_depend(text, names, draft, *a, *b, relation)
         }
@@ -165,22 +189,6 @@ fn add_declaration(
     }
 }
 
-// The families, in the order of their declarations.
-fn families_of(alloc: Global, names: &Names) -> Result<Vec<Family>, AllocError>
-    ensures { IfOk result (λ families. families.items ≡ map family (naming names.now).families) }
-{
-    let mut families = Vec::new(alloc);
-    for (name, head) in names.families.iter() {
-        let name = Name::of(String::from_str(alloc, name)?);
-        families.push(Family {
-            name,
-            keyed: head.keyed,
-            sort: head.sort,
-        })?;
-    }
-    Ok(families)
-}
-
 // The kinds, in the order of their declarations, without actions.
 fn idle_kinds(alloc: Global, names: &Names) -> Result<Vec<Kind>, AllocError>
     ensures { IfOk result (λ kinds. map plain_kind kinds.items ≡ map idle_kind (naming names.now).kinds) }
@@ -191,6 +199,7 @@ fn idle_kinds(alloc: Global, names: &Names) -> Result<Vec<Kind>, AllocError>
         kinds.push(Kind {
             name,
             keyed: head.keyed,
+            has_item: head.has_item,
             has_value: head.has_value,
             actions: List::of(Vec::new(alloc)),
         })?;
@@ -237,7 +246,7 @@ fn version_of(written: &Option<WrittenNumber>) -> Result<u32, JobFault>
         None => Ok(1),
         Some(number) => {
             let version = written_value(number.value);
-            shape_at(version == 1 || version == 2, number.at)?;
+            shape_at(version == 1 || version == 2 || version == 3, number.at)?;
             Ok(version as u32)
         }
     }
@@ -249,18 +258,19 @@ fn version_of(written: &Option<WrittenNumber>) -> Result<u32, JobFault>
 ///
 /// Names are checked first, in the order of the declarations: [`JobFault::TwiceNamed`] at the second declaration of a name,
 /// [`JobFault::OverLimit`] for a family, kind, source or `depends` that is one too many. Then [`JobFault::WrongShape`] at a
-/// version other than 1 and 2. Then the declarations are checked again, token by token, where an unknown name comes before a
+/// version other than 1, 2 and 3. Then the declarations are checked again, token by token, where an unknown name comes before a
 /// wrong shape, that before a limit, and that before what is named twice. [`JobFault::NoMemory`] if memory runs out.
 #[tactic(auto, unfolding(crate::specs::Resolving::resolved))]
 pub fn resolve(alloc: Global, text: &str, job: &WrittenJob) -> Result<JobParts, JobFault>
     ensures { Gives job_of_parts result (resolved text.now (job_of job.now)) }
 {
     let declarations = job.declarations.items();
-    let names = match naming_of(alloc, text, declarations) {
+    let mut names = match naming_of(alloc, text, declarations) {
         Ok(names) => names,
         Err(fault) => return Err(fault),
     };
     let version = version_of(&job.version)?;
+    names.version = version;
     let draft = draft_of(alloc, text, &names, declarations)?;
     let families = families_of(alloc, &names)?;
     Ok(JobParts {

@@ -30,19 +30,20 @@ fn end_plain(scanner: &mut Scanner, place: usize) -> Result<(), AllocError>
 fn scan_byte(
     scanner: &mut Scanner,
     text: &str,
+    version: u32,
     in_flush: bool,
     place: usize,
     byte: u8,
 ) -> Result<bool, AllocError>
     requires { place < length text.now }
     ensures { IfOk result (λ goes_on. Steps goes_on (scan_of scanner.old) (scan_of scanner.new)
-        (scan_byte (field_at text.now in_flush) (scan_of scanner.old) place byte)) }
+        (scan_byte (field_at text.now version in_flush) (scan_of scanner.old) place byte)) }
 {
     if scanner.in_field {
         if byte != b'}' {
             return Ok(byte != b'{');
         }
-        let piece = piece_between(text, in_flush, scanner.start, place);
+        let piece = piece_between(text, version, in_flush, scanner.start, place);
         scanner.pieces.push(piece)?;
         scanner.start = place + 1;
         scanner.in_field = false;
@@ -78,12 +79,13 @@ fn end_scan(scanner: Scanner, place: usize) -> Result<ScannedTemplate, AllocErro
 fn scan(
     alloc: Global,
     text: &str,
+    version: u32,
     in_flush: bool,
     from: usize,
     bytes: &[u8],
 ) -> Result<ScannedTemplate, AllocError>
     requires { from + length bytes.now ≤ length text.now }
-    ensures { IfOk result (λ t. template_of_scan t ≡ scan (field_at text.now in_flush) (scan_start from) from bytes.now) }
+    ensures { IfOk result (λ t. template_of_scan t ≡ scan (field_at text.now version in_flush) (scan_start from) from bytes.now) }
 {
     let mut scanner = Scanner {
         pieces: Vec::new(alloc),
@@ -91,7 +93,7 @@ fn scan(
         in_field: false,
     };
     for (i, byte) in bytes.iter().enumerate() {
-        let goes_on = scan_byte(&mut scanner, text, in_flush, from + i, *byte)?;
+        let goes_on = scan_byte(&mut scanner, text, version, in_flush, from + i, *byte)?;
         if !goes_on {
             return Ok(ScannedTemplate {
                 pieces: scanner.pieces,
@@ -108,10 +110,11 @@ fn scan(
 pub fn template_at(
     alloc: Global,
     text: &str,
+    version: u32,
     in_flush: bool,
     span: WrittenSpan,
 ) -> Result<ScannedTemplate, AllocError>
-    ensures { IfOk result (λ t. template_of_scan t ≡ template_at text.now in_flush span) }
+    ensures { IfOk result (λ t. template_of_scan t ≡ template_at text.now version in_flush span) }
 {
     let bytes = inside(text, span).as_bytes();
     if bytes.is_empty() {
@@ -120,5 +123,5 @@ pub fn template_at(
             whole: true,
         });
     }
-    scan(alloc, text, in_flush, span.from + 1, bytes)
+    scan(alloc, text, version, in_flush, span.from + 1, bytes)
 }

@@ -1,17 +1,20 @@
 //! Written expressions.
 
 ghost use Rattle.std.specs.Prelude.{◌≡◌, nat_le};
+ghost use Rattle.flu_model.specs.Versions.{op_divides};
 ghost use Rattle.flu_model.specs.Erasure.{term_of as plain_term};
 ghost use Rattle.flu_syntax.specs.Tree.{view};
 ghost use Rattle.flu_parse.specs.Faults.{Gives, unless};
 ghost use Rattle.flu_parse.specs.Naming.{naming};
-ghost use Rattle.flu_parse.specs.Terms.{height, first_part, first_token, term_of, expression_of};
+ghost use Rattle.flu_parse.specs.Terms.{height, first_part, is_alone, is_item, op_fits, first_token, term_of, expression_of};
 
 use crate::cells::{family_for, resolved_cell};
 use crate::faults::JobFault;
 use crate::names::{KindHead, Names};
-use flu_model::{Expr, What};
-use flu_syntax::WrittenExpr;
+use crate::naming::{is_version_3, takes_items};
+use flu_layout::name_of;
+use flu_model::{Expr, Op, What};
+use flu_syntax::{WrittenExpr, WrittenKey, WrittenRef};
 use std::alloc::Global;
 
 /// The greatest height of an expression.
@@ -36,7 +39,7 @@ fn is_within(written: &WrittenExpr, levels: u32) -> bool
             inner,
             levels - 1,
         ),
-        WrittenExpr::Two(_, left, right) => {
+        WrittenExpr::Two { left, right, .. } => {
             is_within(left, levels - 1) && is_within(right, levels - 1)
         }
     }
@@ -47,10 +50,53 @@ fn first_part(written: &WrittenExpr) -> &WrittenExpr
     ensures { view result.now ≡ first_part (view written.now) }
 {
     let mut part = written;
-    while let WrittenExpr::Two(_, left, _) = part {
+    while let WrittenExpr::Two { left, .. } = part {
         part = left;
     }
     part
+}
+
+/// Whether a family is named without brackets.
+pub fn is_alone(key: &WrittenKey) -> bool
+    ensures { result ≡ is_alone key.now }
+{
+    match key {
+        WrittenKey::Alone => true,
+        WrittenKey::OwnKey { .. } | WrittenKey::OwnItem { .. } | WrittenKey::Fixed(_) => false,
+    }
+}
+
+// Whether what is read as a cell is the event's item.
+fn is_item(text: &str, names: &Names, written: &WrittenRef) -> bool
+    ensures { result ≡ is_item text.now (naming names.now) written.now }
+{
+    is_version_3(names) && is_alone(&written.key) && name_of(text, written.family) == "item"
+}
+
+fn divides(op: Op) -> bool
+    ensures { result ≡ op_divides op }
+{
+    match op {
+        Op::Divide | Op::Remainder => true,
+        Op::Plus
+        | Op::Minus
+        | Op::Times
+        | Op::Less
+        | Op::LessEq
+        | Op::More
+        | Op::MoreEq
+        | Op::Same
+        | Op::Differs
+        | Op::Both
+        | Op::Either => false,
+    }
+}
+
+// Whether the language has an operator in the job's version.
+fn op_fits(names: &Names, op: Op) -> bool
+    ensures { result ≡ op_fits (naming names.now) op }
+{
+    is_version_3(names) || !divides(op)
 }
 
 #[tactic(auto, unfolding(crate::specs::Terms::first_token))]
@@ -66,6 +112,9 @@ fn first_token(
         WrittenExpr::Value { at } => shape_at(under.has_value, *at),
         WrittenExpr::Key { at } => shape_at(under.keyed, *at),
         WrittenExpr::Read(cell) => {
+            if is_item(text, names, cell) {
+                return shape_at(takes_items(names, under), cell.family.from);
+            }
             family_for(text, names, None, cell)?;
             Ok(())
         }
@@ -75,7 +124,7 @@ fn first_token(
         | WrittenExpr::Paren { .. }
         | WrittenExpr::Neg { .. }
         | WrittenExpr::Not { .. }
-        | WrittenExpr::Two(..) => Ok(()),
+        | WrittenExpr::Two { .. } => Ok(()),
     }
 }
 
@@ -112,6 +161,10 @@ fn term_of(
         }
         WrittenExpr::Time { .. } => Ok(Expr::Time),
         WrittenExpr::Read(cell) => {
+            if is_item(text, names, cell) {
+                shape_at(takes_items(names, under), cell.family.from)?;
+                return Ok(Expr::Item);
+            }
             let cell = resolved_cell(text, names, under, None, cell)?;
             Ok(Expr::Read(cell))
         }
@@ -128,8 +181,14 @@ fn term_of(
             let inner = term_of(alloc, text, names, under, inner)?;
             Ok(Expr::Not(Box::new(alloc, inner)?))
         }
-        WrittenExpr::Two(op, left, right) => {
+        WrittenExpr::Two {
+            op,
+            at,
+            left,
+            right,
+        } => {
             let left = term_of(alloc, text, names, under, left)?;
+            shape_at(op_fits(names, *op), *at)?;
             let right = term_of(alloc, text, names, under, right)?;
             Ok(Expr::Two(*op, Box::new(alloc, left)?, Box::new(alloc, right)?))
         }

@@ -2,6 +2,7 @@
 use Rattle.std.proofs.Common.{◌≡◌, ℕ, List, [], ◌∷◌, ◌++◌, Ok, Err, pos, refl, sym, ap, subst, ◌∙◌, append_assoc}
 use Rattle.flu_text.specs.declared.words.Word.{Word}
 use Rattle.flu_text.specs.declared.words.Word.TheVariants as w
+use Rattle.flu_text.specs.declared.words.Contextual.TheVariants as c
 use Rattle.flu_names.specs.declared.reserved.Reserved.TheVariants as r
 use Rattle.flu_text.specs.declared.words.Mark.TheVariants as m
 use Rattle.flu_text.specs.declared.words.Token.{Token}
@@ -34,7 +35,7 @@ abbrev token : Word → Token
 token word = record { word = word; from = 0; to = 0 }
 
 abbrev a_name : Token
-a_name = token w.Name
+a_name = token (w.Name c.Other)
 
 abbrev a_number : Token
 a_number = token (w.Number (pos 0))

@@ -1,5 +1,5 @@
 -- What is found as a plan is spelled so: each token is the sign that the machine's turn puts behind those before.
-use Rattle.std.proofs.Common.{◌≡◌, ◌≢◌, ℕ, List, [], ◌∷◌, ◌++◌, Option, Some, None, Ok, refl, sym, ap, subst, ◌∙◌, append_assoc}
+use Rattle.std.proofs.Common.{◌≡◌, ◌≢◌, ℕ, List, [], ◌∷◌, ◌++◌, Option, Some, None, Ok, true, refl, sym, ap, subst, ◌∙◌, append_assoc}
 use Rattle.std.specs.List.{flat_map}
 use Rattle.std.proofs.lemmas.List.{append-nil}
 use Rattle.std.proofs.lemmas.Grind.{flat_map-append}
@@ -13,7 +13,7 @@ use Rattle.flu_text.specs.declared.written.WrittenNumber.{WrittenNumber}
 use Rattle.flu_text.specs.declared.written.WrittenKeys.{WrittenKeys}
 use Rattle.flu_text.specs.declared.written.WrittenKeys.TheVariants as keys
 use Rattle.flu_text.specs.Signs.{span_of, number_of}
-use Rattle.flu_text.specs.Signs.{Sign, Any, At, Spanned, IsSign, AreSigns}
+use Rattle.flu_text.specs.Signs.{Sign, Any, At, Named, is_name_word, IsSign, AreSigns}
 use Rattle.flu_text.specs.Signs.{name, number, keys_signs, separated}
 use Rattle.flu_plan.specs.declared.terminals.Terminal.{Terminal}
 use Rattle.flu_plan.specs.declared.terminals.Terminal.TheVariants as k
@@ -122,7 +122,7 @@ has_source (Some kind) ks source h = tt
 -- what a terminal says of the word
 abbrev Said : Terminal → Word → Type 0
 Said k.Node word = word ≡ w.Reserved r.Node
-Said k.Name word = word ≡ w.Name
+Said k.Name word = is_name_word word ≡ true
 Said (k.Number n) word = word ≡ w.Number n
 Said k.Colon word = word ≡ w.Mark m.Colon
 Said k.Comma word = word ≡ w.Mark m.Comma
@@ -135,7 +135,7 @@ Said k.Other word = Unit {0}
 
 said : (word : Word) → Said (terminal_of word) word
 unfolding terminal_of
-said w.Name = refl
+said (w.Name c) = refl
 said (w.Reserved r.Node) = refl
 said (w.Reserved _) = tt
 said (w.Number n) = refl
@@ -251,10 +251,10 @@ module _ (nodes : List WrittenNode) (nm : WrittenSpan) (preds : List WrittenPred
   node_took : (k : Terminal) → Said k t.word → Good nodes preds stage.Node → stage_step (turn nodes nm preds stage.Node) t k stage.Node ≡ Ok u
       → Took (history nodes nm preds stage.Node) t u
   node_took k.Name word good e =
-      took (history nodes nm preds stage.Node) t u (turn nodes (span_of t) preds stage.Name) (Spanned w.Name (span_of t)) (word, refl, refl)
+      took (history nodes nm preds stage.Node) t u (turn nodes (span_of t) preds stage.Name) (Named (span_of t)) (word, refl, refl)
       (record { nodes_are = good.nodes_are; preds_are = good.preds_are; holds = good.holds })
       (grow (plan_signs nodes) (Any (w.Reserved r.Node) ∷ []) (history nodes nm preds stage.Node) (open_signs (span_of t) preds stage.Name)
-      (Spanned w.Name (span_of t)) refl refl) e
+      (Named (span_of t)) refl refl) e
   node_took _ word good e = absurd cc
 
   name_took : (k : Terminal) → Said k t.word → Good nodes preds stage.Name → stage_step (turn nodes nm preds stage.Name) t k stage.Name ≡ Ok u
@@ -264,7 +264,7 @@ module _ (nodes : List WrittenNode) (nm : WrittenSpan) (preds : List WrittenPred
 
   comma_took : (k : Terminal) → Said k t.word → Good nodes preds stage.Comma → stage_step (turn nodes nm preds stage.Comma) t k stage.Comma ≡ Ok u
       → Took (history nodes nm preds stage.Comma) t u
-  comma_took k.Name word good e = opened stage.Comma (stage.Kind (span_of t)) (Spanned w.Name (span_of t)) (word, refl, refl) good tt refl e
+  comma_took k.Name word good e = opened stage.Comma (stage.Kind (span_of t)) (Named (span_of t)) (word, refl, refl) good tt refl e
   comma_took k.At word good e = opened stage.Comma (stage.At None keys.Alone) (Any (w.Mark m.At)) word good refl refl e
   comma_took _ word good e = absurd cc
 
@@ -278,7 +278,7 @@ module _ (nodes : List WrittenNode) (nm : WrittenSpan) (preds : List WrittenPred
       (record { nodes_are = nodes_more nodes (node_with nm preds None) good.nodes_are good.preds_are; preds_are = tt; holds = refl })
       (ap (λ l. l ++ Any (w.Reserved r.Node) ∷ []) (node_ends nodes nm preds None (head nm) (sym (ap (λ p. head nm ++ (all_preds p ++ [])) good.holds)))) e
   colon_took k.Name word good e =
-      opened stage.Colon (stage.Kind (span_of t)) (Spanned w.Name (span_of t)) (word, refl, refl) good tt
+      opened stage.Colon (stage.Kind (span_of t)) (Named (span_of t)) (word, refl, refl) good tt
       (ap (λ p. before_pred nm p ++ name (span_of t)) good.holds) e
   colon_took k.At word good e =
       opened stage.Colon (stage.At None keys.Alone) (Any (w.Mark m.At)) word good refl (ap (λ p. before_pred nm p ++ Any (w.Mark m.At) ∷ []) good.holds) e
@@ -348,7 +348,7 @@ module _ (nodes : List WrittenNode) (nm : WrittenSpan) (preds : List WrittenPred
   at_took kind ks k.Name word good e =
       let q = pred kind ks (Some (span_of t)) in
       let before = before_pred nm preds in
-      let sign = Spanned w.Name (span_of t) in
+      let sign = Named (span_of t) in
       let whole : (kind_signs kind ks ++ Any (w.Mark m.At) ∷ []) ++ sign ∷ [] ≡ pred_signs q = append_assoc (kind_signs kind ks) (Any (w.Mark m.At) ∷ [])
       (sign ∷ []) in
       took (history nodes nm preds (stage.At kind ks)) t u (with_pred (turn nodes nm preds (stage.At kind ks)) q) sign (word, refl, refl)
@@ -367,15 +367,15 @@ module _ (nodes : List WrittenNode) (nm : WrittenSpan) (preds : List WrittenPred
   arrow_took : (k : Terminal) → Said k t.word → Good nodes preds stage.Arrow → stage_step (turn nodes nm preds stage.Arrow) t k stage.Arrow ≡ Ok u
       → Took (history nodes nm preds stage.Arrow) t u
   arrow_took k.Name word good e =
-      opened stage.Arrow (stage.Left (span_of t)) (Spanned w.Name (span_of t)) (word, refl, refl) good tt
-      (sym (append_assoc (behind_preds nm preds) (Any (w.Mark m.Arrow) ∷ []) (Spanned w.Name (span_of t) ∷ []))) e
+      opened stage.Arrow (stage.Left (span_of t)) (Named (span_of t)) (word, refl, refl) good tt
+      (sym (append_assoc (behind_preds nm preds) (Any (w.Mark m.Arrow) ∷ []) (Named (span_of t) ∷ []))) e
   arrow_took _ word good e = absurd cc
 
   left_took : (left : WrittenSpan) (k : Terminal) → Said k t.word → Good nodes preds (stage.Left left)
       → stage_step (turn nodes nm preds (stage.Left left)) t k (stage.Left left) ≡ Ok u → Took (history nodes nm preds (stage.Left left)) t u
   left_took left k.Name word good e =
-      opened (stage.Left left) (stage.Right left (span_of t)) (Spanned w.Name (span_of t)) (word, refl, refl) good tt
-      (sym (append_assoc (behind_preds nm preds) (Any (w.Mark m.Arrow) ∷ name left) (Spanned w.Name (span_of t) ∷ []))) e
+      opened (stage.Left left) (stage.Right left (span_of t)) (Named (span_of t)) (word, refl, refl) good tt
+      (sym (append_assoc (behind_preds nm preds) (Any (w.Mark m.Arrow) ∷ name left) (Named (span_of t) ∷ []))) e
   left_took left _ word good e = absurd cc
 
   right_took : (left right : WrittenSpan) (k : Terminal) → Said k t.word → Good nodes preds (stage.Right left right)

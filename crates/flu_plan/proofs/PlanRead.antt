@@ -26,7 +26,7 @@ use Rattle.flu_text.specs.declared.written.WrittenSpan.{WrittenSpan}
 use Rattle.flu_text.specs.declared.written.WrittenKeys.{WrittenKeys}
 use Rattle.flu_text.specs.declared.written.WrittenKeys.TheVariants as keys
 use Rattle.flu_text.specs.Signs.{span_of}
-use Rattle.flu_text.specs.Signs.{Any, IsSign}
+use Rattle.flu_text.specs.Signs.{Any, IsSign, is_name_word}
 use Rattle.flu_text.specs.Signs.{keys_signs, separated}
 use Rattle.flu_layout.specs.Spelling.{name_of}
 use Rattle.flu_lemmas.specs.Items.{lines_before, Begins, Pairs as Zip}
@@ -175,7 +175,7 @@ module _ (whole : List ℕ) (p : Program) (differ : NamesDiffer p) where
       let named = n.3.named refl in
       record {
         written = Some span;
-        took = record { rest = n.1; begins = (h.0, h.1, h.2, h.3.word, (n.0, n.1, n.2, (n.3.word, refl, refl), refl)); stand = n.4 };
+        took = record { rest = n.1; begins = (h.0, h.1, h.2, h.3.word, (n.0, n.1, n.2, (ap is_name_word n.3.word, refl, refl), refl)); stand = n.4 };
         found = source_known source span fits named;
         there = refl;
       }
@@ -239,7 +239,7 @@ module _ (whole : List ℕ) (p : Program) (differ : NamesDiffer p) where
       let both = took_more IsSign (Stand whole) (keys_signs k.written) (source_signs s.written) (source_words p source behind rest) rest h.1 k.took s.took in
       record {
         written = record { kind = Some span; keys = k.written; source = s.written };
-        took = record { rest = both.rest; begins = (h.0, h.1, h.2, (h.3.word, refl, refl), both.begins); stand = both.stand };
+        took = record { rest = both.rest; begins = (h.0, h.1, h.2, (ap is_name_word h.3.word, refl, refl), both.begins); stand = both.stand };
         is = record {
           draft = record { kind = Some kind; keys = k.written; source = source };
           found = pred_found (Some kind) source (Some span) s.written k.written (kind_known kind span here named) s.found;
@@ -302,8 +302,13 @@ module _ (whole : List ℕ) (p : Program) (differ : NamesDiffer p) where
           written = Some (span_of a.0, span_of b.0);
           took = record {
             rest = b.1;
-            begins =
-                (h.0, h.1, h.2, h.3.word, (a.0, a.1, a.2, (a.3.word, refl, refl), (b.0, b.1, b.2, (b.3.word, refl, refl), refl)));
+            begins = (
+              h.0,
+              h.1,
+              h.2,
+              h.3.word,
+              (a.0, a.1, a.2, (ap is_name_word a.3.word, refl, refl), (b.0, b.1, b.2, (ap is_name_word b.3.word, refl, refl), refl)),
+            );
             stand = b.4;
           };
           are = (a.3.named refl, b.3.named refl);
@@ -328,7 +333,11 @@ module _ (whole : List ℕ) (p : Program) (differ : NamesDiffer p) where
         (kids_words all n.kids rest) rest a.1 preds.took kids.took in
         record {
           written = record { name = span_of a.0; preds = preds.written; kids = kids.written };
-          took = record { rest = both.rest; begins = (h.0, h.1, h.2, h.3.word, (a.0, a.1, a.2, (a.3.word, refl, refl), both.begins)); stand = both.stand };
+          took = record {
+            rest = both.rest;
+            begins = (h.0, h.1, h.2, h.3.word, (a.0, a.1, a.2, (ap is_name_word a.3.word, refl, refl), both.begins));
+            stand = both.stand;
+          };
           is = record { name_is = named; preds = preds.are; kids = kids.are };
         }
 

@@ -2,6 +2,7 @@
 use Rattle.std.proofs.Common.{◌≡◌, ℕ, ℤ, true, false, List, [], ◌∷◌, ◌++◌, Option, Some, None, Ok, refl, sym, ap, subst, ◌∙◌, append_assoc}
 use Rattle.std.specs.List.{flat_map}
 use Rattle.std.proofs.lemmas.List.{append-nil}
+use Rattle.flu_text.specs.declared.words.Word.{Word}
 use Rattle.flu_text.specs.declared.words.Word.TheVariants as w
 use Rattle.flu_names.specs.declared.reserved.Reserved.TheVariants as r
 use Rattle.flu_text.specs.declared.words.Mark.{Mark}
@@ -12,7 +13,7 @@ use Rattle.flu_text.specs.declared.written.WrittenNumber.{WrittenNumber}
 use Rattle.flu_text.specs.declared.written.WrittenKeys.{WrittenKeys}
 use Rattle.flu_text.specs.declared.written.WrittenKeys.TheVariants as keys
 use Rattle.flu_text.specs.Signs.{span_of, number_of}
-use Rattle.flu_text.specs.Signs.{Sign, Any, At, Spanned, IsSign, AreSigns}
+use Rattle.flu_text.specs.Signs.{Sign, Any, At, Named, is_name_word, IsSign, AreSigns}
 use Rattle.flu_text.specs.Signs.{name, number, keys_signs, separated}
 use Rattle.flu_plan.specs.declared.terminals.Terminal.{Terminal}
 use Rattle.flu_plan.specs.declared.terminals.Terminal.TheVariants as k
@@ -56,9 +57,10 @@ on_to : (end : ℕ) (u next last : Turn) (tokens : List Token) (middle more : Li
     → LeadsTo end next a.0 last more → LeadsTo end u tokens last more
 on_to end u next last tokens middle more a b = (b.0, b.1, a.2 ∙ b.2)
 
-terminal-name : (t : Token) → t.word ≡ w.Name → terminal_of t.word ≡ k.Name
+terminal-name : (word : Word) → is_name_word word ≡ true → terminal_of word ≡ k.Name
 unfolding terminal_of
-terminal-name t e = ap terminal_of e
+terminal-name (w.Name c) e = refl
+terminal-name _ e = absurd cc
 
 terminal-number : (t : Token) (n : ℤ) → t.word ≡ w.Number n → terminal_of t.word ≡ k.Number n
 unfolding terminal_of
@@ -115,7 +117,7 @@ takes_mark end u next tokens mark k more h is takes =
 takes_name : (end : ℕ) (u : Turn) (next : WrittenSpan → Turn) (tokens : List Token) (s : WrittenSpan) (more : List Sign) → AreSigns (name s ++ more) tokens
     → ((t : Token) → stage_step u t k.Name u.stage ≡ Ok (next (span_of t))) → LeadsTo end u tokens (next s) more
 takes_name end u next tokens s more h takes =
-    takes_sign end u (next s) tokens (Spanned w.Name s) more h (λ t sign. steps u t k.Name (terminal-name t sign.0) ∙ takes t
+    takes_sign end u (next s) tokens (Named s) more h (λ t sign. steps u t k.Name (terminal-name t.word sign.0) ∙ takes t
     ∙ ap (λ x. Ok (next x)) (same_span t s sign.1 sign.2))
 
 takes_number : (end : ℕ) (u : Turn) (next : WrittenNumber → Turn) (tokens : List Token) (n : WrittenNumber) (more : List Sign)

@@ -23,7 +23,7 @@ use Rattle.flu_plan.specs.Faults.{Found, ◌>>=◌, each}
 
 -- what a word is in a plan text
 unfoldable pub terminal_of : Word → Terminal
-terminal_of w.Name = k.Name
+terminal_of (w.Name c) = k.Name
 terminal_of (w.Reserved r.Node) = k.Node
 terminal_of (w.Number n) = k.Number n
 terminal_of (w.Mark m.Colon) = k.Colon

@@ -27,7 +27,7 @@ pub fn terminal_of(word: Word) -> Terminal
     ensures { result ≡ terminal_of word }
 {
     match word {
-        Word::Name => Terminal::Name,
+        Word::Name(_) => Terminal::Name,
         Word::Reserved(word) => match word {
             Reserved::Node => Terminal::Node,
             _ => Terminal::Other,

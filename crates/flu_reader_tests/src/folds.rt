@@ -103,6 +103,7 @@ fn updates_add_read_and_clear(rt: HostRuntime) -> Result<(), Fail> {
         let x = Event {
             time: 8,
             itag: Itag(itag),
+            item: 0,
             value,
         };
         assert!(rt; itag < itag_count(&p));

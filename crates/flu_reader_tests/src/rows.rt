@@ -6,18 +6,18 @@ use crate::files::files_of;
 use crate::tables::case_of;
 use flu_model::Text;
 use flu_outside::{MemFiles, TakeFault};
-use flu_rows::{Next, Row, Rows};
+use flu_rows::{Fields, Next, Row, RowForm, Rows};
 use std::alloc::{AllocError, Global};
 use std::process::Abort;
 use std::test::Fail;
 
-/// What is read of the file `f`, in short: `LINE: TIME NAME KEY VALUE`, `LINE: beat TIME`, `LINE: end`, and then how
+/// What is read of the file `f`, in short: `LINE: TIME NAME KEY FIELDS`, `LINE: beat TIME`, `LINE: end`, and then how
 /// the reading ended. Each take gives at most this many bytes.
-fn read_all(alloc: Global, bytes: &[u8], piece: usize) -> Result<String, Fail>
+fn read_all(alloc: Global, form: RowForm, bytes: &[u8], piece: usize) -> Result<String, Fail>
     requires { 0 < piece }
 {
     let mut files = files_of(alloc, &[("f", bytes)], piece)?;
-    let mut rows = rows_of(alloc, "f")?;
+    let mut rows = rows_of(alloc, form, "f")?;
     let mut text = String::new(alloc);
     for _ in 0..20u8 {
         if !add_next(alloc, &mut rows, &mut files, &mut text)? {
@@ -27,8 +27,8 @@ fn read_all(alloc: Global, bytes: &[u8], piece: usize) -> Result<String, Fail>
     Ok(text)
 }
 
-fn rows_of(alloc: Global, name: &str) -> Result<Rows, AllocError> {
-    Rows::new(alloc, &Text::of(String::from_str(alloc, name)?))
+fn rows_of(alloc: Global, form: RowForm, name: &str) -> Result<Rows, AllocError> {
+    Rows::new(alloc, form, &Text::of(String::from_str(alloc, name)?))
 }
 
 /// Adds what is read next; whether that is a row.
@@ -50,10 +50,11 @@ fn shown(alloc: Global, next: &Next) -> Result<String, AllocError> {
                 time,
                 name,
                 key,
-                value,
+                fields,
             } => {
                 let name = name.as_str();
-                format!(in alloc; "{line}: {time} {name} {key:?} {value:?}, ")
+                let fields = shown_fields(alloc, *fields)?;
+                format!(in alloc; "{line}: {time} {name} {key:?} {fields}, ")
             }
             Row::Beat(time) => format!(in alloc; "{line}: beat {time}, "),
             Row::End => format!(in alloc; "{line}: end, "),
@@ -64,14 +65,28 @@ fn shown(alloc: Global, next: &Next) -> Result<String, AllocError> {
     }
 }
 
+/// What stands behind the tag: nothing, a number as a value and perhaps as an item, an item and a value, or other fields.
+fn shown_fields(alloc: Global, fields: Fields) -> Result<String, AllocError> {
+    match fields {
+        Fields::Nothing => String::from_str(alloc, "None"),
+        Fields::One { item: None, value } => format!(in alloc; "Some({value})"),
+        Fields::One {
+            item: Some(item),
+            value,
+        } => format!(in alloc; "{item} or {value}"),
+        Fields::Two { item, value } => format!(in alloc; "{item} and {value}"),
+        Fields::Other => String::from_str(alloc, "others"),
+    }
+}
+
 /// Whether the file of each line of a table is read as the line says, however many bytes a take gives. In the file a slash stands for a
 /// line feed, and a percent sign for a carriage return.
-fn expect_all(rt: &impl Abort, alloc: Global, table: &str) -> Result<(), Fail> {
+fn expect_all(rt: &impl Abort, alloc: Global, form: RowForm, table: &str) -> Result<(), Fail> {
     for line in table.split('\n') {
         let (text, wanted) = case_of(line);
         let text = text.replace(alloc, "/", "\n")?.replace(alloc, "%", "\r")?;
         for piece in [1usize, 3, 100_000] {
-            let got = read_all(alloc, text.as_bytes(), piece)?;
+            let got = read_all(alloc, form, text.as_bytes(), piece)?;
             assert_eq!(rt; got.as_str(), wanted, "{piece}");
         }
     }
@@ -114,7 +129,26 @@ end/\u{feff}end/ => 1: end, bad 2
 
 #[test]
 fn reads_rows(rt: HostRuntime) -> Result<(), Fail> {
-    expect_all(&rt, rt.alloc(), FILES)
+    expect_all(&rt, rt.alloc(), RowForm::Older, FILES)
+}
+
+/// Files of rows with items: those that are read as before, those of three and four fields, and lines that are none.
+const ITEMS: &str = "1,inc/2,beat/end/ => 1: 1 inc None None, 2: beat 2, 3: end, done 3
+1,inc,5/2,inc,-5/3,inc,65535/4,inc,65536/5,inc,007 => 1: 1 inc None 5 or 5, 2: 2 inc None Some(-5), 3: 3 inc None 65535 or 65535, 4: 4 inc None Some(65536), 5: 5 inc None 7 or 7, done 5
+1,inc[3],5,-6/2,inc,\"65535\",7/3,inc,5,6%/ => 1: 1 inc Some(3) 5 and -6, 2: 2 inc None 65535 and 7, 3: 3 inc None 5 and 6, done 3
+1,inc,x/2,inc,65536,1/3,inc,-1,1/4,inc,1,x/5,inc,,1 => 1: 1 inc None others, 2: 2 inc None others, 3: 3 inc None others, 4: 4 inc None others, 5: 5 inc None others, done 5
+1,inc,9223372036854775808/2,inc,1,-9223372036854775808 => 1: 1 inc None others, 2: 2 inc None 1 and -9223372036854775808, done 2
+1,inc,1,2,3 => bad 1
+1,inc,1,2,,/1,inc,,, => 1: 1 inc None 1 and 2, 2: 1 inc None None, done 2
+1,beat,5 => bad 1
+1,beat,5,6 => bad 1
+x,inc,1,2 => bad 1
+1,sum,1,2 => bad 1
+end,1 => bad 1";
+
+#[test]
+fn reads_rows_with_items(rt: HostRuntime) -> Result<(), Fail> {
+    expect_all(&rt, rt.alloc(), RowForm::WithItems, ITEMS)
 }
 
 /// A line of this many bytes that is a row, with a line feed or without one.
@@ -136,7 +170,7 @@ fn reads_lines_of_4096_bytes(rt: HostRuntime) -> Result<(), Fail> {
         for fed in [true, false] {
             for piece in [1usize, 5000] {
                 let line = long_line(rt.alloc(), len, fed)?;
-                let got = read_all(rt.alloc(), &line, piece)?;
+                let got = read_all(rt.alloc(), RowForm::Older, &line, piece)?;
                 assert_eq!(rt; got.as_str(), wanted, "{fed} {piece}");
             }
         }
@@ -148,7 +182,7 @@ fn reads_lines_of_4096_bytes(rt: HostRuntime) -> Result<(), Fail> {
 fn tells_a_fault(rt: HostRuntime) -> Result<(), Fail> {
     let mut files = files_of(rt.alloc(), &[("f", b"1,inc\n2,inc\n")], 3)?;
     files.fail_at(4)?;
-    let mut rows = rows_of(rt.alloc(), "f")?;
+    let mut rows = rows_of(rt.alloc(), RowForm::Older, "f")?;
     assert_eq!(rt; rows.next_row(&mut files).is_ok(), true);
     assert_eq!(rt; rows.next_row(&mut files).err(), Some(TakeFault::Failed));
     Ok(())
@@ -157,7 +191,7 @@ fn tells_a_fault(rt: HostRuntime) -> Result<(), Fail> {
 #[test]
 fn a_missing_file_is_a_fault(rt: HostRuntime) -> Result<(), Fail> {
     let mut files = files_of(rt.alloc(), &[], 3)?;
-    let mut rows = rows_of(rt.alloc(), "missing")?;
+    let mut rows = rows_of(rt.alloc(), RowForm::Older, "missing")?;
     assert_eq!(rt; rows.next_row(&mut files).err(), Some(TakeFault::Failed));
     Ok(())
 }

@@ -35,7 +35,7 @@ held_among h lines behind i source is =
 
 still_same : (source : HeldSource) (was is : Files) → is source.place.file ≡ was source.place.file → still source is ≡ still source was
 still_same source was is same =
-    ap (λ (o : Option (List ℕ)). if source.closed then [] else read_bytes source.place.lines (source.place.taken ++ unwrap_or o [])) same
+    ap (λ (o : Option (List ℕ)). if source.closed then [] else read_bytes source.place.form source.place.lines (source.place.taken ++ unwrap_or o [])) same
 
 -- the files of the sources are as they were
 abbrev KeepsFiles : List (List ℕ) → Files → Files → Type 0

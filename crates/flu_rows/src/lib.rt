@@ -12,6 +12,6 @@ mod run;
 mod scan;
 mod short_name;
 
-pub use row::Row;
+pub use row::{Fields, Row, RowForm, form_of};
 pub use rows::{Next, Rows};
 pub use short_name::ShortName;

@@ -13,7 +13,7 @@ ghost use Rattle.flu_rows.specs.LoopSteps.{step_of, row_step, step_behind, Begin
 
 use crate::front::row_at_front;
 use crate::line::{LONGEST_LINE, Line, line_of, line_of_record};
-use crate::row::Row;
+use crate::row::{Row, RowForm};
 use crate::run::Run;
 use csv::ByteRecord;
 use flu_model::Text;
@@ -47,6 +47,7 @@ enum Step {
 /// Contracts see its position (`Place` of `specs/Reading.antt`).
 #[derive(Drop)]
 pub struct Rows {
+    form: RowForm,
     file: Text,
     hold: Hold,
 }
@@ -57,16 +58,17 @@ impl Model for Rows {
 
     ghost Value = { Place };
 
-    ghost view = { λ r. record { file = r.file; taken = r.hold.run ++ r.hold.held; lines = r.hold.lines } };
+    ghost view = { λ r. record { form = r.form; file = r.file; taken = r.hold.run ++ r.hold.held; lines = r.hold.lines } };
 }
 
 impl Rows {
-    /// The rows of a file of which nothing was read yet.
-    pub fn new(alloc: Global, file: &Text) -> Result<Rows, AllocError>
-        ensures { IfOk result (λ rows. rows ≡ front_of file.now) }
+    /// The rows of this form of a file of which nothing was read yet.
+    pub fn new(alloc: Global, form: RowForm, file: &Text) -> Result<Rows, AllocError>
+        ensures { IfOk result (λ rows. rows ≡ front_of form file.now) }
     {
         let file = Text::of(String::from_str(alloc, file.as_str())?);
         Ok(Rows {
+            form,
             file,
             hold: Hold {
                 alloc,
@@ -90,6 +92,7 @@ impl Rows {
         ensures range { IfOk result NextInRange }
         ensures lines { IfOk result (CountsLines self.old.lines self.new.lines) }
         ensures same { self.new.file ≡ self.old.file }
+        ensures form { self.new.form ≡ self.old.form }
 
         // It only takes bytes from the front of its file, and a read fault has its cause there: no other answer comes after
         // a take that failed.
@@ -106,7 +109,7 @@ impl Rows {
         ensures undecided { IsErrOf result TakeFault.Failed → IsUndecided self.new.taken }
     {
         loop {
-            match self.hold.read_line(self.file.as_str(), files)? {
+            match self.hold.read_line(self.form, self.file.as_str(), files)? {
                 Step::Skip => {}
                 Step::Give(next) => return Ok(next),
             }
@@ -126,9 +129,14 @@ struct Hold {
 
 impl Hold {
     // Reads one line.
-    fn read_line<F: Files>(&mut self, file: &str, files: &mut F) -> Result<Step, TakeFault>
+    fn read_line<F: Files>(
+        &mut self,
+        form: RowForm,
+        file: &str,
+        files: &mut F,
+    ) -> Result<Step, TakeFault>
         ensures told { IfOk result (λ step. WhereTold (F.left files.old) (F.left files.new)
-            (ReadsStep file.now self.old.lines (self.old.run ++ self.old.held) self.new.lines (self.new.run ++ self.new.held) step)) }
+            (ReadsStep form file.now self.old.lines (self.old.run ++ self.old.held) self.new.lines (self.new.run ++ self.new.held) step)) }
         ensures end { IfOk result (λ step. StepOnDone step (IsReadOut file.now (F.left files.new))) }
         ensures range { IfOk result StepInRange }
         ensures lines { IfOk result (StepCounts self.old.lines self.new.lines) }
@@ -138,32 +146,32 @@ impl Hold {
         ensures puts { SameCounts (F.put_faults files.old) (F.put_faults files.new) }
         ensures cause { IsErrOf result TakeFault.Failed → Rose (F.faults files.old file.now) (F.faults files.new file.now) }
         ensures kept { IsErrOf result TakeFault.Failed → WhereTold (F.left files.old) (F.left files.new)
-            (ReadsStep file.now self.old.lines (self.old.run ++ self.old.held) self.new.lines (self.new.run ++ self.new.held) Step.Skip) }
+            (ReadsStep form file.now self.old.lines (self.old.run ++ self.old.held) self.new.lines (self.new.run ++ self.new.held) Step.Skip) }
         ensures undecided { IsErrOf result TakeFault.Failed → IsUndecided (self.new.run ++ self.new.held) }
     {
         let Ok(found) = self.run.next(&mut self.row) else {
             return Err(TakeFault::NoMemory);
         };
         if found {
-            return Ok(step_of_row(&self.row, &mut self.lines));
+            return Ok(step_of_row(form, &self.row, &mut self.lines));
         }
-        if let Some((row, size)) = row_at_front(self.held.bytes()) {
-            return Ok(self.take_row(row, size));
+        if let Some((row, size)) = row_at_front(form, self.held.bytes()) {
+            return Ok(self.take_row(form, row, size));
         }
         let found = self.held.fill(LONGEST_LINE, file, files)?;
         if let Found::End = found {
             return Ok(Step::Give(Next::Done { lines: self.lines }));
         }
-        self.read_held(found)
+        self.read_held(form, found)
     }
 
     // Takes the row that was found at the front of the bytes that are held, and this many bytes with it.
-    fn take_row(&mut self, row: Row, size: usize) -> Step
-        requires found { StartsWithRow self.old.held row size }
+    fn take_row(&mut self, form: RowForm, row: Row, size: usize) -> Step
+        requires found { StartsWithRow form self.old.held row size }
         requires range { IsInRange row }
         requires none { self.old.run ≡ [] }
-        ensures told { (coming : List ℕ) → read_bytes self.old.lines (self.old.held ++ coming) ≡ step_behind result
-            (read_bytes self.new.lines (self.new.run ++ self.new.held ++ coming)) }
+        ensures told { (coming : List ℕ) → read_bytes form self.old.lines (self.old.held ++ coming) ≡ step_behind result
+            (read_bytes form self.new.lines (self.new.run ++ self.new.held ++ coming)) }
         ensures end { StepOnDone result ⊥ }
         ensures range { StepInRange result }
         ensures lines { StepCounts self.old.lines self.new.lines result }
@@ -180,19 +188,19 @@ impl Hold {
     }
 
     // Reads the line at the front of the bytes that are held.
-    fn read_held(&mut self, found: Found) -> Result<Step, TakeFault>
+    fn read_held(&mut self, form: RowForm, found: Found) -> Result<Step, TakeFault>
         requires found { IsFound 4096 self.old.held found }
         requires some { found ≢ Found.End }
         requires none { self.old.run ≡ [] }
         ensures told { IfOk result (λ step. (coming : List ℕ) → (found ≡ Found.Last → coming ≡ [])
-            → read_bytes self.old.lines (self.old.held ++ coming) ≡ step_behind step (read_bytes self.new.lines (self.new.run ++ self.new.held ++ coming))) }
+            → read_bytes form self.old.lines (self.old.held ++ coming) ≡ step_behind step (read_bytes form self.new.lines (self.new.run ++ self.new.held ++ coming))) }
         ensures end { IfOk result (λ step. StepOnDone step ⊥) }
         ensures range { IfOk result StepInRange }
         ensures lines { IfOk result (StepCounts self.old.lines self.new.lines) }
         ensures cause { result ≢ Err TakeFault.Failed }
     {
-        if let Some((row, size)) = row_at_front(self.held.bytes()) {
-            return Ok(self.take_row(row, size));
+        if let Some((row, size)) = row_at_front(form, self.held.bytes()) {
+            return Ok(self.take_row(form, row, size));
         }
         let Ok(run) = Run::take(self.alloc, &mut self.held) else {
             return Err(TakeFault::NoMemory);
@@ -202,13 +210,13 @@ impl Hold {
             return Err(TakeFault::NoMemory);
         };
         if again {
-            return Ok(step_of_row(&self.row, &mut self.lines));
+            return Ok(step_of_row(form, &self.row, &mut self.lines));
         }
         if self.lines == u32::MAX {
             return Ok(Step::Give(Next::TooManyLines));
         }
         self.lines += 1;
-        let Ok(line) = take_line(self.alloc, self.lines, found, &mut self.held) else {
+        let Ok(line) = take_line(self.alloc, form, self.lines, found, &mut self.held) else {
             return Err(TakeFault::NoMemory);
         };
         Ok(step_of(line, self.lines))
@@ -218,6 +226,7 @@ impl Hold {
 // Removes the line that was found from the front.
 fn take_line(
     alloc: Global,
+    form: RowForm,
     number: u32,
     found: Found,
     held: &mut LineBuffer,
@@ -225,17 +234,17 @@ fn take_line(
     requires found { IsFound 4096 held.old found }
     requires some { found ≢ Found.End }
     ensures line { IfOk result
-        (λ line. (coming : List ℕ) → (found ≡ Found.Last → coming ≡ []) → BeginsWith number line held.old held.new coming) }
+        (λ line. (coming : List ℕ) → (found ≡ Found.Last → coming ≡ []) → BeginsWith form number line held.old held.new coming) }
     ensures range { IfOk result LineInRange }
 {
     match found {
         Found::Line(len) => {
-            let line = line_of(alloc, number, &held.bytes()[..len])?;
+            let line = line_of(alloc, form, number, &held.bytes()[..len])?;
             held.drop_front(len + 1);
             Ok(line)
         }
         Found::Last => {
-            let line = line_of(alloc, number, held.bytes())?;
+            let line = line_of(alloc, form, number, held.bytes())?;
             held.drop_front(held.bytes().len());
             Ok(line)
         }
@@ -245,8 +254,8 @@ fn take_line(
 }
 
 // What a line with this record gives, which is one more.
-fn step_of_row(row: &ByteRecord, lines: &mut u32) -> Step
-    ensures value { result ≡ row_step lines.old (fields_of row.now) }
+fn step_of_row(form: RowForm, row: &ByteRecord, lines: &mut u32) -> Step
+    ensures value { result ≡ row_step form lines.old (fields_of row.now) }
     ensures range { StepInRange result }
     ensures lines { StepCounts lines.old lines.new result }
     ensures counts { lines.old + 1 ≢ 2 ^ 32 → lines.new ≡ lines.old + 1 }
@@ -256,7 +265,7 @@ fn step_of_row(row: &ByteRecord, lines: &mut u32) -> Step
         return Step::Give(Next::TooManyLines);
     }
     *lines += 1;
-    step_of(line_of_record(row), *lines)
+    step_of(line_of_record(form, row), *lines)
 }
 
 // What the line of this number gives.

@@ -3,13 +3,14 @@ use Rattle.std.proofs.Common.{◌≡◌, ◌≤◌, ℕ, false, arith}
 use Rattle.std.specs.Prelude.{nat_le}
 use Rattle.std.proofs.lemmas.Grind.{common_steps}
 use Rattle.flu_model.specs.declared.jobs.Expr.{Expr}
-use Rattle.flu_model.specs.declared.jobs.Expr.TheVariants.{Lit, Value, Key, Time, Read, Has, Neg', Not', Two'}
+use Rattle.flu_model.specs.declared.jobs.Expr.TheVariants.{Lit, Value, Key, Item, Time, Read, Has, Neg', Not', Two'}
 use Rattle.flu_model.specs.Rules.{height}
 
 pub has_level : (e : Expr) → 1 ≤ height e
 has_level (Lit n) = omega arith
 has_level Value = omega arith
 has_level Key = omega arith
+has_level Item = omega arith
 has_level Time = omega arith
 has_level (Read r) = omega arith
 has_level (Has r) = omega arith

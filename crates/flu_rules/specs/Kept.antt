@@ -5,6 +5,7 @@ use Rattle.flu_model.specs.declared.jobs.Kind.{Kind}
 use Rattle.flu_model.specs.declared.jobs.Depend.{Depend}
 use Rattle.flu_model.specs.declared.jobs.Source.{Source}
 use Rattle.flu_model.specs.Listing.{itags_of_sources}
+use Rattle.flu_model.specs.Versions.{fit_version}
 use Rattle.flu_model.specs.Rules.{is_version, are_families, are_kinds, are_depends, are_sources, have_own_names, have_own_files}
 
 pub record KeepsRules (version : ℕ) (families : List Family) (kinds : List Kind) (depends : List Depend) (sources : List Source) : Type 0 where
@@ -16,6 +17,7 @@ pub record KeepsRules (version : ℕ) (families : List Family) (kinds : List Kin
   pub few_itags : length (itags_of_sources 0 sources) ≤ 256
   pub families_fit : IsTrue (are_families families)
   pub kinds_fit : IsTrue (are_kinds families kinds)
+  pub version_fits : IsTrue (fit_version version families kinds)
   pub depends_fit : IsTrue (are_depends kinds depends)
   pub sources_fit : IsTrue (are_sources kinds sources)
   pub own_names : IsTrue (have_own_names families kinds sources)

@@ -66,8 +66,9 @@ fn act_fits(families: &[Family], keyed: bool, has_value: bool, act: &Act) -> boo
                 && is_good_expr(families, keyed, has_value, expr)
         }
         Act::Clear(cell) => ref_fits(families, keyed, cell),
+        Act::ClearFamily(family) => is_keyed(families, *family),
         Act::Emit(pieces) => emit_template_fits(families, keyed, has_value, pieces.items()),
         Act::Flush(family, pieces) => is_keyed(families, *family)
-            && flush_template_fits(families, has_value, pieces.items()),
+            && flush_template_fits(families, *family, has_value, pieces.items()),
     }
 }

@@ -13,11 +13,13 @@ mod expressions;
 mod sources;
 mod tags;
 mod templates;
+mod versions;
 
 use crate::actions::kind_fits;
 use crate::distinct::{have_own_files, have_own_names};
 use crate::sources::{depend_fits, source_fits};
 use crate::tags::has_few_itags;
+pub use crate::versions::fit_version;
 use flu_model::{Depend, Family, Kind, List, Program, Source};
 pub use flu_names::{are_name, is_name};
 
@@ -87,6 +89,7 @@ fn keep_rules(
         && has_few_itags(sources)
         && are_families(families)
         && are_kinds(families, kinds)
+        && fit_version(version, families, kinds)
         && are_depends(kinds, depends)
         && are_sources(kinds, sources)
         && have_own_names(families, kinds, sources)
@@ -96,7 +99,7 @@ fn keep_rules(
 fn is_version(version: u32) -> bool
     ensures { result ≡ is_version version }
 {
-    version == 1 || version == 2
+    version == 1 || version == 2 || version == 3
 }
 
 fn are_families(families: &[Family]) -> bool

@@ -7,7 +7,7 @@ ghost use Rattle.flu_model.specs.Rules.{is_plain_byte, is_plain, emit_piece_fits
 ghost use Rattle.flu_model.specs.Rules.{flush_template_fits};
 ghost use Rattle.flu_model.specs.Templates.{family_name, written_key, written_cell, written_piece, written_template};
 
-use crate::expressions::ref_fits;
+use crate::expressions::{is_declared, ref_fits};
 use flu_model::{At, CellRef, Family, Piece};
 use flu_names::{LONGEST_TEXT, is_text_byte};
 
@@ -33,19 +33,24 @@ fn emit_pieces_fit(families: &[Family], keyed: bool, has_value: bool, pieces: &[
         .all(|piece| emit_piece_fits(families, keyed, has_value, piece))
 }
 
-/// Whether the pieces make a template of a flush.
-pub fn flush_template_fits(families: &[Family], has_value: bool, pieces: &[Piece]) -> bool
-    ensures { result ≡ flush_template_fits families.now has_value pieces.now }
+/// Whether the pieces make a template of a flush of the family with this number.
+pub fn flush_template_fits(
+    families: &[Family],
+    flushed: u32,
+    has_value: bool,
+    pieces: &[Piece],
+) -> bool
+    ensures { result ≡ flush_template_fits families.now flushed has_value pieces.now }
 {
-    flush_pieces_fit(has_value, pieces) && are_apart(pieces) && is_short(families, pieces)
+    flush_pieces_fit(families, flushed, has_value, pieces)
+        && are_apart(pieces)
+        && is_short(families, pieces)
 }
 
-fn flush_pieces_fit(has_value: bool, pieces: &[Piece]) -> bool
-    ensures { result ≡ list_all (flush_piece_fits has_value) pieces.now }
+fn flush_pieces_fit(families: &[Family], flushed: u32, has_value: bool, pieces: &[Piece]) -> bool
+    ensures { result ≡ list_all (flush_piece_fits families.now flushed has_value) pieces.now }
 {
-    pieces
-        .iter()
-        .all(|piece| flush_piece_fits(has_value, piece))
+    pieces.iter().all(|piece| flush_piece_fits(families, flushed, has_value, piece))
 }
 
 fn emit_piece_fits(families: &[Family], keyed: bool, has_value: bool, piece: &Piece) -> bool
@@ -55,20 +60,22 @@ fn emit_piece_fits(families: &[Family], keyed: bool, has_value: bool, piece: &Pi
         Piece::Plain(text) => is_plain(text.as_str()),
         Piece::Value => has_value,
         Piece::Key => keyed,
-        Piece::Time => true,
+        Piece::Item | Piece::Time => true,
         Piece::Read(cell) => ref_fits(families, keyed, cell),
-        Piece::CellValue => false,
+        Piece::CellValue | Piece::FamilyCell(_) => false,
     }
 }
 
-fn flush_piece_fits(has_value: bool, piece: &Piece) -> bool
-    ensures { result ≡ flush_piece_fits has_value piece.now }
+// Its own cell is `CellValue` alone, so that a template has one form.
+fn flush_piece_fits(families: &[Family], flushed: u32, has_value: bool, piece: &Piece) -> bool
+    ensures { result ≡ flush_piece_fits families.now flushed has_value piece.now }
 {
     match piece {
         Piece::Plain(text) => is_plain(text.as_str()),
         Piece::Value => has_value,
-        Piece::Key | Piece::Time | Piece::CellValue => true,
+        Piece::Key | Piece::Item | Piece::Time | Piece::CellValue => true,
         Piece::Read(_) => false,
+        Piece::FamilyCell(family) => is_declared(families, *family) && *family != flushed,
     }
 }
 
@@ -130,9 +137,11 @@ fn piece_length(families: &[Family], piece: &Piece) -> usize
         Piece::Plain(text) => text.as_str().len(),
         Piece::Value => "{value}".len(),
         Piece::Key => "{key}".len(),
+        Piece::Item => "{item}".len(),
         Piece::Time => "{time}".len(),
         Piece::Read(cell) => "{}".len() + cell_length(families, cell),
         Piece::CellValue => "{cell}".len(),
+        Piece::FamilyCell(family) => "{}".len() + name_length(families, *family),
     }
 }
 
@@ -160,6 +169,7 @@ fn key_length(at: &At) -> usize
     match at {
         At::Alone => 0,
         At::OwnKey => "[key]".len(),
+        At::OwnItem => "[item]".len(),
         At::Fixed(key) => "[]".len() + digit_count(*key),
     }
 }

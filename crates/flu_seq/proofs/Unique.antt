@@ -42,7 +42,7 @@ strict-rising (x ∷ xs) s = (all_map (λ y. is_before x y ≡ true) (λ y. is_b
 
 -- ---- equal events
 same_event : Event → Event → Bool
-same_event x y = (x.time == y.time) && (x.itag.0 == y.itag.0) && int_eq x.value y.value
+same_event x y = (x.time == y.time) && (x.itag.0 == y.itag.0) && (x.item == y.item) && int_eq x.value y.value
 
 same_event-itself : (x : Event) → same_event x x ≡ true
 unfolding same_event
@@ -53,8 +53,9 @@ unfolding same_event
 same_event-is x y e =
     let t : x.time ≡ y.time = grind (arith, common_steps) in
     let i : x.itag.0 ≡ y.itag.0 = grind (arith, common_steps) in
+    let n : x.item ≡ y.item = grind (arith, common_steps) in
     let v : x.value ≡ y.value = grind (arith, ints, common_steps) in
-    λ k. record { time = t k; itag = record { 0 = i k }; value = v k }
+    λ k. record { time = t k; itag = record { 0 = i k }; item = n k; value = v k }
 
 is_listed : List Event → Event → Bool
 is_listed ys x = list_any (same_event x) ys

@@ -13,7 +13,7 @@ use Rattle.flu_model.specs.Merging.{events_of}
 use Rattle.flu_seq.specs.declared.merging.Head.{Head}
 
 abbrev pub event_at : Head → Event
-event_at h = record { time = h.time; itag = record { 0 = h.itag }; value = h.value }
+event_at h = record { time = h.time; itag = record { 0 = h.itag }; item = h.item; value = h.value }
 
 -- the items of an itag
 abbrev pub items_at : List (List Item) → ℕ → List Item
@@ -45,7 +45,8 @@ heads_of i hs = total (λ r. cond (r.0.itag == i) 1 0) hs
 abbrev pub head_cmp : Reverse Head → Reverse Head → Ordering
 head_cmp a b =
     ordering_then (nat_cmp b.0.time a.0.time)
-    (ordering_then (nat_cmp b.0.itag a.0.itag) (ordering_then (int_cmp b.0.value a.0.value) (nat_cmp b.0.place a.0.place)))
+    (ordering_then (nat_cmp b.0.itag a.0.itag)
+    (ordering_then (nat_cmp b.0.item a.0.item) (ordering_then (int_cmp b.0.value a.0.value) (nat_cmp b.0.place a.0.place))))
 
 -- the heads are a heap of good ones, at most one of each itag
 pub record Ready (lists : List (List Item)) (hs : List (Reverse Head)) : Type 0 where

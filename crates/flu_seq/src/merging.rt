@@ -17,6 +17,7 @@ use std::collections::BinaryHeap;
 struct Head {
     time: u64,
     itag: u32,
+    item: u16,
     value: i64,
     place: usize,
 }
@@ -42,6 +43,7 @@ pub fn merge(alloc: Global, p: &Program, s: &Streams) -> Result<Vec<Event>, Allo
         events.push(Event {
             time: head.time,
             itag,
+            item: head.item,
             value: head.value,
         })?;
         push_next(&mut heads, s, itag, head.place)?;
@@ -78,6 +80,7 @@ fn next_head(items: &[Item], from: usize) -> Option<Head>
             return Some(Head {
                 time: x.time,
                 itag: x.itag.0,
+                item: x.item,
                 value: x.value,
                 place: place + 1,
             });

@@ -7,7 +7,7 @@ ghost use Rattle.flu_model.specs.declared.jobs.Op.TheVariants.{Plus, Minus, Time
 ghost use Rattle.flu_cells.specs.Holding.{held};
 
 use flu_cells::State;
-use flu_model::{Event, Expr, Op, Worth, cell_of};
+use flu_model::{CellRef, Event, Expr, Op, Worth, cell_of, item_of};
 
 /// What the operands of an expression are read from: a state and an event whose tag has this key.
 #[derive(Clone, Copy)]
@@ -57,13 +57,23 @@ fn value_of_any(e: &Expr, scope: &Scope<'_>) -> i64
         Expr::Lit(n) => *n,
         Expr::Value => scope.event.value,
         Expr::Key => i64::from(scope.key),
+        Expr::Item => i64::from(item_of(scope.event)),
         Expr::Time => clamped_time(scope.event.time),
-        Expr::Read(r) => number_in(scope.state.get(cell_of(*r, scope.key))),
-        Expr::Has(r) => as_number(scope.state.get(cell_of(*r, scope.key)).is_some()),
+        Expr::Read(r) => number_in(held_at(r, scope)),
+        Expr::Has(r) => as_number(held_at(r, scope).is_some()),
         Expr::Neg(e) => value_in(e, scope).saturating_neg(),
         Expr::Not(e) => as_number(!is_true(value_in(e, scope))),
         Expr::Two(op, a, b) => result_of_any(*op, value_in(a, scope), value_in(b, scope)),
     }
+}
+
+// What the cell holds that a reference means.
+#[inline(always)]
+fn held_at(r: &CellRef, scope: &Scope<'_>) -> Option<Worth>
+    ensures { result ≡ held scope.now.state.now (meaning.cell_of r.now scope.now.key (meaning.item_of scope.now.event.now)) }
+{
+    let item = item_of(scope.event);
+    scope.state.get(cell_of(*r, scope.key, item))
 }
 
 // The value of an expression of which up to four operators are done without a call.
@@ -240,6 +250,8 @@ fn result_of_any(op: Op, a: i64, b: i64) -> i64
         Op::Plus => a.saturating_add(b),
         Op::Minus => a.saturating_sub(b),
         Op::Times => a.saturating_mul(b),
+        Op::Divide => quotient(a, b),
+        Op::Remainder => remainder(a, b),
         Op::Less => as_number(a < b),
         Op::LessEq => as_number(a <= b),
         Op::More => as_number(a > b),
@@ -249,4 +261,24 @@ fn result_of_any(op: Op, a: i64, b: i64) -> i64
         Op::Both => as_number(is_true(a) && is_true(b)),
         Op::Either => as_number(is_true(a) || is_true(b)),
     }
+}
+
+// The quotient, cut toward 0. One alone does not fit: that of the least number and -1, which is clamped.
+fn quotient(a: i64, b: i64) -> i64
+    ensures { result ≡ meaning.quotient_of a b }
+{
+    if b == 0 {
+        0
+    } else if a == i64::MIN && b == -1 {
+        i64::MAX
+    } else {
+        a / b
+    }
+}
+
+// The remainder, with the sign of the left operand.
+fn remainder(a: i64, b: i64) -> i64
+    ensures { result ≡ meaning.remainder_of a b }
+{
+    if b == 0 { 0 } else { a.wrapping_rem(b) }
 }

@@ -7,7 +7,7 @@ ghost use Rattle.flu_model.specs.Texts as meaning;
 ghost use Rattle.flu_cells.specs.Holding.{held};
 
 use flu_cells::State;
-use flu_model::{Event, Family, Piece, Sort, Text, Worth, cell_of};
+use flu_model::{Cell, Event, Family, Piece, Sort, Text, Worth, cell_of, item_of};
 use std::alloc::{AllocError, Global};
 
 /// What the fields of a template are filled from: the families of the job, a state, an event, the key that `{key}` is, and what
@@ -41,12 +41,22 @@ fn push_piece(text: &mut String, piece: &Piece, at: &Filling<'_>) -> Result<(), 
         Piece::Plain(plain) => text.push_str(plain.as_str()),
         Piece::Value => push_signed(text, at.event.value),
         Piece::Key => push_number(text, u64::from(at.key)),
+        Piece::Item => push_number(text, u64::from(item_of(at.event))),
         Piece::Time => push_number(text, at.event.time),
         Piece::Read(r) => {
             let neutral = neutral_of(at.families, r.family);
-            push_worth(text, neutral, at.state.get(cell_of(*r, at.key)))
+            let item = item_of(at.event);
+            push_worth(text, neutral, at.state.get(cell_of(*r, at.key, item)))
         }
         Piece::CellValue => push_worth(text, "none", at.there),
+        Piece::FamilyCell(number) => {
+            let neutral = neutral_of(at.families, *number);
+            let cell = Cell {
+                family: *number,
+                key: key_in(at.families, *number, at.key),
+            };
+            push_worth(text, neutral, at.state.get(cell))
+        }
     }
 }
 
@@ -57,6 +67,16 @@ fn neutral_of(families: &[Family], number: u32) -> &'static str
     match families.get(number as usize) {
         Some(family) => neutral_text(family.sort),
         None => "none",
+    }
+}
+
+// The key of the cell of the family with this number at a flush of this key: an unkeyed family has its only one.
+fn key_in(families: &[Family], number: u32, key: u32) -> u32
+    ensures { result ≡ meaning.key_in (slice_get families.now number) key }
+{
+    match families.get(number as usize) {
+        Some(family) if family.keyed => key,
+        _ => 0,
     }
 }
 

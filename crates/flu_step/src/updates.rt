@@ -17,7 +17,7 @@ use crate::texts::{Filling, text_of};
 use flu_cells::State;
 use flu_model::{
     Act, Action, Cell, Event, Expr, Family, Out, Outs, Piece, Program, Tag, Text, actions_of,
-    cell_of, tag_of,
+    cell_of, item_of, tag_of,
 };
 use std::alloc::{AllocError, Global};
 
@@ -61,7 +61,7 @@ fn do_actions(
     s: &mut State,
     outs: &mut Outs,
 ) -> Result<(), AllocError>
-    requires { IsTrue (list_all (λ a. has_target_in_range a.act at.now.tag.key) actions.now) }
+    requires { IsTrue (list_all (λ a. has_target_in_range a.act at.now.tag.key (expressions.item_of at.now.event.now)) actions.now) }
     ensures cells { OnOk result (held s.new ≡ (effect_of_actions at.now.families.now actions.now (held s.old) at.now.event.now at.now.tag.key).cells) }
     ensures outputs { OnOk result (outs.new ≡ outs.old
         ++ outputs_at at.now.event.now.time at.now.tag (effect_of_actions at.now.families.now actions.now (held s.old) at.now.event.now at.now.tag.key).texts) }
@@ -80,7 +80,7 @@ fn do_action(
     s: &mut State,
     outs: &mut Outs,
 ) -> Result<(), AllocError>
-    requires { IsTrue (has_target_in_range action.now.act at.now.tag.key) }
+    requires { IsTrue (has_target_in_range action.now.act at.now.tag.key (expressions.item_of at.now.event.now)) }
     ensures cells { OnOk result (held s.new ≡ (effect_of_action at.now.families.now action.now (held s.old) at.now.event.now at.now.tag.key).cells) }
     ensures outputs { OnOk result (outs.new ≡ outs.old
         ++ outputs_at at.now.event.now.time at.now.tag (effect_of_action at.now.families.now action.now (held s.old) at.now.event.now at.now.tag.key).texts) }
@@ -110,27 +110,32 @@ fn do_act(
     s: &mut State,
     outs: &mut Outs,
 ) -> Result<(), AllocError>
-    requires { IsTrue (has_target_in_range act.now at.now.tag.key) }
+    requires { IsTrue (has_target_in_range act.now at.now.tag.key (expressions.item_of at.now.event.now)) }
     ensures cells { OnOk result (held s.new ≡ (effect_of_act at.now.families.now act.now (held s.old) at.now.event.now at.now.tag.key).cells) }
     ensures outputs { OnOk result (outs.new ≡ outs.old
         ++ outputs_at at.now.event.now.time at.now.tag (effect_of_act at.now.families.now act.now (held s.old) at.now.event.now at.now.tag.key).texts) }
 {
     let key = at.tag.key;
+    let item = item_of(at.event);
     match act {
         Act::Add(r, e) => {
             let amount = value_of(e, s, at.event, key);
-            s.add(cell_of(*r, key), i128::from(amount))
+            s.add(cell_of(*r, key, item), i128::from(amount))
         }
         Act::Raise(r, e) => {
             let amount = value_of(e, s, at.event, key);
-            s.raise(cell_of(*r, key), amount)
+            s.raise(cell_of(*r, key, item), amount)
         }
         Act::Set(r, e) => {
             let amount = value_of(e, s, at.event, key);
-            s.put(cell_of(*r, key), amount)
+            s.put(cell_of(*r, key, item), amount)
         }
         Act::Clear(r) => {
-            s.clear(cell_of(*r, key));
+            s.clear(cell_of(*r, key, item));
+            Ok(())
+        }
+        Act::ClearFamily(family) => {
+            s.clear_family(*family);
             Ok(())
         }
         Act::Emit(pieces) => {

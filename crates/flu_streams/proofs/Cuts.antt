@@ -185,6 +185,9 @@ dropped_well p rows t border olds news well settles caught dropped = record {
   some = well.some;
   most = well.most;
   count = dropped.size ∙ well.count;
+  forms = λ i h f.
+      let old = slice_get-there olds i (rw (← dropped.size) (slice_get_within news i h f)) in
+      ap (λ place. place.form) (dropped.each i old.0 h old.1 f).rows ∙ well.forms i old.0 old.1;
   few = λ i s at h f.
       let old = slice_get-there olds i (rw well.count (slice_get_within p.sources i s at)) in
       few_dropped rows t s old.0 h (dropped.each i old.0 h old.1 f) (well.few i s at old.0 old.1);

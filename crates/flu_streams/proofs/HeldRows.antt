@@ -36,7 +36,7 @@ use Rattle.flu_streams.specs.LoopHeld.{fault_behind, put_timed, later_of, PutsIn
 use Rattle.flu_streams.specs.LoopIntake.{item_of}
 use Rattle.flu_streams.specs.LoopSource.{defect_behind}
 use Rattle.flu_streams.specs.Rounds.{row_fault, line_defect, settled, settled_time, is_above, is_between, rows_between, is_enough}
-use Rattle.flu_streams.specs.Tests.{rows_of, has_ended, is_end, time_in, times_of, greatest, where_true, test_tag, test_value, test_behind, test_times}
+use Rattle.flu_streams.specs.Tests.{rows_of, has_ended, is_end, time_in, times_of, greatest, where_true, test_tag, test_fields, test_behind, test_times}
 use Rattle.flu_streams.specs.Tests.{test_time}
 use Rattle.flu_streams.proofs.Cutting.{not_not, later_is, all_kept}
 use Rattle.flu_streams.proofs.Counting.{enough_is, none_enough, all_late}
@@ -238,8 +238,8 @@ any_step time a row above rest rows at e more =
 any_between : (time : ℕ) (above : Option ℕ) (rows : List Row) → is_above above time ≡ true
     → list_any (λ t. eqb t time) (times_of rows) ≡ list_any (λ (row : Row). eqb (time_at row) time) (rows_between above Closed rows)
 any_between time above [] e = refl
-any_between time above (Event t name key value ∷ rows) e =
-    any_step time t (Event t name key value) above (times_of rows) (rows_between above Closed rows) refl e (any_between time above rows e)
+any_between time above (Event t name key fields ∷ rows) e =
+    any_step time t (Event t name key fields) above (times_of rows) (rows_between above Closed rows) refl e (any_between time above rows e)
 any_between time above (Beat t ∷ rows) e =
     any_step time t (Beat t) above (times_of rows) (rows_between above Closed rows) refl e (any_between time above rows e)
 any_between time above (End ∷ rows) e = any_between time above rows e
@@ -290,18 +290,18 @@ pub fault_held : (kinds : List Kind) (s : Source) (first : ℕ) (above : Option 
 fault_held kinds s first above lines h mid row is goes items last ended =
     let at : IsSettled s.slack is.low h.last = border_settled kinds s first above lines h is goes in
     let same = test_same kinds s first is.low h.last (rows_of lines) h.items (time_in row) is.items is.last at in
-    ap (λ b. first_some (λ test. test) (where_true b AfterEnd ∷ test_tag kinds s row ∷ test_value kinds row ∷ test_time s.slack
+    ap (λ b. first_some (λ test. test) (where_true b AfterEnd ∷ test_tag kinds s row ∷ test_fields kinds row ∷ test_time s.slack
     (times_of (rows_of lines)) row ∷ [])) (sym (ended ∙ is.ended))
-    ∙ ap (λ o. first_some (λ test. test) (where_true mid.ended AfterEnd ∷ test_tag kinds s row ∷ test_value kinds row ∷ o ∷ []))
+    ∙ ap (λ o. first_some (λ test. test) (where_true mid.ended AfterEnd ∷ test_tag kinds s row ∷ test_fields kinds row ∷ o ∷ []))
     (same ∙ ap (λ l. test_late s.slack (times_in l) h.last (time_in row)) (sym items)
     ∙ ap (λ o. test_late s.slack (times_in mid.items) o (time_in row)) (sym last))
 
 -- ---- one line more
 one_between : (above : Option ℕ) (rows : List Row) (row : Row) → ((time : ℕ) → time_in row ≡ Some time → is_above above time ≡ true) → is_end row ≡ false
     → rows_between above Closed (rows ++ row ∷ []) ≡ rows_between above Closed rows ++ row ∷ []
-one_between above rows (Event time name key value) up not_end =
-    filter-append (is_between above Closed) rows (Event time name key value ∷ [])
-    ∙ ap (λ b. rows_between above Closed rows ++ cond (b && true) (Event time name key value ∷ []) []) (up time refl)
+one_between above rows (Event time name key fields) up not_end =
+    filter-append (is_between above Closed) rows (Event time name key fields ∷ [])
+    ∙ ap (λ b. rows_between above Closed rows ++ cond (b && true) (Event time name key fields ∷ []) []) (up time refl)
 one_between above rows (Beat time) up not_end =
     filter-append (is_between above Closed) rows (Beat time ∷ [])
     ∙ ap (λ b. rows_between above Closed rows ++ cond (b && true) (Beat time ∷ []) []) (up time refl)
@@ -322,8 +322,8 @@ timed_items kinds s first time above rows row items at not_end up is =
 row_items : (kinds : List Kind) (s : Source) (first : ℕ) (above : Option ℕ) (rows : List Row) (row : Row) (items : List Item)
     → ((time : ℕ) → time_in row ≡ Some time → is_above above time ≡ true) → items ≡ map (item_of kinds s first) (in_time_order (rows_between above Closed rows))
     → put_timed (time_in row) (item_of kinds s first row) items ≡ map (item_of kinds s first) (in_time_order (rows_between above Closed (rows ++ row ∷ [])))
-row_items kinds s first above rows (Event time name key value) items up is =
-    timed_items kinds s first time above rows (Event time name key value) items refl refl (up time refl) is
+row_items kinds s first above rows (Event time name key fields) items up is =
+    timed_items kinds s first time above rows (Event time name key fields) items refl refl (up time refl) is
 row_items kinds s first above rows (Beat time) items up is = timed_items kinds s first time above rows (Beat time) items refl refl (up time refl) is
 row_items kinds s first above rows End items up is = is ∙ ap (λ l. map (item_of kinds s first) (in_time_order l)) (sym (no_between above rows))
 
@@ -342,7 +342,7 @@ passes_late : (kinds : List Kind) (s : Source) (h : Inlet) (row : Row) → fault
 passes_late kinds s h row e =
     let one = (or_else-none (where_true h.ended AfterEnd) _ e).1 in
     let two = (or_else-none (test_tag kinds s row) _ one).1 in
-    let three = (or_else-none (test_value kinds row) _ two).1 in
+    let three = (or_else-none (test_fields kinds row) _ two).1 in
     (or_else-none (test_late s.slack (times_in h.items) h.last (time_in row)) None three).0
 
 row_above : (slack : ℕ) (above last : Option ℕ) (times : List ℕ) (row : Row) → IsSettled slack above last → test_late slack times last (time_in row) ≡ None
@@ -428,8 +428,8 @@ all_timed : (kinds : List Kind) (s : Source) (first : ℕ) (above : Option ℕ) 
     → ((time : ℕ) → time_in row ≡ Some time → is_above above time ≡ true)
     → list_all (λ (item : Item). is_above above (item_time item)) items ≡ true
     → list_all (λ (item : Item). is_above above (item_time item)) (put_timed (time_in row) (item_of kinds s first row) items) ≡ true
-all_timed kinds s first above (Event time name key value) items up all =
-    all_late (λ (item : Item). is_above above (item_time item)) item_time (item_of kinds s first (Event time name key value)) items (up time refl) all
+all_timed kinds s first above (Event time name key fields) items up all =
+    all_late (λ (item : Item). is_above above (item_time item)) item_time (item_of kinds s first (Event time name key fields)) items (up time refl) all
 all_timed kinds s first above (Beat time) items up all =
     all_late (λ (item : Item). is_above above (item_time item)) item_time (item_of kinds s first (Beat time)) items (up time refl) all
 all_timed kinds s first above End items up all = all

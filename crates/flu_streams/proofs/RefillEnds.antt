@@ -4,6 +4,7 @@ use Rattle.std.specs.Prelude.{slice_get}
 use Rattle.std.specs.List.{list_all}
 use Rattle.std.proofs.lemmas.List.{length-map, take_all}
 use Rattle.std.proofs.lemmas.Option.{slice_get_within}
+use Rattle.flu_lemmas.specs.Elements.{AtEach}
 use Rattle.flu_lemmas.proofs.Places.{slice_get-there}
 use Rattle.flu_lemmas.proofs.Tests.{not_both}
 use Rattle.flu_model.specs.declared.jobs.Source.{Source}
@@ -11,6 +12,7 @@ use Rattle.flu_model.specs.declared.jobs.Program.{Program}
 use Rattle.flu_outside.specs.Outside.{Contents, WhereTold, Rose}
 use Rattle.flu_outside.specs.Taking.{IsReadOut}
 use Rattle.flu_rows.specs.declared.rows.Next.{Next}
+use Rattle.flu_rows.specs.Row.{form_of}
 use Rattle.flu_rows.specs.Reading.{ahead}
 use Rattle.flu_streams.specs.declared.border.Border.{Border}
 use Rattle.flu_streams.specs.declared.border.Border.TheVariants.{At, Closed}
@@ -70,6 +72,10 @@ refill_keeps p rows border olds news a b end well has = record {
   some = well.some;
   most = well.most;
   count = has.all.size ∙ well.count;
+  forms = λ i h f.
+      let s = slice_get-there p.sources i (rw (← well.count, ← has.all.size) (slice_get_within news i h f)) in
+      let one = one_of p rows olds news a b end well.count has i s.0 s.1 in
+      ap (λ (g : Inlet). g.rows.form) (sym (one_there news i one.new h one.is f)) ∙ one.done.form ∙ well.forms i one.old one.was;
   few = λ i s at h f.
       let one = one_of p rows olds news a b end well.count has i s at in
       subst (IsFew rows s) (one_there news i one.new h one.is f) (one.done.few (well.few i s at one.old one.was));
@@ -197,10 +203,11 @@ refill_fault p rows border stage olds a b Q fault faults faults' count told st =
 
 pub refill_hides : (p : Program) (rows : ℕ) (border : Option ℕ) (stage : Stage) (olds : List Inlet) (a b : Option Contents)
     (Q : Contents → Contents → Type 0) (fault : GatherFault) (faults faults' : List ℕ → ℕ) → length olds ≡ length p.sources
+    → AtEach (λ i h. h.rows.form ≡ form_of p.version) olds
     → WhereTold a b Q → StopsAtSource p rows olds a b faults faults' fault → fault ≡ ReadFaulty → (before : ℕ → List Next)
     → AreHeldBehind (holding p rows border stage olds) before
     → HidesNoRoundFault (holding p rows border stage olds) a b faults faults' before
-refill_hides p rows border stage olds a b Q fault faults faults' count told st is before behind = by_stop st.stop st.own st.rose (sym st.cause ∙ is)
+refill_hides p rows border stage olds a b Q fault faults faults' count forms told st is before behind = by_stop st.stop st.own st.rose (sym st.cause ∙ is)
   where
     by_stop : (stop : Stop) → ((old : Inlet) → slice_get olds (length st.ends) ≡ Some old
         → IsStopOf p.kinds st.source (first_itag p (length st.ends)) rows old a b stop)
@@ -225,6 +232,7 @@ refill_hides p rows border stage olds a b Q fault faults faults' count told st i
           sound = ap (defect_in p.kinds st.source) now_is ∙ m.sound;
           few = m.few;
           place = m.place;
+          form = m.form ∙ forms (length st.ends) old.0 old.1;
           file = m.file;
           undecided = m.undecided;
           told = told_from Q _ a b told (λ x y e f whole all. (
@@ -244,18 +252,22 @@ refill_hides p rows border stage olds a b Q fault faults faults' count told st i
 
 -- ---- before the first round
 pub fresh_well : (p : Program) (rows : ℕ) (border : Option ℕ) (inlets : List Inlet) → 1 ≤ rows → rows ≤ 4096
-    → map source_of inlets ≡ map (unread_source border) p.sources → AreWell p rows border inlets
+    → map source_of inlets ≡ map (unread_source (form_of p.version) border) p.sources → AreWell p rows border inlets
 fresh_well p rows border inlets some most is = record {
   some = some;
   most = most;
-  count = sym (length-map inlets source_of) ∙ ap length is ∙ length-map p.sources (unread_source border);
+  count = sym (length-map inlets source_of) ∙ ap length is ∙ length-map p.sources (unread_source (form_of p.version) border);
+  forms = λ i h f.
+      let k = from_mapped (unread_source (form_of p.version) border) p.sources i (source_of h)
+      (ap (λ (l : List HeldSource). slice_get l i) (sym is) ∙ to_mapped source_of inlets i h f) in
+      ap (λ (k : HeldSource). k.place.form) k.2;
   few = λ i s at h f.
-      let same : source_of h ≡ unread_source border s = fresh_at p border i s (source_of h) at
+      let same : source_of h ≡ unread_source (form_of p.version) border s = fresh_at p border i s (source_of h) at
       (ap (λ (l : List HeldSource). slice_get l i) (sym is) ∙ to_mapped source_of inlets i h f) in
       let e : count_above h.goal h.items ≡ 0 = ap (λ (k : HeldSource). count_above k.goal k.items) same in
       omega (arith, e);
   each = λ i s at h f.
-      let same : source_of h ≡ unread_source border s = fresh_at p border i s (source_of h) at
+      let same : source_of h ≡ unread_source (form_of p.version) border s = fresh_at p border i s (source_of h) at
       (ap (λ (l : List HeldSource). slice_get l i) (sym is) ∙ to_mapped source_of inlets i h f) in
       record {
         file = ap (λ (k : HeldSource). k.place.file) same;

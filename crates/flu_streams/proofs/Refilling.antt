@@ -157,17 +157,18 @@ meets_last kinds s first rows old now place a b c next row why one so_far goes e
 pub stops_behind : (kinds : List Kind) (s : Source) (first rows : ℕ) (old now : Inlet) (place : Place) (a b c : Option Contents) → 1 ≤ rows
     → ((above : Option ℕ) (before : List Next) → IsHeldBehind kinds first s above before (source_of old)
     → IsRefilling kinds s first rows above before (source_of old) (source_of now) a b)
-    → now.closed ≡ false → IsShort rows s (source_of now) → place.file ≡ s.file → IsUndecided place.taken
+    → now.closed ≡ false → IsShort rows s (source_of now) → place.form ≡ old.rows.form → place.file ≡ s.file → IsUndecided place.taken
     → WhereTold b c (λ was is. ahead now.rows was ≡ ahead place is)
     → (above : Option ℕ) (before : List Next) → IsHeldBehind kinds first s above before (source_of old)
     → StopsBehind kinds s rows above before (source_of old) a c
-stops_behind kinds s first rows old now place a b c one so_far goes e file undecided told above before is =
+stops_behind kinds s first rows old now place a b c one so_far goes e form file undecided told above before is =
     let r = so_far above before is in
     record {
       more = r.more;
       place = place;
       sound = r.behind.sound;
       few = few_held kinds s first rows above before (source_of old) (source_of now) a b one r e;
+      form = form;
       file = file;
       undecided = undecided;
       told = told_then (λ was at. still (source_of old) was ≡ r.more ++ still (source_of now) at) (λ was at. ahead now.rows was ≡ ahead place at)
@@ -181,11 +182,12 @@ pub refilled_open : (kinds : List Kind) (s : Source) (first rows u : ℕ) (old n
     → IsRefilling kinds s first rows above before (source_of old) (source_of now) a b)
     → ((border : Option ℕ) → IsWellAt s border old → IsWellAt s border now)
     → ((old.closed ≡ true → IsReadOut s.file a) → now.closed ≡ true → IsReadOut s.file b) → (IsFew rows s old → IsFew rows s now)
-    → enough_in rows s.slack (source_of now) ≡ Some u → IsRefilled kinds s first rows old now a b (At u)
-refilled_open kinds s first rows u old now a b one so_far well out few e =
+    → now.rows.form ≡ old.rows.form → enough_in rows s.slack (source_of now) ≡ Some u → IsRefilled kinds s first rows old now a b (At u)
+refilled_open kinds s first rows u old now a b one so_far well out few form e =
     let found = without_some now.goal (enough_of rows s.slack now.last now.items) u e in
     let k = enough_is rows s.slack u now.last now.items found.1 in
     record {
+      form = form;
       keeps = well;
       few = few;
       caught = found.0;
@@ -204,8 +206,9 @@ pub refilled_shut : (kinds : List Kind) (s : Source) (first rows : ℕ) (old now
     → IsRefilling kinds s first rows above before (source_of old) (source_of now) a b)
     → ((border : Option ℕ) → IsWellAt s border old → IsWellAt s border now)
     → ((old.closed ≡ true → IsReadOut s.file a) → now.closed ≡ true → IsReadOut s.file b) → (IsFew rows s old → IsFew rows s now)
-    → IsShort rows s (source_of now) → now.closed ≡ true → now.goal ≡ None → IsRefilled kinds s first rows old now a b Closed
-refilled_shut kinds s first rows old now a b one so_far well out few e closed caught = record {
+    → now.rows.form ≡ old.rows.form → IsShort rows s (source_of now) → now.closed ≡ true → now.goal ≡ None → IsRefilled kinds s first rows old now a b Closed
+refilled_shut kinds s first rows old now a b one so_far well out few form e closed caught = record {
+  form = form;
   keeps = well;
   few = few;
   caught = caught;
@@ -223,10 +226,11 @@ pub refilled_end : (kinds : List Kind) (s : Source) (first rows : ℕ) (old now 
     → IsShort rows s (source_of now)
     → WhereTold b c (λ was is. ahead now.rows was ≡ then_behind next (ahead shut.rows is)) → IsNoRow next → defect_behind now.ended next ≡ None
     → IsReadOut s.file c
-    → shut.items ≡ now.items → shut.last ≡ now.last → shut.ended ≡ now.ended → shut.closed ≡ true → shut.goal ≡ now.goal → shut.rows.file ≡ s.file
+    → shut.items ≡ now.items → shut.last ≡ now.last → shut.ended ≡ now.ended → shut.closed ≡ true → shut.goal ≡ now.goal → shut.rows.form ≡ old.rows.form → shut.rows.file ≡ s.file
     → CatchesUp s.slack shut new
     → IsRefilled kinds s first rows old new a c Closed
-refilled_end kinds s first rows old now shut new a b c next one so_far well few goes e told other none read_out items last ended closed goal file catches = record {
+refilled_end kinds s first rows old now shut new a b c next one so_far well few goes e told other none read_out items last ended closed goal form file catches = record {
+  form = ap (λ (place : Place). place.form) catches.rows ∙ form;
   keeps = λ border was. well_caught s border shut new catches (record {
     file = file;
     goal = λ t e. (well border was).goal t (sym goal ∙ e);

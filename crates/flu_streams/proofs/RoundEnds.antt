@@ -18,6 +18,7 @@ use Rattle.flu_model.specs.declared.jobs.Program.{Program}
 use Rattle.flu_outside.specs.Outside.{Contents}
 use Rattle.flu_rows.specs.declared.row.Row.{Row}
 use Rattle.flu_rows.specs.declared.row.Row.TheVariants.{Event, Beat, End}
+use Rattle.flu_rows.specs.Row.{form_of}
 use Rattle.flu_rows.specs.declared.rows.Next.{Next}
 use Rattle.flu_rows.specs.declared.rows.Next.TheVariants.{Row as RowNext, Bad, TooManyLines, Done}
 use Rattle.flu_streams.specs.declared.border.Border.TheVariants.{Closed}
@@ -91,8 +92,8 @@ ends_last kinds s read (RowNext line End ∷ more) goes sound =
           ∙ ap (λ l. rows_of (read ++ next ∷ []) ++ l) none ∙ append-nil (rows_of (read ++ next ∷ [])) ∙ rows_more read line End,
       goes,
     )
-ends_last kinds s read (RowNext line (Event time name key value) ∷ more) goes sound =
-    let next = RowNext line (Event time name key value) in
+ends_last kinds s read (RowNext line (Event time name key fields) ∷ more) goes sound =
+    let next = RowNext line (Event time name key fields) in
     subst (λ l. EndsLast (rows_of l)) (sym (regroup read next more))
     (ends_last kinds s (read ++ next ∷ []) more (goes_still read next goes refl) (ap (defect_in kinds s) (sym (regroup read next more)) ∙ sound))
 ends_last kinds s read (RowNext line (Beat time) ∷ more) goes sound =
@@ -112,7 +113,7 @@ ends_last kinds s read (Done lines ∷ more) goes sound =
 -- ---- all rows that have a time
 all_timed : (rows : List Row) → has_ended rows ≡ false → rows_between None Closed rows ≡ rows
 all_timed [] goes = refl
-all_timed (Event time name key value ∷ rows) goes = ap (λ l. Event time name key value ∷ l) (all_timed rows goes)
+all_timed (Event time name key fields ∷ rows) goes = ap (λ l. Event time name key fields ∷ l) (all_timed rows goes)
 all_timed (Beat time ∷ rows) goes = ap (λ l. Beat time ∷ l) (all_timed rows goes)
 all_timed (End ∷ rows) goes = absurd (false≢true (sym goes))
 
@@ -128,17 +129,17 @@ timed_lists kinds s first rows (inr (front, is, goes)) =
 
 -- ---- all lines of the sources
 sound_rows : (p : Program) (whole : ℕ → List Next) (left : Contents) → LinesIn p left whole → AtEach (λ i s. defect_in p.kinds s (whole i) ≡ None) p.sources
-    → AtEach (λ i s. (rows_of (whole i) ≡ rows_in left s) × EndsLast (rows_of (whole i))) p.sources
+    → AtEach (λ i s. (rows_of (whole i) ≡ rows_in (form_of p.version) left s) × EndsLast (rows_of (whole i))) p.sources
 sound_rows p whole left lines sound = λ i s e. (ap rows_of (lines i s e), ends_last p.kinds s [] (whole i) refl (sound i s e))
 
-lists_are : (p : Program) (now : ℕ → List Next) (left : Contents) → AtEach (λ i s. (rows_of (now i) ≡ rows_in left s) × EndsLast (rows_of (now i))) p.sources
+lists_are : (p : Program) (now : ℕ → List Next) (left : Contents) → AtEach (λ i s. (rows_of (now i) ≡ rows_in (form_of p.version) left s) × EndsLast (rows_of (now i))) p.sources
     → lists_between p None Closed now ≡ lists_of p left
 lists_are p now left rows =
     flat_same _ _ (each_with_before p.sources)
-    (all_map (λ (e : List Source × Source). (rows_of (now (length e.0)) ≡ rows_in left e.1)
+    (all_map (λ (e : List Source × Source). (rows_of (now (length e.0)) ≡ rows_in (form_of p.version) left e.1)
     × EndsLast (rows_of (now (length e.0)))) _ (each_with_before p.sources)
     (λ e h. timed_lists p.kinds e.1 (sum_by width e.0) (rows_of (now (length e.0))) h.1 ∙ ap (lists_of_rows p.kinds e.1 (sum_by width e.0)) h.0)
-    (each_source (λ i s. (rows_of (now i) ≡ rows_in left s) × EndsLast (rows_of (now i))) p.sources rows))
+    (each_source (λ i s. (rows_of (now i) ≡ rows_in (form_of p.version) left s) × EndsLast (rows_of (now i))) p.sources rows))
 
 pub whole_lists : (p : Program) (whole : ℕ → List Next) (left : Contents) → LinesIn p left whole
     → AtEach (λ i s. defect_in p.kinds s (whole i) ≡ None) p.sources
@@ -148,7 +149,7 @@ whole_lists p whole left lines sound = lists_are p whole left (sound_rows p whol
 -- ---- the last round
 last_rows : (p : Program) (rows : ℕ) (above : Option ℕ) (whole before now : ℕ → List Next) (left : Contents) → LinesIn p left whole
     → IsRound p rows above whole before now Closed
-    → AtEach (λ i s. (rows_of (now i) ≡ rows_in left s) × EndsLast (rows_of (now i))) p.sources
+    → AtEach (λ i s. (rows_of (now i) ≡ rows_in (form_of p.version) left s) × EndsLast (rows_of (now i))) p.sources
 last_rows p rows above whole before now left lines round = λ i s e.
     let reads = round i s e in
     (ap rows_of (sym reads.stops.0 ∙ lines i s e), ends_last p.kinds s [] (now i) refl reads.sound)

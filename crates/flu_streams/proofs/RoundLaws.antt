@@ -1,7 +1,7 @@
 -- What rounds take: the rows up to a border come all before the later ones, and none of them is read later.
 use Rattle.std.proofs.Common.{◌≡◌, inl, inr, ◌⊎◌, ◌<◌, ◌≤◌, ◌+◌, ◌-◌, ℕ, suc, max, Bool, true, false, cond, List, [], ◌∷◌, ◌++◌, map, length, Option, Some}
 use Rattle.std.proofs.Common.{None, refl, sym, ap, ◌∙◌, append_assoc, length-append, arith, subst}
-use Rattle.std.specs.Prelude.{pos, not, nat_lt, nat_le, ◌==◌, ◌&&◌, ◌||◌, option_map, unwrap_or, slice_get, sum_by, if◌then◌else◌}
+use Rattle.std.specs.Prelude.{not, nat_lt, nat_le, ◌==◌, ◌&&◌, ◌||◌, option_map, unwrap_or, slice_get, sum_by, if◌then◌else◌}
 use Rattle.std.specs.List.{filter, filter_map, flat_map, list_all, cons_option, range_with_len, AllByRecursion}
 use Rattle.std.specs.Option.{option_to_list, option_map_or}
 use Rattle.std.proofs.lemmas.Bool.{cases_lt}
@@ -34,12 +34,12 @@ use Rattle.flu_streams.specs.declared.border.Border.TheVariants.{At, Closed}
 use Rattle.flu_streams.specs.declared.faults.Why.{Why}
 use Rattle.flu_streams.specs.Before.{with_before, each_with_before, first_some, or_else}
 use Rattle.flu_streams.specs.Borders.{AreCutAt, FoldsInTurn}
-use Rattle.flu_streams.specs.Good.{time_at, item_in, in_time_order, items_at, lists_of_rows}
+use Rattle.flu_streams.specs.Good.{event_of, time_at, item_in, in_time_order, items_at, lists_of_rows}
 use Rattle.flu_streams.specs.Rounds.{row_fault, line_defect, defect_in, settled, settled_time, is_above, is_up_to, is_between, rows_between, is_enough, Turn}
 use Rattle.flu_streams.specs.Rounds.{Open, Shut, Meets, StopsAt, Reads, IsWithin, IsRoundAt, IsRound, lists_between, ComesFrom, Starts, GoesOn, state_in_turn}
 use Rattle.flu_streams.specs.Rounds.{outputs_in_turn, reports_in_turn, GiveTheFold, LawOfRounds, LawOfNoRows}
-use Rattle.flu_streams.specs.Tags.{place_named, width}
-use Rattle.flu_streams.specs.Tests.{row_in, rows_of, time_in, times_of, greatest, where_true, test_behind, test_times, test_time, test_tag, test_value}
+use Rattle.flu_streams.specs.Tags.{place_named, given_to, width}
+use Rattle.flu_streams.specs.Tests.{row_in, rows_of, time_in, times_of, greatest, where_true, test_behind, test_times, test_time, test_tag, test_fields}
 use Rattle.flu_streams.proofs.Befores.{with_before-append, first_some-append}
 use Rattle.flu_streams.proofs.BorderLaws.{folds_in_turn}
 use Rattle.flu_streams.proofs.Cutting.{in_order-cut, all_early, all_late, all_kept, kept_all, kept_none, later_is}
@@ -80,7 +80,7 @@ pub passes_time : (kinds : List Kind) (s : Source) (ended : Bool) (earlier : Lis
 passes_time kinds s ended earlier row e =
     let one = (or_else-none (where_true ended _) _ e).1 in
     let two = (or_else-none (test_tag kinds s row) _ one).1 in
-    let three = (or_else-none (test_value kinds row) _ two).1 in
+    let three = (or_else-none (test_fields kinds row) _ two).1 in
     (or_else-none (test_time s.slack earlier row) None three).0
 
 pub not_late : (slack time last : ℕ) (b : Bool) (why : Why) → where_true (b || nat_le (time + slack) last) why ≡ None → last < time + slack
@@ -163,9 +163,9 @@ settles_row s read line row time u was at passes =
 
 pub line_settles : (kinds : List Kind) (s : Source) (read : List Next) (next : Next) (u : ℕ) → settled_time s read ≡ Some u
     → line_defect kinds s read next ≡ None → Settles s read next u
-line_settles kinds s read (RowNext line (EventRow time name key value)) u was e =
-    settles_row s read line (EventRow time name key value) time u was refl
-    (passes_time kinds s _ _ (EventRow time name key value) (no_option (λ (why : Why). (line, why)) _ e))
+line_settles kinds s read (RowNext line (EventRow time name key fields)) u was e =
+    settles_row s read line (EventRow time name key fields) time u was refl
+    (passes_time kinds s _ _ (EventRow time name key fields) (no_option (λ (why : Why). (line, why)) _ e))
 line_settles kinds s read (RowNext line (BeatRow time)) u was e =
     settles_row s read line (BeatRow time) time u was refl (passes_time kinds s _ _ (BeatRow time) (no_option (λ (why : Why). (line, why)) _ e))
 line_settles kinds s read (RowNext line EndRow) u was e =
@@ -180,7 +180,7 @@ later_none above t time lt = let e : nat_le time t ≡ false = grind (arith, nat
 
 one_none : (above : Option ℕ) (t : ℕ) (next : Next) → ((row : Row) (time : ℕ) → row_in next ≡ Some row → time_in row ≡ Some time → t < time)
     → rows_between above (At t) (rows_of (next ∷ [])) ≡ []
-one_none above t (RowNext line (EventRow time name key value)) later = rw (later_none above t time (later (EventRow time name key value) time refl refl)) refl
+one_none above t (RowNext line (EventRow time name key fields)) later = rw (later_none above t time (later (EventRow time name key fields) time refl refl)) refl
 one_none above t (RowNext line (BeatRow time)) later = rw (later_none above t time (later (BeatRow time) time refl refl)) refl
 one_none above t (RowNext line EndRow) later = refl
 one_none above t (Bad line) later = refl
@@ -257,14 +257,12 @@ events_of-append (EndItem ∷ xs) ys = events_of-append xs ys
 events_timed : (g : ℕ → Bool) (kinds : List Kind) (s : Source) (first place : ℕ) (rows : List Row) → list_all (λ (row : Row). g (time_at row)) rows ≡ true
     → list_all (λ (x : Event). g x.time) (events_of (filter_map (item_in kinds s first place) rows)) ≡ true
 events_timed g kinds s first place [] all = refl
-events_timed g kinds s first place (EventRow time name key value ∷ rows) all =
+events_timed g kinds s first place (EventRow time name key fields ∷ rows) all =
     let rest = events_timed g kinds s first place rows (and_right (g time) _ all) in
     elim (unwrap_or (option_map (λ n. n == place) (place_named kinds s name key)) false)
-    as (λ b. list_all (λ (x : Event). g x.time) (events_of (cons_option (if b then Some (EventItem (record {
-      time = time;
-      itag = record { 0 = first + place };
-      value = unwrap_or value (pos 0);
-    })) else None) (filter_map (item_in kinds s first place) rows))) ≡ true) [
+    as (λ b. list_all (λ (x : Event). g x.time) (events_of (cons_option
+    (if b then Some (EventItem (event_of time (first + place) (given_to kinds name fields))) else None)
+    (filter_map (item_in kinds s first place) rows))) ≡ true) [
       | true ↦ both (g time) _ (and_left (g time) _ all) rest
       | false ↦ rest
     ]
@@ -300,7 +298,7 @@ early_timed true b end time covers = by_test (nat_le time b) refl
 
 early_row : (above : Option ℕ) (b : ℕ) (end : Border) → Covers b end → (row : Row)
     → (is_between above end row && nat_le (time_at row) b) ≡ is_between above (At b) row
-early_row above b end covers (EventRow time name key value) = early_timed (is_above above time) b end time covers
+early_row above b end covers (EventRow time name key fields) = early_timed (is_above above time) b end time covers
 early_row above b end covers (BeatRow time) = early_timed (is_above above time) b end time covers
 early_row above b end covers EndRow = refl
 
@@ -314,7 +312,7 @@ late_timed false false e h = refl
 
 late_row : (above : Option ℕ) (b : ℕ) (end : Border) → Exceeds b above → (row : Row)
     → (is_between above end row && not (nat_le (time_at row) b)) ≡ is_between (Some b) end row
-late_row above b end exceeds (EventRow time name key value) =
+late_row above b end exceeds (EventRow time name key fields) =
     let e : not (nat_le time b) ≡ nat_lt b time = grind (arith, nat_tests) in
     rw e (late_timed (is_above above time) (nat_lt b time) (is_up_to end time) (exceeds time))
 late_row above b end exceeds (BeatRow time) =
@@ -467,7 +465,7 @@ none_between b t rows le = kept_none (is_between (Some b) (At t)) rows (list_all
         by_test false e = refl
 
     apart : (row : Row) → not (is_between (Some b) (At t) row) ≡ true
-    apart (EventRow time name key value) = apart_at time
+    apart (EventRow time name key fields) = apart_at time
     apart (BeatRow time) = apart_at time
     apart EndRow = refl
 

@@ -31,11 +31,11 @@ use Rattle.flu_streams.proofs.Turns.{IsTurn}
 -- ---- what is still to be read of a source, where others are read
 still_apart : (h : HeldSource) (name : List ℕ) (y z : Contents) → h.place.file ≢ name → TakesFrom name y z → still h z ≡ still h y
 still_apart h name y z ne t =
-    ap (λ (o : Option (List ℕ)). if h.closed then [] else read_bytes h.place.lines (h.place.taken ++ unwrap_or o [])) (t.others h.place.file ne)
+    ap (λ (o : Option (List ℕ)). if h.closed then [] else read_bytes h.place.form h.place.lines (h.place.taken ++ unwrap_or o [])) (t.others h.place.file ne)
 
 still_before : (h : HeldSource) (names : List (List ℕ)) (x y : Contents) → (Contains names h.place.file → ⊥) → LeavesOthers names x y → still h y ≡ still h x
 still_before h names x y apart others =
-    ap (λ (o : Option (List ℕ)). if h.closed then [] else read_bytes h.place.lines (h.place.taken ++ unwrap_or o [])) (others h.place.file apart)
+    ap (λ (o : Option (List ℕ)). if h.closed then [] else read_bytes h.place.form h.place.lines (h.place.taken ++ unwrap_or o [])) (others h.place.file apart)
 
 read_out_before : (names : List (List ℕ)) (name : List ℕ) (a b : Option Contents) → WhereTold a b (LeavesOthers names) → (Contains names name → ⊥)
     → IsReadOut name a → IsReadOut name b
@@ -63,6 +63,7 @@ refills_later kinds s first rows above before old new name a b c end ne taken r 
 refilled_later : (kinds : List Kind) (s : Source) (first rows : ℕ) (old new : Inlet) (name : List ℕ) (a b c : Option Contents) (end : Border) → s.file ≢ name
     → WhereTold b c (TakesFrom name) → IsRefilled kinds s first rows old new a b end → IsRefilled kinds s first rows old new a c end
 refilled_later kinds s first rows old new name a b c end ne taken r = record {
+  form = r.form;
   keeps = r.keeps;
   few = r.few;
   caught = r.caught;
@@ -83,6 +84,7 @@ pub refilled_earlier : (kinds : List Kind) (s : Source) (first rows : ℕ) (old 
     (end : Border) → (Contains names s.file → ⊥)
     → WhereTold a b (LeavesOthers names) → IsRefilled kinds s first rows old new b c end → IsRefilled kinds s first rows old new a c end
 refilled_earlier kinds s first rows old new names a b c end apart others r = record {
+  form = r.form;
   keeps = r.keeps;
   few = r.few;
   caught = r.caught;
@@ -125,6 +127,7 @@ stop_earlier kinds s first rows old names a b c ReadFault apart others r = λ ab
       place = k.place;
       sound = k.sound;
       few = k.few;
+      form = k.form;
       file = k.file;
       undecided = k.undecided;
       told = told_before (source_of old) names (λ l at. l ≡ k.more ++ ahead k.place at) a b c

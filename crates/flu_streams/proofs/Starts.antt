@@ -10,6 +10,7 @@ use Rattle.flu_lemmas.proofs.Places.{slice_get-there}
 use Rattle.flu_model.specs.declared.jobs.Source.{Source}
 use Rattle.flu_model.specs.declared.jobs.Program.{Program}
 use Rattle.flu_outside.specs.Taking.{IsReadOut}
+use Rattle.flu_rows.specs.Row.{form_of}
 use Rattle.flu_streams.specs.Files.{files_of}
 use Rattle.flu_streams.specs.Holding.{HeldSource, IsHeldBehind, unread_source, first_itag, still, LawOfStart, LawOfEnds}
 
@@ -26,7 +27,7 @@ among (y ∷ xs) x (zero, lt, e) = (zero, ap Some e)
 among (y ∷ xs) x (suc k, lt, e) = let rest = among xs x (k, omega (arith, lt), e) in (suc rest.0, rest.1)
 
 -- ---- the start
-fresh_behind : (p : Program) (border : Option ℕ) (i : ℕ) (s : Source) (source : HeldSource) → source ≡ unread_source border s
+fresh_behind : (p : Program) (border : Option ℕ) (i : ℕ) (s : Source) (source : HeldSource) → source ≡ unread_source (form_of p.version) border s
     → IsHeldBehind p.kinds (first_itag p i) s border [] source
 fresh_behind p border i s source is = subst (λ h. IsHeldBehind p.kinds (first_itag p i) s border [] h) (sym is) (record {
   file = refl;
@@ -45,21 +46,21 @@ fresh_behind p border i s source is = subst (λ h. IsHeldBehind p.kinds (first_i
     no_border t e = cc
 
 pub fresh_at : (p : Program) (border : Option ℕ) (i : ℕ) (s : Source) (source : HeldSource) → slice_get p.sources i ≡ Some s
-    → slice_get (map (unread_source border) p.sources) i ≡ Some source → source ≡ unread_source border s
+    → slice_get (map (unread_source (form_of p.version) border) p.sources) i ≡ Some source → source ≡ unread_source (form_of p.version) border s
 fresh_at p border i s source e f =
-    let k = from_mapped (unread_source border) p.sources i source f in k.2 ∙ ap (unread_source border) (one_there p.sources i k.0 s k.1 e)
+    let k = from_mapped (unread_source (form_of p.version) border) p.sources i source f in k.2 ∙ ap (unread_source (form_of p.version) border) (one_there p.sources i k.0 s k.1 e)
 
 pub law_of_start : LawOfStart
 law_of_start p rows border = record {
   behind = record {
-    count = length-map p.sources (unread_source border);
+    count = length-map p.sources (unread_source (form_of p.version) border);
     each = λ i s source e f. fresh_behind p border i s source (fresh_at p border i s source e f);
   };
   all = λ left whole lines i source f.
-      let k = from_mapped (unread_source border) p.sources i source f in
+      let k = from_mapped (unread_source (form_of p.version) border) p.sources i source f in
       lines i k.0 k.1 ∙ ap (λ (h : HeldSource). still h left) (sym k.2);
   ended = λ left i source f closed.
-      let k = from_mapped (unread_source border) p.sources i source f in
+      let k = from_mapped (unread_source (form_of p.version) border) p.sources i source f in
       absurd (false≢true (ap (λ (h : HeldSource). h.closed) (sym k.2) ∙ closed));
 }
 

@@ -1,7 +1,7 @@
 -- The rows of a source that were taken in, and its first defect.
 use Rattle.std.proofs.Common.{◌≡◌, ℕ, ◌+◌, ◌<◌, ◌≤◌, max, Bool, true, false, ◌||◌, ◌&&◌, ltb, leb, eqb, List, [], ◌∷◌, ◌++◌, map, Option, Some, None, refl, sym}
 use Rattle.std.proofs.Common.{ap, ◌∙◌, append_assoc, arith, vec_len, if◌then◌else◌}
-use Rattle.std.specs.Prelude.{option_map, unwrap_or, pos}
+use Rattle.std.specs.Prelude.{option_map, unwrap_or}
 use Rattle.std.specs.List.{filter_map, cons_option, list_any}
 use Rattle.std.specs.Option.{option_to_list}
 use Rattle.std.proofs.lemmas.Bool.{false≢true}
@@ -21,6 +21,7 @@ use Rattle.flu_model.specs.declared.jobs.Source.{Source}
 use Rattle.flu_model.specs.Streaming.{is_stream_from}
 use Rattle.flu_outside.specs.Outside.{Contents, WhereTold}
 use Rattle.flu_outside.specs.Taking.{bytes_left}
+use Rattle.flu_rows.specs.declared.row.RowForm.{RowForm}
 use Rattle.flu_rows.specs.declared.row.Row.{Row}
 use Rattle.flu_rows.specs.declared.row.Row.TheVariants.{Event, Beat, End}
 use Rattle.flu_rows.specs.declared.rows.Next.{Next}
@@ -34,10 +35,10 @@ use Rattle.flu_streams.specs.declared.intake.RowRefusal.{RowRefusal}
 use Rattle.flu_streams.specs.declared.intake.RowRefusal.TheVariants.{Fault, NoMemory}
 use Rattle.flu_streams.specs.Before.{with_before, first_some, or_else}
 use Rattle.flu_streams.specs.Lists.{items_of_list, item_time, times_in, item_for}
-use Rattle.flu_streams.specs.Tags.{place_named, width}
+use Rattle.flu_streams.specs.Tags.{place_named, given_to, width}
 use Rattle.flu_streams.specs.Tests.{row_in, rows_of, is_end, has_ended, time_in, times_of, greatest, items_in, items_of, where_true, test_behind, test_times}
 use Rattle.flu_streams.specs.Tests.{fault_of, defect_of, first_of, first_defect}
-use Rattle.flu_streams.specs.Good.{item_in, time_at, in_time_order, items_at}
+use Rattle.flu_streams.specs.Good.{event_of, item_in, time_at, in_time_order, items_at}
 use Rattle.flu_streams.specs.LoopIntake.{IsEmpty, Inserts, TakesEnd, Takes, TakesIn, IsRefusal, SameTimes, Holds, item_of}
 use Rattle.flu_streams.specs.Faults.{WasRead}
 use Rattle.flu_streams.specs.LoopSource.{stop_at, defect_behind, IsTakenIn, IsReading, IsGoodSource, IsFirstDefect, HidesNoDefect}
@@ -119,7 +120,7 @@ pub ordered_more : (rows : List Row) (row : Row) → in_time_order (rows ++ (row
 ordered_more rows row = in_order-late time_at rows row
 
 pub item_time-of : (kinds : List Kind) (s : Source) (first : ℕ) (row : Row) → item_time (item_of kinds s first row) ≡ time_at row
-item_time-of kinds s first (Event time name key value) = refl
+item_time-of kinds s first (Event time name key fields) = refl
 item_time-of kinds s first (Beat time) = refl
 item_time-of kinds s first End = refl
 
@@ -136,18 +137,18 @@ if_hit false x = refl
 -- what an item is for an itag is what its row is
 pub for_itag : (kinds : List Kind) (s : Source) (first place : ℕ) (row : Row) → place < width s
     → item_for (first + place) (item_of kinds s first row) ≡ item_in kinds s first place row
-for_itag kinds s first place (Event time name key value) lt = by_place (place_named kinds s name key)
+for_itag kinds s first place (Event time name key fields) lt = by_place (place_named kinds s name key)
   where
     by_place : (found : Option ℕ) → item_for (first + place)
-        (EventItem (record { time = time; itag = record { 0 = first + unwrap_or found (width s) }; value = unwrap_or value (pos 0) }))
+        (EventItem (event_of time (first + unwrap_or found (width s)) (given_to kinds name fields)))
         ≡ (if unwrap_or (option_map (λ n. eqb n place) found) false then Some
-        (EventItem (record { time = time; itag = record { 0 = first + place }; value = unwrap_or value (pos 0) })) else None)
+        (EventItem (event_of time (first + place) (given_to kinds name fields))) else None)
     by_place None = let other : eqb (first + width s) (first + place) ≡ false = grind (arith, nat_tests) in rw other refl
     by_place (Some n) = by_test (eqb n place) refl
       where
         by_test : (b : Bool) → eqb n place ≡ b → item_for (first + place)
-            (EventItem (record { time = time; itag = record { 0 = first + n }; value = unwrap_or value (pos 0) }))
-            ≡ (if eqb n place then Some (EventItem (record { time = time; itag = record { 0 = first + place }; value = unwrap_or value (pos 0) })) else None)
+            (EventItem (event_of time (first + n) (given_to kinds name fields)))
+            ≡ (if eqb n place then Some (EventItem (event_of time (first + place) (given_to kinds name fields))) else None)
         by_test true same =
             let is : n ≡ place = grind (arith, nat_tests) in
             let hit : eqb (first + place) (first + place) ≡ true = grind (arith, nat_tests) in
@@ -265,7 +266,7 @@ pub holds_more : (kinds : List Kind) (s : Source) (number before : ℕ) (rows : 
 holds_more kinds s number before rows row old new h t = by_row row (sym h.ended ∙ goes_on old.ended AfterEnd _ t.passes) t.takes
   where
     by_row : (row : Row) → has_ended rows ≡ false → Takes kinds s row old new → Holds kinds s number before (rows ++ (row ∷ [])) new
-    by_row (Event time name key value) goes takes = timed_more kinds s number before rows (Event time name key value) time old new refl refl goes h takes
+    by_row (Event time name key fields) goes takes = timed_more kinds s number before rows (Event time name key fields) time old new refl refl goes h takes
     by_row (Beat time) goes takes = timed_more kinds s number before rows (Beat time) time old new refl refl goes h takes
     by_row End goes takes = end_more kinds s number before rows old new goes h takes
 
@@ -310,52 +311,52 @@ pub none_taken_in : (kinds : List Kind) (s : Source) (number before : ℕ) (inta
     → IsTakenIn kinds s number before [] intake
 none_taken_in kinds s number before intake empty = record { holds = holds_none kinds s number before intake empty; passes = refl }
 
-pub reading_none : (kinds : List Kind) (s : Source) (number before : ℕ) (intake : Intake) (place : Place) (a : Option Contents)
-    → IsEmpty number (width s) before intake → place ≡ front_of s.file
-    → IsReading kinds s number before intake place a a
-reading_none kinds s number before intake place a empty front = record {
+pub reading_none : (form : RowForm) (kinds : List Kind) (s : Source) (number before : ℕ) (intake : Intake) (place : Place) (a : Option Contents)
+    → IsEmpty number (width s) before intake → place ≡ front_of form s.file
+    → IsReading form kinds s number before intake place a a
+reading_none form kinds s number before intake place a empty front = record {
   read = [];
   taken = none_taken_in kinds s number before intake empty;
-  told = told_same (λ was now. WasRead s [] (ahead place now) was) a (λ x. rw front refl);
+  told = told_same (λ was now. WasRead form s [] (ahead place now) was) a (λ x. rw front refl);
 }
 
-pub reading_more : (kinds : List Kind) (s : Source) (number before : ℕ) (old new : Intake) (place place' : Place) (a b c : Option Contents) (line : ℕ)
+pub reading_more : (form : RowForm) (kinds : List Kind) (s : Source) (number before : ℕ) (old new : Intake) (place place' : Place) (a b c : Option Contents) (line : ℕ)
     (row : Row)
-    → IsReading kinds s number before old place a b → WhereTold b c (λ was now. ahead place was ≡ then_behind (RowNext line row) (ahead place' now))
+    → IsReading form kinds s number before old place a b → WhereTold b c (λ was now. ahead place was ≡ then_behind (RowNext line row) (ahead place' now))
     → TakesIn kinds s row old new
-    → IsReading kinds s number before new place' a c
-reading_more kinds s number before old new place place' a b c line row reading told t =
+    → IsReading form kinds s number before new place' a c
+reading_more form kinds s number before old new place place' a b c line row reading told t =
     let read = reading.read in
     record {
       read = read ++ (RowNext line row ∷ []);
       taken = taken_more kinds s number before read line row old new reading.taken t;
-      told = told_then (λ was now. WasRead s read (ahead place now) was) (λ was now. ahead place was ≡ then_behind (RowNext line row) (ahead place' now))
-          (λ was now. WasRead s (read ++ (RowNext line row ∷ [])) (ahead place' now) was) a b c
+      told = told_then (λ was now. WasRead form s read (ahead place now) was) (λ was now. ahead place was ≡ then_behind (RowNext line row) (ahead place' now))
+          (λ was now. WasRead form s (read ++ (RowNext line row ∷ [])) (ahead place' now) was) a b c
           (λ x y z p q. p ∙ ap (λ (rest : List Next). read ++ rest) q ∙ sym (append_assoc read (RowNext line row ∷ []) (ahead place' z))) reading.told told;
     }
 
 -- ---- a row that is refused
-refused_at : (kinds : List Kind) (s : Source) (number before : ℕ) (intake : Intake) (place place' : Place) (a b c : Option Contents) (line : ℕ) (row : Row)
+refused_at : (form : RowForm) (kinds : List Kind) (s : Source) (number before : ℕ) (intake : Intake) (place place' : Place) (a b c : Option Contents) (line : ℕ) (row : Row)
     (why : Why)
-    → IsReading kinds s number before intake place a b → WhereTold b c (λ was now. ahead place was ≡ then_behind (RowNext line row) (ahead place' now))
+    → IsReading form kinds s number before intake place a b → WhereTold b c (λ was now. ahead place was ≡ then_behind (RowNext line row) (ahead place' now))
     → fault_of kinds s intake.ended (times_in intake.items) intake.held row ≡ Some why
-    → WhereTold a c (λ was now. first_defect kinds s before (bytes_left was s.file) ≡ Some (line, why))
-refused_at kinds s number before intake place place' a b c line row why reading told fault =
+    → WhereTold a c (λ was now. first_defect form kinds s before (bytes_left was s.file) ≡ Some (line, why))
+refused_at form kinds s number before intake place place' a b c line row why reading told fault =
     let read = reading.read in
     let defect = ap (option_map (λ (w : Why). (line, w))) (fault_at_row kinds s number before read intake row reading.taken.holds ∙ fault) in
-    told_then (λ was now. WasRead s read (ahead place now) was) (λ was now. ahead place was ≡ then_behind (RowNext line row) (ahead place' now))
-    (λ was now. first_defect kinds s before (bytes_left was s.file) ≡ Some (line, why)) a b c
+    told_then (λ was now. WasRead form s read (ahead place now) was) (λ was now. ahead place was ≡ then_behind (RowNext line row) (ahead place' now))
+    (λ was now. first_defect form kinds s before (bytes_left was s.file) ≡ Some (line, why)) a b c
     (λ x y z p q. ap (first_of kinds s before) (p ∙ ap (λ (rest : List Next). read ++ rest) q)
     ∙ first_of-at kinds s before read (ahead place' z) (RowNext line row) (Some (line, why)) reading.taken.passes defect) reading.told told
 
-pub refused : (kinds : List Kind) (s : Source) (number before : ℕ) (intake : Intake) (place place' : Place) (a b c : Option Contents) (line : ℕ) (row : Row)
+pub refused : (form : RowForm) (kinds : List Kind) (s : Source) (number before : ℕ) (intake : Intake) (place place' : Place) (a b c : Option Contents) (line : ℕ) (row : Row)
     (refusal : RowRefusal)
-    → IsReading kinds s number before intake place a b → WhereTold b c (λ was now. ahead place was ≡ then_behind (RowNext line row) (ahead place' now))
+    → IsReading form kinds s number before intake place a b → WhereTold b c (λ was now. ahead place was ≡ then_behind (RowNext line row) (ahead place' now))
     → IsRefusal (fault_of kinds s intake.ended (times_in intake.items) intake.held row) refusal
-    → IsFirstDefect kinds s before a c (stop_at line refusal)
-refused kinds s number before intake place place' a b c line row NoMemory reading told fault = tt
-refused kinds s number before intake place place' a b c line row (Fault why) reading told fault =
-    refused_at kinds s number before intake place place' a b c line row why reading told fault
+    → IsFirstDefect form kinds s before a c (stop_at line refusal)
+refused form kinds s number before intake place place' a b c line row NoMemory reading told fault = tt
+refused form kinds s number before intake place place' a b c line row (Fault why) reading told fault =
+    refused_at form kinds s number before intake place place' a b c line row why reading told fault
 
 -- ---- what is other row
 abbrev pub IsNoRow : Next → Type 0
@@ -388,11 +389,11 @@ no_row_more read (Bad line) other = filter_more row_in read (Bad line) ∙ appen
 no_row_more read TooManyLines other = filter_more row_in read TooManyLines ∙ append-nil (rows_of read)
 no_row_more read (Done lines) other = filter_more row_in read (Done lines) ∙ append-nil (rows_of read)
 
-pub good_end : (kinds : List Kind) (s : Source) (number before : ℕ) (intake : Intake) (place place' : Place) (a b c : Option Contents) (next : Next)
-    → IsReading kinds s number before intake place a b
+pub good_end : (form : RowForm) (kinds : List Kind) (s : Source) (number before : ℕ) (intake : Intake) (place place' : Place) (a b c : Option Contents) (next : Next)
+    → IsReading form kinds s number before intake place a b
     → WhereTold b c (λ was now. ahead place was ≡ then_behind next (ahead place' now)) → IsNoRow next → defect_behind intake.ended next ≡ None
-    → IsGoodSource kinds s number before a c intake
-good_end kinds s number before intake place place' a b c next reading told other none =
+    → IsGoodSource form kinds s number before a c intake
+good_end form kinds s number before intake place place' a b c next reading told other none =
     let read = reading.read in
     record {
       read = read ++ (next ∷ []);
@@ -402,8 +403,8 @@ good_end kinds s number before intake place place' a b c next reading told other
             (defect_at_last kinds s number before read intake next reading.taken.holds other ∙ none);
       };
       ended = (done_if_none intake.ended next other none).0;
-      told = told_then (λ was now. WasRead s read (ahead place now) was) (λ was now. ahead place was ≡ then_behind next (ahead place' now))
-          (λ was now. WasRead s (read ++ (next ∷ [])) [] was) a b c
+      told = told_then (λ was now. WasRead form s read (ahead place now) was) (λ was now. ahead place was ≡ then_behind next (ahead place' now))
+          (λ was now. WasRead form s (read ++ (next ∷ [])) [] was) a b c
           (λ x y z p q. p ∙ ap (λ (rest : List Next). read ++ rest) (q ∙ then_last next (ahead place' z) other) ∙ sym (append-nil (read ++ (next ∷ []))))
           reading.told told;
     }
@@ -411,29 +412,30 @@ good_end kinds s number before intake place place' a b c next reading told other
 pub at_done : (ended : Bool) (next : Next) (fact : Type 0) → IsNoRow next → defect_behind ended next ≡ None → OnDone next fact → fact
 at_done ended next fact other none h = (done_if_none ended next other none).1 fact h
 
-pub bad_end : (kinds : List Kind) (s : Source) (number before : ℕ) (intake : Intake) (place place' : Place) (a b c : Option Contents) (next : Next) (row : ℕ)
-    (why : Why) → IsReading kinds s number before intake place a b
+pub bad_end : (form : RowForm) (kinds : List Kind) (s : Source) (number before : ℕ) (intake : Intake) (place place' : Place) (a b c : Option Contents) (next : Next) (row : ℕ)
+    (why : Why) → IsReading form kinds s number before intake place a b
     → WhereTold b c (λ was now. ahead place was ≡ then_behind next (ahead place' now)) → IsNoRow next → defect_behind intake.ended next ≡ Some (row, why)
-    → WhereTold a c (λ was now. first_defect kinds s before (bytes_left was s.file) ≡ Some (row, why))
-bad_end kinds s number before intake place place' a b c next row why reading told other some =
+    → WhereTold a c (λ was now. first_defect form kinds s before (bytes_left was s.file) ≡ Some (row, why))
+bad_end form kinds s number before intake place place' a b c next row why reading told other some =
     let read = reading.read in
-    told_then (λ was now. WasRead s read (ahead place now) was) (λ was now. ahead place was ≡ then_behind next (ahead place' now))
-    (λ was now. first_defect kinds s before (bytes_left was s.file) ≡ Some (row, why)) a b c
+    told_then (λ was now. WasRead form s read (ahead place now) was) (λ was now. ahead place was ≡ then_behind next (ahead place' now))
+    (λ was now. first_defect form kinds s before (bytes_left was s.file) ≡ Some (row, why)) a b c
     (λ x y z p q. ap (first_of kinds s before) (p ∙ ap (λ (rest : List Next). read ++ rest) (q ∙ then_last next (ahead place' z) other))
     ∙ first_of-at kinds s before read [] next (Some (row, why)) reading.taken.passes
     (defect_at_last kinds s number before read intake next reading.taken.holds other ∙ some)) reading.told told
 
 -- ---- a read that fails
-pub hides_none : (kinds : List Kind) (s : Source) (number before : ℕ) (intake : Intake) (place place' : Place) (a b c : Option Contents)
-    → IsReading kinds s number before intake place a b → WhereTold b c (λ was now. ahead place was ≡ ahead place' now)
-    → place'.file ≡ s.file → IsUndecided place'.taken → HidesNoDefect kinds s before a c
-hides_none kinds s number before intake place place' a b c reading told file undecided = record {
+pub hides_none : (form : RowForm) (kinds : List Kind) (s : Source) (number before : ℕ) (intake : Intake) (place place' : Place) (a b c : Option Contents)
+    → IsReading form kinds s number before intake place a b → WhereTold b c (λ was now. ahead place was ≡ ahead place' now)
+    → place'.form ≡ form → place'.file ≡ s.file → IsUndecided place'.taken → HidesNoDefect form kinds s before a c
+hides_none form kinds s number before intake place place' a b c reading told form_is file undecided = record {
   read = reading.read;
   place = place';
+  form_is = form_is;
   file = file;
   passes = reading.taken.passes;
   undecided = undecided;
-  told = told_then (λ was now. WasRead s reading.read (ahead place now) was) (λ was now. ahead place was ≡ ahead place' now)
-      (λ was now. WasRead s reading.read (ahead place' now) was) a b c
+  told = told_then (λ was now. WasRead form s reading.read (ahead place now) was) (λ was now. ahead place was ≡ ahead place' now)
+      (λ was now. WasRead form s reading.read (ahead place' now) was) a b c
       (λ x y z p q. p ∙ ap (λ (rest : List Next). reading.read ++ rest) q) reading.told told;
 }

@@ -5,7 +5,9 @@ use Rattle.flu_model.specs.declared.jobs.Source.{Source}
 use Rattle.flu_model.specs.declared.jobs.Program.{Program}
 use Rattle.flu_outside.specs.Outside.{Contents, WhereTold, Rose}
 use Rattle.flu_outside.specs.Taking.{bytes_left}
+use Rattle.flu_rows.specs.declared.row.RowForm.{RowForm}
 use Rattle.flu_rows.specs.declared.rows.Next.{Next}
+use Rattle.flu_rows.specs.Row.{form_of}
 use Rattle.flu_rows.specs.Lines.{IsUndecided}
 use Rattle.flu_rows.specs.Reading.{Place, read_file, ahead}
 use Rattle.flu_streams.specs.declared.faults.GatherFault.{GatherFault}
@@ -15,14 +17,14 @@ use Rattle.flu_streams.specs.Tests.{first_of}
 use Rattle.flu_streams.specs.Good.{items_held, fault_of_source, first_fault}
 
 -- the bytes that a source's file had are what was read of it, and what is still to be read
-abbrev pub WasRead : Source → List Next → List Next → Contents → Type 0
-WasRead s read behind old = read_file (bytes_left old s.file) ≡ read ++ behind
+abbrev pub WasRead : RowForm → Source → List Next → List Next → Contents → Type 0
+WasRead form s read behind old = read_file form (bytes_left old s.file) ≡ read ++ behind
 
 -- some sources have no defect, nor do the rows that were read of the next one, before what is still to be read
-pub record StopsWithout (kinds : List Kind) (earlier : List Source) (s : Source) (read behind : List Next) (left : Contents) : Type 0 where
-  pub good : first_some (λ e. fault_of_source kinds left e.0 e.1) (each_with_before earlier) ≡ None
-  pub passes : first_of kinds s (items_held left earlier) read ≡ None
-  pub was : WasRead s read behind left
+pub record StopsWithout (form : RowForm) (kinds : List Kind) (earlier : List Source) (s : Source) (read behind : List Next) (left : Contents) : Type 0 where
+  pub good : first_some (λ e. fault_of_source form kinds left e.0 e.1) (each_with_before earlier) ≡ None
+  pub passes : first_of kinds s (items_held form left earlier) read ≡ None
+  pub was : WasRead form s read behind left
 
 -- A read fault hides nothing that was taken: the sources before the one whose file failed are good, and the reading of that one
 -- stops after rows without a defect; whatever else was taken of it decides nothing.
@@ -34,9 +36,10 @@ pub record HidesNothing (p : Program) (old new : Option Contents) (before now : 
   pub rose : Rose (before source.file) (now source.file)
   pub read : List Next
   pub place : Place
+  pub form : place.form ≡ form_of p.version
   pub file : place.file ≡ source.file
   pub undecided : IsUndecided place.taken
-  pub told : WhereTold old new (λ was now. StopsWithout p.kinds earlier source read (ahead place now) was)
+  pub told : WhereTold old new (λ was now. StopsWithout (form_of p.version) p.kinds earlier source read (ahead place now) was)
 
 -- a fault of a source is the first of all, and names a declared source
 abbrev pub IsFirstFault : Program → Option Contents → Option Contents → GatherFault → Type 0

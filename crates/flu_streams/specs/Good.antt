@@ -1,51 +1,59 @@
 -- Good sources, and the lists of items that they give.
-use Rattle.std.specs.Prelude.{◌≡◌, ℕ, ◌+◌, ◌==◌, pos, false, Option, Some, None, option_map, unwrap_or, List, [], ◌∷◌, ◌++◌, length, map, if◌then◌else◌, sum_by}
+use Rattle.std.specs.Prelude.{◌≡◌, ℕ, ℤ, ◌+◌, ◌==◌, pos, false, Option, Some, None, option_map, unwrap_or, List, [], ◌∷◌, ◌++◌, length, map, if◌then◌else◌, sum_by}
 use Rattle.std.specs.List.{flat_map, filter_map, range_with_len}
 use Rattle.flu_lemmas.specs.Late.{is_less}
 use Rattle.flu_lemmas.specs.Sorting.{in_order}
+use Rattle.flu_model.specs.declared.events.Event.{Event as EventOf}
 use Rattle.flu_model.specs.declared.events.Item.{Item}
 use Rattle.flu_model.specs.declared.events.Item.TheVariants.{Event as EventItem, Beat as BeatItem, End as EndItem}
 use Rattle.flu_model.specs.declared.jobs.Kind.{Kind}
 use Rattle.flu_model.specs.declared.jobs.Source.{Source}
 use Rattle.flu_model.specs.declared.jobs.Program.{Program}
 use Rattle.flu_outside.specs.Outside.{Contents}
+use Rattle.flu_rows.specs.declared.row.RowForm.{RowForm}
 use Rattle.flu_rows.specs.declared.row.Row.{Row}
 use Rattle.flu_rows.specs.declared.row.Row.TheVariants.{Event, Beat, End}
+use Rattle.flu_rows.specs.Row.{form_of}
 use Rattle.flu_rows.specs.Reading.{read_file}
 use Rattle.flu_outside.specs.Taking.{bytes_left}
 use Rattle.flu_streams.specs.declared.faults.SourceFault.{SourceFault}
 use Rattle.flu_streams.specs.Before.{each_with_before, first_some}
-use Rattle.flu_streams.specs.Tags.{place_named, width}
+use Rattle.flu_streams.specs.Tags.{place_named, given_to, width}
 use Rattle.flu_streams.specs.Tests.{rows_of, time_in, items_of, first_defect}
 
 -- ---- the first fault of all sources
-abbrev pub rows_in : Contents → Source → List Row
-rows_in left s = rows_of (read_file (bytes_left left s.file))
+abbrev pub rows_in : RowForm → Contents → Source → List Row
+rows_in form left s = rows_of (read_file form (bytes_left left s.file))
 
 -- how many items the rows of some sources have
-abbrev pub items_held : Contents → List Source → ℕ
-items_held left sources = sum_by (λ (s : Source). items_of (width s) (rows_in left s)) sources
+abbrev pub items_held : RowForm → Contents → List Source → ℕ
+items_held form left sources = sum_by (λ (s : Source). items_of (width s) (rows_in form left s)) sources
 
 -- the fault of a source that comes after others: its first defect, given that the items of those are held
-abbrev pub fault_of_source : List Kind → Contents → List Source → Source → Option SourceFault
-fault_of_source kinds left earlier s =
-    option_map (λ d. record { source = length earlier; row = d.0; why = d.1 }) (first_defect kinds s (items_held left earlier) (bytes_left left s.file))
+abbrev pub fault_of_source : RowForm → List Kind → Contents → List Source → Source → Option SourceFault
+fault_of_source form kinds left earlier s =
+    option_map (λ d. record { source = length earlier; row = d.0; why = d.1 }) (first_defect form kinds s (items_held form left earlier) (bytes_left left s.file))
 
 -- THE FIRST FAULT: the fault of the first source, as declared, that has a defect
 abbrev pub first_fault : Program → Contents → Option SourceFault
-first_fault p left = first_some (λ e. fault_of_source p.kinds left e.0 e.1) (each_with_before p.sources)
+first_fault p left = first_some (λ e. fault_of_source (form_of p.version) p.kinds left e.0 e.1) (each_with_before p.sources)
 
 -- GOOD SOURCES: none has a defect
 abbrev pub AreGood : Program → Contents → Type 0
 AreGood p left = first_fault p left ≡ None
 
 -- ---- the lists of items
+-- the event at a time, of the itag with a number, with the item and the value that its row gives
+abbrev pub event_of : ℕ → ℕ → Option (ℕ × ℤ) → EventOf
+event_of time itag given =
+    let both = unwrap_or given (0, pos 0) in record { time = time; itag = record { 0 = itag }; item = both.0; value = both.1 }
+
 -- the item that an event or a heartbeat gives for the itag at a place of a source whose first itag has this number: an event
 -- is an item of its own itag, and a heartbeat is an item of each
 abbrev pub item_in : List Kind → Source → ℕ → ℕ → Row → Option Item
-item_in kinds s first place (Event time name key value) =
+item_in kinds s first place (Event time name key fields) =
     if unwrap_or (option_map (λ n. n == place) (place_named kinds s name key)) false
-    then Some (EventItem (record { time = time; itag = record { 0 = first + place }; value = unwrap_or value (pos 0) }))
+    then Some (EventItem (event_of time (first + place) (given_to kinds name fields)))
     else None
 item_in kinds s first place (Beat time) = Some (BeatItem time)
 item_in kinds s first place End = None
@@ -70,4 +78,4 @@ lists_of_rows kinds s first rows = map (items_at kinds s first rows) (range_with
 -- end
 abbrev pub lists_of : Program → Contents → List (List Item)
 lists_of p left =
-    flat_map (λ e. lists_of_rows p.kinds e.1 (sum_by width e.0) (rows_in left e.1)) (each_with_before p.sources)
+    flat_map (λ e. lists_of_rows p.kinds e.1 (sum_by width e.0) (rows_in (form_of p.version) left e.1)) (each_with_before p.sources)

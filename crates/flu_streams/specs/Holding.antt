@@ -10,7 +10,9 @@ use Rattle.flu_model.specs.declared.jobs.Program.{Program}
 use Rattle.flu_model.specs.Itags.{count_of_itags}
 use Rattle.flu_outside.specs.Outside.{Contents, WhereTold, Rose}
 use Rattle.flu_outside.specs.Taking.{IsReadOut}
+use Rattle.flu_rows.specs.declared.row.RowForm.{RowForm}
 use Rattle.flu_rows.specs.declared.rows.Next.{Next}
+use Rattle.flu_rows.specs.Row.{form_of}
 use Rattle.flu_rows.specs.Lines.{IsUndecided}
 use Rattle.flu_rows.specs.Reading.{Place, ahead, front_of}
 use Rattle.flu_streams.specs.declared.border.Border.{Border}
@@ -45,13 +47,14 @@ pub record Holding : Type 0 where
   pub stage : Stage
   pub sources : List HeldSource
 
--- nothing was read of a source, whose rows are run from this border on, if there is one
-abbrev pub unread_source : Option ℕ → Source → HeldSource
-unread_source border s = record { items = []; place = front_of s.file; last = None; ended = false; closed = false; goal = border }
+-- nothing was read of a source, whose rows have this form and are run from this border on, if there is one
+abbrev pub unread_source : RowForm → Option ℕ → Source → HeldSource
+unread_source form border s = record { items = []; place = front_of form s.file; last = None; ended = false; closed = false; goal = border }
 
 -- nothing was read of any
 abbrev pub unread : Program → ℕ → Option ℕ → Holding
-unread p rows border = record { program = p; rows = rows; border = border; stage = Filling; sources = map (unread_source border) p.sources }
+unread p rows border =
+    record { program = p; rows = rows; border = border; stage = Filling; sources = map (unread_source (form_of p.version) border) p.sources }
 
 -- a run from the first row on
 abbrev pub fresh : Program → ℕ → Holding
@@ -167,6 +170,7 @@ pub record HidesNoRoundFault (old : Holding) (left left' : Option Contents) (fau
   pub sound : defect_in old.program.kinds source (now at) ≡ None
   pub few : (k : ℕ) → k ≤ length more → is_enough old.rows old.border source (before at ++ take k more) ≡ false
   pub place : Place
+  pub form : place.form ≡ form_of old.program.version
   pub file : place.file ≡ source.file
   pub undecided : IsUndecided place.taken
   pub told : WhereTold left left' (λ was is. (whole : ℕ → List Next) → AreInAll old before was whole

@@ -6,6 +6,7 @@ use Rattle.flu_model.specs.declared.jobs.Source.{Source}
 use Rattle.flu_model.specs.declared.events.Item.{Item}
 use Rattle.flu_model.specs.Streaming.{are_streams}
 use Rattle.flu_outside.specs.Outside.{Contents, WhereTold}
+use Rattle.flu_rows.specs.declared.row.RowForm.{RowForm}
 use Rattle.flu_rows.specs.declared.rows.Next.{Next}
 use Rattle.flu_outside.specs.Taking.{bytes_left}
 use Rattle.flu_streams.specs.declared.faults.GatherFault.{GatherFault}
@@ -22,11 +23,11 @@ use Rattle.flu_streams.specs.Faults.{WasRead}
 use Rattle.flu_streams.specs.Files.{files_of, LeavesOthers}
 
 -- one more source was read to its end, and has no defect
-pub record AddsSource (kinds : List Kind) (s : Source) (left left' : Option Contents) (old new : Gathered) : Type 0 where
+pub record AddsSource (form : RowForm) (kinds : List Kind) (s : Source) (left left' : Option Contents) (old new : Gathered) : Type 0 where
   pub read : List Next
   pub passes : first_of kinds s old.held read ≡ None
   pub ended : has_ended (rows_of read) ≡ true
-  pub told : WhereTold left left' (λ was now. WasRead s read [] was)
+  pub told : WhereTold left left' (λ was now. WasRead form s read [] was)
   pub lists : lists_in new.lists ≡ lists_in old.lists ++ lists_of_rows kinds s (vec_len old.lists) (rows_of read)
   pub streams : are_streams (vec_len old.lists) (lists_of_rows kinds s (vec_len old.lists) (rows_of read)) ≡ true
   pub len : vec_len new.lists ≡ vec_len old.lists + width s
@@ -39,20 +40,20 @@ fault_of_stop number ReadStop = ReadFault
 fault_of_stop number NoMemoryStop = NoMemory
 
 -- a fault of a source is this one's, by its first defect
-abbrev pub IsFaultOf : List Kind → Source → ℕ → ℕ → Option Contents → Option Contents → GatherFault → Type 0
-IsFaultOf kinds s number held left left' (SourceFaulty f) =
-    (f.source ≡ number) × WhereTold left left' (λ was now. first_defect kinds s held (bytes_left was s.file) ≡ Some (f.row, f.why))
-IsFaultOf kinds s number held left left' ReadFault = ⊤
-IsFaultOf kinds s number held left left' NoMemory = ⊤
+abbrev pub IsFaultOf : RowForm → List Kind → Source → ℕ → ℕ → Option Contents → Option Contents → GatherFault → Type 0
+IsFaultOf form kinds s number held left left' (SourceFaulty f) =
+    (f.source ≡ number) × WhereTold left left' (λ was now. first_defect form kinds s held (bytes_left was s.file) ≡ Some (f.row, f.why))
+IsFaultOf form kinds s number held left left' ReadFault = ⊤
+IsFaultOf form kinds s number held left left' NoMemory = ⊤
 
 -- the lists of some sources that come first
-abbrev pub lists_of_sources : List Kind → Contents → List Source → List (List Item)
-lists_of_sources kinds left sources =
-    flat_map (λ e. lists_of_rows kinds e.1 (sum_by width e.0) (rows_in left e.1)) (each_with_before sources)
+abbrev pub lists_of_sources : RowForm → List Kind → Contents → List Source → List (List Item)
+lists_of_sources form kinds left sources =
+    flat_map (λ e. lists_of_rows kinds e.1 (sum_by width e.0) (rows_in form left e.1)) (each_with_before sources)
 
 -- what was read of these sources, and what it did to the files
-pub record IsGathered (kinds : List Kind) (sources : List Source) (gathered : Gathered) (old new : Contents) : Type 0 where
-  pub good : first_some (λ e. fault_of_source kinds old e.0 e.1) (each_with_before sources) ≡ None
-  pub lists : lists_in gathered.lists ≡ lists_of_sources kinds old sources
-  pub held : gathered.held ≡ items_held old sources
+pub record IsGathered (form : RowForm) (kinds : List Kind) (sources : List Source) (gathered : Gathered) (old new : Contents) : Type 0 where
+  pub good : first_some (λ e. fault_of_source form kinds old e.0 e.1) (each_with_before sources) ≡ None
+  pub lists : lists_in gathered.lists ≡ lists_of_sources form kinds old sources
+  pub held : gathered.held ≡ items_held form old sources
   pub others : LeavesOthers (files_of sources) old new

@@ -13,6 +13,7 @@ use Rattle.flu_outside.specs.Taking.{IsReadOut}
 use Rattle.flu_rows.specs.declared.row.Row.{Row}
 use Rattle.flu_rows.specs.declared.rows.Next.{Next}
 use Rattle.flu_rows.specs.Lines.{IsUndecided}
+use Rattle.flu_rows.specs.Row.{form_of}
 use Rattle.flu_rows.specs.Reading.{Place, ahead}
 use Rattle.flu_streams.specs.declared.border.Border.{Border}
 use Rattle.flu_streams.specs.declared.border.Border.TheVariants.{At, Closed}
@@ -30,7 +31,7 @@ use Rattle.flu_streams.specs.Lists.{item_time, times_in}
 use Rattle.flu_streams.specs.LoopGathering.{fault_of_stop}
 use Rattle.flu_streams.specs.LoopIntake.{item_of}
 use Rattle.flu_streams.specs.Rounds.{defect_in, line_defect, is_above, is_up_to, is_enough, settled, settled_time}
-use Rattle.flu_streams.specs.Tests.{is_end, time_in, where_true, test_tag, test_value, test_behind}
+use Rattle.flu_streams.specs.Tests.{is_end, time_in, where_true, test_tag, test_fields, test_behind}
 
 -- what contracts see of it
 abbrev pub source_of : Inlet → HeldSource
@@ -83,7 +84,7 @@ test_late slack times last (Some time) = test_behind slack times last time
 -- which rule a row breaks after these items
 abbrev pub fault_behind : List Kind → Source → Inlet → Row → Option Why
 fault_behind kinds s h row =
-    first_some (λ test. test) (where_true h.ended AfterEnd ∷ test_tag kinds s row ∷ test_value kinds row ∷ test_late s.slack (times_in h.items) h.last
+    first_some (λ test. test) (where_true h.ended AfterEnd ∷ test_tag kinds s row ∷ test_fields kinds row ∷ test_late s.slack (times_in h.items) h.last
     (time_in row) ∷ [])
 
 -- an event or a heartbeat is put where its time belongs, and the end is not held
@@ -130,6 +131,7 @@ pub record AreWell (p : Program) (rows : ℕ) (border : Option ℕ) (inlets : Li
   pub some : 1 ≤ rows
   pub most : rows ≤ 4096
   pub count : length inlets ≡ length p.sources
+  pub forms : AtEach (λ i h. h.rows.form ≡ form_of p.version) inlets
   pub few : AtEach (λ i s. (h : Inlet) → slice_get inlets i ≡ Some h → IsFew rows s h) p.sources
   pub each : AtEach (λ i s. (h : Inlet) → slice_get inlets i ≡ Some h → IsWellAt s border h) p.sources
 
@@ -202,6 +204,7 @@ IsTurnOf s h (At u) = settled s.slack h.last ≡ Some u
 IsTurnOf s h Closed = h.closed ≡ true
 
 pub record IsRefilled (kinds : List Kind) (s : Source) (first rows : ℕ) (old new : Inlet) (left left' : Option Contents) (end : Border) : Type 0 where
+  pub form : new.rows.form ≡ old.rows.form
   pub keeps : (border : Option ℕ) → IsWellAt s border old → IsWellAt s border new
   pub few : IsFew rows s old → IsFew rows s new
   pub caught : new.goal ≡ None
@@ -228,6 +231,7 @@ pub record StopsBehind (kinds : List Kind) (s : Source) (rows : ℕ) (above : Op
   pub place : Place
   pub sound : defect_in kinds s (before ++ more) ≡ None
   pub few : (k : ℕ) → k ≤ length more → is_enough rows above s (before ++ take k more) ≡ false
+  pub form : place.form ≡ old.place.form
   pub file : place.file ≡ s.file
   pub undecided : IsUndecided place.taken
   pub told : WhereTold left left' (λ was is. still old was ≡ more ++ ahead place is)

@@ -1,5 +1,5 @@
 -- What was read of a source, and how a row is taken in.
-use Rattle.std.specs.Prelude.{◌≡◌, ℕ, pos, ◌+◌, ◌<◌, ◌==◌, true, false, nat_lt, Option, Some, None, unwrap_or, List, [], ◌∷◌, ◌++◌, map, vec_len, ⊤}
+use Rattle.std.specs.Prelude.{◌≡◌, ℕ, ◌+◌, ◌<◌, ◌==◌, true, false, nat_lt, Option, Some, None, unwrap_or, List, [], ◌∷◌, ◌++◌, map, vec_len, ⊤}
 use Rattle.std.specs.List.{filter_map, list_any}
 use Rattle.flu_lemmas.specs.Late.{put_late}
 use Rattle.flu_model.specs.declared.events.Item.{Item}
@@ -16,9 +16,9 @@ use Rattle.flu_streams.specs.declared.intake.RowRefusal.{RowRefusal}
 use Rattle.flu_streams.specs.declared.intake.RowRefusal.TheVariants.{Fault, NoMemory}
 use Rattle.flu_streams.specs.Before.{first_some}
 use Rattle.flu_streams.specs.Lists.{items_of_list, item_time, times_in, item_for}
-use Rattle.flu_streams.specs.Tags.{place_named, width}
+use Rattle.flu_streams.specs.Tags.{place_named, given_to, width}
 use Rattle.flu_streams.specs.Tests.{where_true, test_times, fault_of, times_of, greatest, has_ended, items_of}
-use Rattle.flu_streams.specs.Good.{in_time_order, items_at}
+use Rattle.flu_streams.specs.Good.{event_of, in_time_order, items_at}
 
 -- nothing was read of a source
 pub record IsEmpty (number itags before : ℕ) (intake : Intake) : Type 0 where
@@ -54,13 +54,13 @@ pub record TakesEnd (old new : Intake) : Type 0 where
 
 -- the item that a row is; for an event of a tag that the source does not list, its itag is none of the source's
 abbrev pub item_of : List Kind → Source → ℕ → Row → Item
-item_of kinds s first (Event time name key value) =
-    EventItem (record { time = time; itag = record { 0 = first + unwrap_or (place_named kinds s name key) (width s) }; value = unwrap_or value (pos 0) })
+item_of kinds s first (Event time name key fields) =
+    EventItem (event_of time (first + unwrap_or (place_named kinds s name key) (width s)) (given_to kinds name fields))
 item_of kinds s first (Beat time) = BeatItem time
 item_of kinds s first End = EndItem
 
 abbrev pub Takes : List Kind → Source → Row → Intake → Intake → Type 0
-Takes kinds s (Event time name key value) old new = Inserts (item_of kinds s old.first (Event time name key value)) 1 old new
+Takes kinds s (Event time name key fields) old new = Inserts (item_of kinds s old.first (Event time name key fields)) 1 old new
 Takes kinds s (Beat time) old new = Inserts (BeatItem time) (width s) old new
 Takes kinds s End old new = TakesEnd old new
 

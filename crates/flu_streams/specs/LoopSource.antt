@@ -5,6 +5,7 @@ use Rattle.flu_model.specs.declared.jobs.Source.{Source}
 use Rattle.flu_outside.specs.Outside.{Contents, WhereTold}
 use Rattle.flu_outside.specs.declared.files.TakeFault.{TakeFault}
 use Rattle.flu_outside.specs.declared.files.TakeFault.TheVariants.{Failed, NoMemory as NoMemoryTaken}
+use Rattle.flu_rows.specs.declared.row.RowForm.{RowForm}
 use Rattle.flu_rows.specs.declared.rows.Next.{Next}
 use Rattle.flu_rows.specs.declared.rows.Next.TheVariants.{Row as RowNext, Bad, TooManyLines, Done}
 use Rattle.flu_rows.specs.Lines.{IsUndecided}
@@ -51,29 +52,30 @@ pub record IsTakenIn (kinds : List Kind) (s : Source) (number before : ℕ) (rea
   pub passes : first_of kinds s before read ≡ None
 
 -- the reading of a source so far
-pub record IsReading (kinds : List Kind) (s : Source) (number before : ℕ) (intake : Intake) (place : Place) (old new : Option Contents) : Type 0 where
+pub record IsReading (form : RowForm) (kinds : List Kind) (s : Source) (number before : ℕ) (intake : Intake) (place : Place) (old new : Option Contents) : Type 0 where
   pub read : List Next
   pub taken : IsTakenIn kinds s number before read intake
-  pub told : WhereTold old new (λ was now. WasRead s read (ahead place now) was)
+  pub told : WhereTold old new (λ was now. WasRead form s read (ahead place now) was)
 
 -- a source was read to its end, and has no defect
-pub record IsGoodSource (kinds : List Kind) (s : Source) (number before : ℕ) (old new : Option Contents) (intake : Intake) : Type 0 where
+pub record IsGoodSource (form : RowForm) (kinds : List Kind) (s : Source) (number before : ℕ) (old new : Option Contents) (intake : Intake) : Type 0 where
   pub read : List Next
   pub taken : IsTakenIn kinds s number before read intake
   pub ended : intake.ended ≡ true
-  pub told : WhereTold old new (λ was now. WasRead s read [] was)
+  pub told : WhereTold old new (λ was now. WasRead form s read [] was)
 
 -- the reading of a source stops after rows without a defect, and whatever else was taken of it decides nothing
-pub record HidesNoDefect (kinds : List Kind) (s : Source) (before : ℕ) (old new : Option Contents) : Type 0 where
+pub record HidesNoDefect (form : RowForm) (kinds : List Kind) (s : Source) (before : ℕ) (old new : Option Contents) : Type 0 where
   pub read : List Next
   pub place : Place
+  pub form_is : place.form ≡ form
   pub file : place.file ≡ s.file
   pub passes : first_of kinds s before read ≡ None
   pub undecided : IsUndecided place.taken
-  pub told : WhereTold old new (λ was now. WasRead s read (ahead place now) was)
+  pub told : WhereTold old new (λ was now. WasRead form s read (ahead place now) was)
 
 -- a stop for a defect is one for the first defect
-abbrev pub IsFirstDefect : List Kind → Source → ℕ → Option Contents → Option Contents → Stop → Type 0
-IsFirstDefect kinds s before old new (Defect row why) = WhereTold old new (λ was now. first_defect kinds s before (bytes_left was s.file) ≡ Some (row, why))
-IsFirstDefect kinds s before old new ReadStop = ⊤
-IsFirstDefect kinds s before old new NoMemoryStop = ⊤
+abbrev pub IsFirstDefect : RowForm → List Kind → Source → ℕ → Option Contents → Option Contents → Stop → Type 0
+IsFirstDefect form kinds s before old new (Defect row why) = WhereTold old new (λ was now. first_defect form kinds s before (bytes_left was s.file) ≡ Some (row, why))
+IsFirstDefect form kinds s before old new ReadStop = ⊤
+IsFirstDefect form kinds s before old new NoMemoryStop = ⊤

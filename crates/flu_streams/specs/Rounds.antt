@@ -18,6 +18,7 @@ use Rattle.flu_outside.specs.Taking.{bytes_left}
 use Rattle.flu_rows.specs.declared.row.Row.{Row}
 use Rattle.flu_rows.specs.declared.rows.Next.{Next}
 use Rattle.flu_rows.specs.declared.rows.Next.TheVariants.{Row as RowNext, Bad, TooManyLines, Done}
+use Rattle.flu_rows.specs.Row.{form_of}
 use Rattle.flu_rows.specs.Reading.{read_file}
 use Rattle.flu_streams.specs.declared.border.Border.{Border}
 use Rattle.flu_streams.specs.declared.border.Border.TheVariants.{At, Closed}
@@ -28,12 +29,12 @@ use Rattle.flu_streams.specs.Before.{each_with_before, first_some}
 use Rattle.flu_streams.specs.Borders.{beyond}
 use Rattle.flu_streams.specs.Good.{lists_of_rows, lists_of}
 use Rattle.flu_streams.specs.Tags.{width}
-use Rattle.flu_streams.specs.Tests.{rows_of, time_in, times_of, greatest, has_ended, where_true, test_tag, test_value, test_time, defect_of}
+use Rattle.flu_streams.specs.Tests.{rows_of, time_in, times_of, greatest, has_ended, where_true, test_tag, test_fields, test_time, defect_of}
 
 -- ---- defects
 -- the tests of a row except the one on how many items are held: a round holds few
 abbrev pub row_tests : List Kind → Source → Bool → List ℕ → Row → List (Option Why)
-row_tests kinds s ended earlier row = where_true ended AfterEnd ∷ test_tag kinds s row ∷ test_value kinds row ∷ test_time s.slack earlier row ∷ []
+row_tests kinds s ended earlier row = where_true ended AfterEnd ∷ test_tag kinds s row ∷ test_fields kinds row ∷ test_time s.slack earlier row ∷ []
 
 -- which rule a row breaks, by whether the source has ended and by its times so far
 abbrev pub row_fault : List Kind → Source → Bool → List ℕ → Row → Option Why
@@ -198,7 +199,7 @@ LawOfNoRows = (p : Program) (opening : Contents) (t : ℕ) (reads : ℕ → List
 
 -- these are the lines of the files of all sources
 abbrev pub LinesIn : Program → Files → (ℕ → List Next) → Type 0
-LinesIn p left whole = AtEach (λ i s. whole i ≡ read_file (bytes_left left s.file)) p.sources
+LinesIn p left whole = AtEach (λ i s. whole i ≡ read_file (form_of p.version) (bytes_left left s.file)) p.sources
 
 -- THE LAST ROUND: after it the rows that were read are all rows of the sources' files, and their lists are those of a whole reading
 abbrev pub LawOfLastRound : Type 0

@@ -1,11 +1,14 @@
 -- The tags that rows name.
-use Rattle.std.specs.Prelude.{ℕ, ℤ, Bool, true, false, Option, Some, None, option_and_then, List, length, slice_get, is_some, is_none, if◌then◌else◌}
+use Rattle.std.specs.Prelude.{ℕ, ℤ, pos, Bool, true, false, ◌&&◌, ◌||◌, Option, Some, None, option_and_then, option_map, List, length, slice_get, is_some}
+use Rattle.std.specs.Prelude.{if◌then◌else◌}
 use Rattle.std.specs.List.{position}
 use Rattle.flu_model.specs.declared.events.Tag.{Tag}
 use Rattle.flu_model.specs.declared.jobs.Kind.{Kind}
 use Rattle.flu_model.specs.declared.jobs.Source.{Source}
 use Rattle.flu_model.specs.Listing.{tag, tags_of_source}
 use Rattle.flu_model.specs.Rules.{is_same_text, is_same_tag}
+use Rattle.flu_rows.specs.declared.row.Fields.{Fields}
+use Rattle.flu_rows.specs.declared.row.Fields.TheVariants.{Nothing, One, Two, Other}
 
 infixl 10 ◌>>=◌
 abbrev pub ◌>>=◌ : {A B : Type 0} → Option A → (A → Option B) → Option B
@@ -36,13 +39,32 @@ place_named kinds s name key = do
   t ← tag_named kinds name key
   position (is_same_tag t) (tags_of_source s)
 
--- a value is there exactly if the kind has one
-abbrev pub has_its_value : Option Kind → Option ℤ → Bool
-has_its_value None value = false
-has_its_value (Some kind) value = if kind.has_value then is_some value else is_none value
+-- what one field gives, which is the item or the value: not both, and not none
+abbrev pub given_one : Bool → Bool → Option ℕ → ℤ → Option (ℕ × ℤ)
+given_one false false item value = None
+given_one false true item value = Some (0, value)
+given_one true false item value = option_map (λ i. (i, pos 0)) item
+given_one true true item value = None
 
-abbrev pub value_fits : List Kind → List ℕ → Option ℤ → Bool
-value_fits kinds name value = has_its_value (kind_named kinds name >>= λ number. slice_get kinds number) value
+-- WHAT A ROW GIVES an event, by whether its kind has items and whether it has values: its item and its value, each 0 where the kind
+-- has none. Behind the tag are the item and the value that the kind has, and no other fields; else nothing is given.
+abbrev pub given : Bool → Bool → Fields → Option (ℕ × ℤ)
+given has_item has_value Nothing = if has_item || has_value then None else Some (0, pos 0)
+given has_item has_value (One item value) = given_one has_item has_value item value
+given has_item has_value (Two item value) = if has_item && has_value then Some (item, value) else None
+given has_item has_value Other = None
+
+abbrev pub given_by : Option Kind → Fields → Option (ℕ × ℤ)
+given_by None fields = None
+given_by (Some kind) fields = given kind.has_item kind.has_value fields
+
+-- by the kind of this name
+abbrev pub given_to : List Kind → List ℕ → Fields → Option (ℕ × ℤ)
+given_to kinds name fields = given_by (kind_named kinds name >>= λ number. slice_get kinds number) fields
+
+-- the fields are those that the kind has
+abbrev pub fields_fit : List Kind → List ℕ → Fields → Bool
+fields_fit kinds name fields = is_some (given_to kinds name fields)
 
 -- how many itags a source has
 abbrev pub width : Source → ℕ

@@ -1,9 +1,11 @@
 -- The tests that the lines of a source have to pass, and its first defect (`docs/LANGUAGE.md`, "Rows").
-use Rattle.std.specs.Prelude.{ℕ, ℤ, ◌+◌, ◌^◌, max, Bool, true, false, not, ◌||◌, ◌==◌, nat_lt, nat_le, Option, Some, None, is_none, option_map, unwrap_or, List}
+use Rattle.std.specs.Prelude.{ℕ, ◌+◌, ◌^◌, max, Bool, true, false, not, ◌||◌, ◌==◌, nat_lt, nat_le, Option, Some, None, is_none, option_map, unwrap_or, List}
 use Rattle.std.specs.Prelude.{[], ◌∷◌, if◌then◌else◌, sum_by}
 use Rattle.std.specs.List.{list_any, filter_map}
 use Rattle.flu_model.specs.declared.jobs.Kind.{Kind}
 use Rattle.flu_model.specs.declared.jobs.Source.{Source}
+use Rattle.flu_rows.specs.declared.row.RowForm.{RowForm}
+use Rattle.flu_rows.specs.declared.row.Fields.{Fields}
 use Rattle.flu_rows.specs.declared.row.Row.{Row}
 use Rattle.flu_rows.specs.declared.row.Row.TheVariants.{Event, Beat, End}
 use Rattle.flu_rows.specs.declared.rows.Next.{Next}
@@ -12,7 +14,7 @@ use Rattle.flu_rows.specs.Reading.{read_file}
 use Rattle.flu_streams.specs.declared.faults.Why.{Why}
 use Rattle.flu_streams.specs.declared.faults.Why.TheVariants.{BadRow, UnknownTag, Disordered, Unclosed, AfterEnd, TooMany}
 use Rattle.flu_streams.specs.Before.{each_with_before, first_some}
-use Rattle.flu_streams.specs.Tags.{place_named, value_fits, width}
+use Rattle.flu_streams.specs.Tags.{place_named, fields_fit, width}
 
 -- ---- what some rows have
 abbrev pub row_in : Next → Option Row
@@ -26,7 +28,7 @@ abbrev pub rows_of : List Next → List Row
 rows_of read = filter_map row_in read
 
 abbrev pub is_end : Row → Bool
-is_end (Event time name key value) = false
+is_end (Event time name key fields) = false
 is_end (Beat time) = false
 is_end End = true
 
@@ -34,7 +36,7 @@ abbrev pub has_ended : List Row → Bool
 has_ended rows = list_any is_end rows
 
 abbrev pub time_in : Row → Option ℕ
-time_in (Event time name key value) = Some time
+time_in (Event time name key fields) = Some time
 time_in (Beat time) = Some time
 time_in End = None
 
@@ -49,7 +51,7 @@ greatest (t ∷ ts) = Some (max t (unwrap_or (greatest ts) 0))
 
 -- how many items a row has in a source of this many itags: an event is one, and a heartbeat is one for each itag
 abbrev pub items_in : ℕ → Row → ℕ
-items_in itags (Event time name key value) = 1
+items_in itags (Event time name key fields) = 1
 items_in itags (Beat time) = itags
 items_in itags End = 0
 
@@ -61,22 +63,22 @@ abbrev pub where_true : Bool → Why → Option Why
 where_true true why = Some why
 where_true false why = None
 
--- which rule an event breaks by its tag and its value alone
-abbrev pub faults_of_event : List Kind → Source → List ℕ → Option ℕ → Option ℤ → Option Why
-faults_of_event kinds s name key value =
-    first_some (λ test. test) (where_true (is_none (place_named kinds s name key)) UnknownTag ∷ where_true (not (value_fits kinds name value)) BadRow ∷ [])
+-- which rule an event breaks by its tag and its fields alone
+abbrev pub faults_of_event : List Kind → Source → List ℕ → Option ℕ → Fields → Option Why
+faults_of_event kinds s name key fields =
+    first_some (λ test. test) (where_true (is_none (place_named kinds s name key)) UnknownTag ∷ where_true (not (fields_fit kinds name fields)) BadRow ∷ [])
 
 -- the source lists the tag
 abbrev pub test_tag : List Kind → Source → Row → Option Why
-test_tag kinds s (Event time name key value) = where_true (is_none (place_named kinds s name key)) UnknownTag
+test_tag kinds s (Event time name key fields) = where_true (is_none (place_named kinds s name key)) UnknownTag
 test_tag kinds s (Beat time) = None
 test_tag kinds s End = None
 
--- a value is there exactly if the kind has one
-abbrev pub test_value : List Kind → Row → Option Why
-test_value kinds (Event time name key value) = where_true (not (value_fits kinds name value)) BadRow
-test_value kinds (Beat time) = None
-test_value kinds End = None
+-- the fields behind the tag are those that its kind has
+abbrev pub test_fields : List Kind → Row → Option Why
+test_fields kinds (Event time name key fields) = where_true (not (fields_fit kinds name fields)) BadRow
+test_fields kinds (Beat time) = None
+test_fields kinds End = None
 
 -- a time may not equal an earlier one, and it is above the greatest earlier one less the slack
 abbrev pub test_behind : ℕ → List ℕ → Option ℕ → ℕ → Option Why
@@ -97,7 +99,7 @@ test_items itags held row = where_true (nat_lt 16777216 (held + items_in itags r
 -- the tests of a row in their order, by whether the source has ended, by its times so far, and by how many items are held
 abbrev pub tests : List Kind → Source → Bool → List ℕ → ℕ → Row → List (Option Why)
 tests kinds s ended earlier held row =
-    where_true ended AfterEnd ∷ test_tag kinds s row ∷ test_value kinds row ∷ test_time s.slack earlier row ∷ test_items (width s) held row ∷ []
+    where_true ended AfterEnd ∷ test_tag kinds s row ∷ test_fields kinds row ∷ test_time s.slack earlier row ∷ test_items (width s) held row ∷ []
 
 -- the first test that fails
 abbrev pub fault_of : List Kind → Source → Bool → List ℕ → ℕ → Row → Option Why
@@ -116,6 +118,6 @@ defect_of kinds s held read (Done lines) = if has_ended (rows_of read) then None
 abbrev pub first_of : List Kind → Source → ℕ → List Next → Option (ℕ × Why)
 first_of kinds s held read = first_some (λ e. defect_of kinds s held e.0 e.1) (each_with_before read)
 
--- THE FIRST DEFECT OF A SOURCE whose file has these bytes: its line and the test that it fails
-abbrev pub first_defect : List Kind → Source → ℕ → List ℕ → Option (ℕ × Why)
-first_defect kinds s held bytes = first_of kinds s held (read_file bytes)
+-- THE FIRST DEFECT OF A SOURCE whose file has these bytes, in rows of this form: its line and the test that it fails
+abbrev pub first_defect : RowForm → List Kind → Source → ℕ → List ℕ → Option (ℕ × Why)
+first_defect form kinds s held bytes = first_of kinds s held (read_file form bytes)

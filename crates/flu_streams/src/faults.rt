@@ -5,7 +5,7 @@ use thiserror::Error;
 /// Which rule a row of a source breaks.
 #[derive(Clone, Copy, Debug, PartialEq, Eq)]
 pub enum Why {
-    /// The line is no row, or it has a value and its kind has none, or none and its kind has one.
+    /// The line is no row, or it has behind its tag other fields than its kind has, or one of no form.
     BadRow,
     /// The source does not list the tag.
     UnknownTag,

@@ -7,6 +7,7 @@ ghost use Rattle.flu_model.specs.Listed.{listed};
 ghost use Rattle.flu_outside.specs.Outside.{WhereTold, SameCounts};
 ghost use Rattle.flu_outside.specs.Taking.{TookFronts};
 ghost use Rattle.flu_rows.specs.declared.rows.Next.{Next};
+ghost use Rattle.flu_rows.specs.Row.{form_of};
 ghost use Rattle.flu_streams.specs.Files.{files_of, LeavesOthers, CountsOfNames, OneRose};
 ghost use Rattle.flu_streams.specs.Holding.{fresh, unread, AreHeldBehind, ClosedAreReadOut, AreClosed, IsFilled, KeepsJob, Fills, IsNewBorder, IsRefillFault};
 ghost use Rattle.flu_streams.specs.Holding.{HidesNoRoundFault, Cuts, HoldsFew, HoldsAtMost, HaveAtMost};
@@ -24,6 +25,7 @@ use crate::reading::fault_of;
 use crate::tags::tag_count;
 use flu_model::{Item, Program, Streams};
 use flu_outside::Files;
+use flu_rows::form_of;
 use std::alloc::{AllocError, Global};
 use std::marker::Model;
 use std::snapshot::Snapshot;
@@ -206,11 +208,12 @@ impl Held {
 
 // Nothing of each source.
 fn new_inlets(alloc: Global, p: &Program, border: Option<u64>) -> Result<Vec<Inlet>, AllocError>
-    ensures { IfOk result (λ inlets. map source_of inlets.items ≡ map (unread_source border) p.now.sources) }
+    ensures { IfOk result (λ inlets. map source_of inlets.items ≡ map (unread_source (form_of p.now.version) border) p.now.sources) }
 {
+    let form = form_of(p.version);
     let mut inlets = Vec::new(alloc);
     for source in p.sources.items() {
-        inlets.push(Inlet::new(alloc, source, border)?)?;
+        inlets.push(Inlet::new(alloc, form, source, border)?)?;
     }
     Ok(inlets)
 }

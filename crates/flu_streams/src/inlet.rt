@@ -17,11 +17,11 @@ use crate::intake::RowRefusal;
 use crate::items::{empty_lists, time_of};
 use crate::late::{put_item, test_time};
 use crate::source::{Stop, defect_behind, stop_at, stop_of};
-use crate::tags::place_of_event;
+use crate::tags::found_of;
 use crate::timed::TimedItems;
 use flu_model::{Event, Itag, Item, Kind, Source};
 use flu_outside::Files;
-use flu_rows::{Next, Row, Rows};
+use flu_rows::{Next, Row, RowForm, Rows};
 use std::alloc::{AllocError, Global};
 
 /// With this many items, a resumed run that has not reached its border yet drops settled ones. At most 60,000, the greatest slack, are not
@@ -51,16 +51,17 @@ impl Inlet {
     ghost use Rattle.flu_streams.specs.LoopHeld.{IsStopOf};
     ghost use Rattle.flu_streams.specs.LoopIntake.{IsRefusal};
 
-    /// Nothing of a source, whose rows are run from a border on, if there is one.
+    /// Nothing of a source, whose rows have this form and are run from a border on, if there is one.
     pub(crate) fn new(
         alloc: Global,
+        form: RowForm,
         source: &Source,
         border: Option<u64>,
     ) -> Result<Inlet, AllocError>
-        ensures { IfOk result (λ h. source_of h ≡ unread_source border source.now) }
+        ensures { IfOk result (λ h. source_of h ≡ unread_source form border source.now) }
     {
         Ok(Inlet {
-            rows: Rows::new(alloc, &source.file)?,
+            rows: Rows::new(alloc, form, &source.file)?,
             items: TimedItems::new(alloc),
             last: None,
             ended: false,
@@ -227,13 +228,14 @@ impl Inlet {
                 time,
                 name,
                 key,
-                value,
-            } => match place_of_event(kinds, source, name.as_str(), key, value) {
-                Ok(place) => {
+                fields,
+            } => match found_of(kinds, source, name.as_str(), key, fields) {
+                Ok(found) => {
                     let event = Event {
                         time,
-                        itag: Itag(first + place),
-                        value: value.unwrap_or(0),
+                        itag: Itag(first + found.place),
+                        item: found.item,
+                        value: found.value,
                     };
                     self.insert(source.slack, Item::Event(event))
                 }

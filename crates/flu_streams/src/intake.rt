@@ -1,6 +1,6 @@
 //! What was read of a source.
 
-ghost use Rattle.std.specs.Prelude.{◌≡◌, ℕ, ◌≤◌, ◌<◌, ◌+◌, length, vec_len, IsTrue, None, OnOk, IfOk, IfErr};
+ghost use Rattle.std.specs.Prelude.{◌≡◌, ℕ, ◌≤◌, ◌<◌, ◌+◌, length, vec_len, IsTrue, None, Some, OnOk, IfOk, IfErr};
 ghost use Rattle.flu_lemmas.specs.Late.{rises_from};
 ghost use Rattle.flu_streams.specs.Lists.{item_time, times_in};
 ghost use Rattle.flu_streams.specs.Tests.{greatest};
@@ -9,7 +9,7 @@ use crate::border::Border;
 use crate::faults::Why;
 use crate::items::{empty_lists, time_of};
 use crate::late::{put_item, test_time};
-use crate::tags::place_of_event;
+use crate::tags::{Found, found_of};
 use crate::timed::TimedItems;
 use flu_model::{Event, Itag, Item, Kind, Source};
 use flu_rows::Row;
@@ -42,6 +42,7 @@ pub(crate) struct Intake {
 }
 
 impl Intake {
+    ghost use Rattle.flu_streams.specs.Good.{event_of};
     ghost use Rattle.flu_streams.specs.Tags.{width};
     ghost use Rattle.flu_streams.specs.Tests.{fault_of};
     ghost use Rattle.flu_streams.specs.LoopIntake.{IsEmpty, TakesIn, Inserts, TakesEnd, IsRefusal, fault_at};
@@ -93,9 +94,9 @@ impl Intake {
                 time,
                 name,
                 key,
-                value,
-            } => match place_of_event(kinds, source, name.as_str(), key, value) {
-                Ok(place) => self.event(source.slack, place, time, value.unwrap_or(0)),
+                fields,
+            } => match found_of(kinds, source, name.as_str(), key, fields) {
+                Ok(found) => self.event(source.slack, time, found),
                 Err(why) => Err(RowRefusal::Fault(why)),
             },
         }
@@ -108,18 +109,18 @@ impl Intake {
         self.lists
     }
 
-    // Takes in an event, of the itag at this place.
-    fn event(&mut self, slack: u64, place: u32, time: u64, value: i64) -> Result<(), RowRefusal>
-        requires { place < vec_len self.old.lists }
+    // Takes in an event.
+    fn event(&mut self, slack: u64, time: u64, found: Found) -> Result<(), RowRefusal>
+        requires { found.place < vec_len self.old.lists }
         ensures passes { OnOk result (fault_at slack (times_in self.old.items) self.old.held time 1 ≡ None) }
-        ensures taken { OnOk result (Inserts (Item.Event (record { time = time; itag = record { 0 = self.old.first + place }; value = value })) 1 self.old
-            self.new) }
+        ensures taken { OnOk result (Inserts (Item.Event (event_of time (self.old.first + found.place) (Some (found.item, found.value)))) 1 self.old self.new) }
         ensures refused { IfErr result (IsRefusal (fault_at slack (times_in self.old.items) self.old.held time 1)) }
     {
         let event = Event {
             time,
-            itag: Itag(self.first + place),
-            value,
+            itag: Itag(self.first + found.place),
+            item: found.item,
+            value: found.value,
         };
         self.insert(slack, Item::Event(event), 1)
     }

@@ -18,6 +18,7 @@ use crate::source::{Stop, read_source};
 use crate::tags::tag_count;
 use flu_model::{Kind, Program, Source, Streams};
 use flu_outside::Files;
+use flu_rows::{RowForm, form_of};
 use std::alloc::Global;
 
 /// Reads each source of a job to its end, in declared order, and gives the items of each itag, sorted by time: a row may be
@@ -43,13 +44,14 @@ pub fn gather<F: Files>(alloc: Global, p: &Program, files: &mut F) -> Result<Str
     ensures hides { IsErrOf result GatherFault.ReadFault → HidesNothing p.now (F.left files.old) (F.left files.new) (F.faults files.old) (F.faults files.new) }
     ensures cause { IsErrOf result GatherFault.ReadFault → OneRose (files_of p.now.sources) (F.faults files.old) (F.faults files.new) }
 {
+    let form = form_of(p.version);
     let mut gathered = Gathered {
         lists: Vec::new(alloc),
         held: 0,
         number: 0,
     };
     for source in p.sources.items() {
-        if let Err(fault) = add_source(alloc, p.kinds.items(), source, &mut gathered, files) {
+        if let Err(fault) = add_source(alloc, form, p.kinds.items(), source, &mut gathered, files) {
             return Err(fault);
         }
     }
@@ -59,6 +61,7 @@ pub fn gather<F: Files>(alloc: Global, p: &Program, files: &mut F) -> Result<Str
 // Reads one more source.
 fn add_source<F: Files>(
     alloc: Global,
+    form: RowForm,
     kinds: &[Kind],
     source: &Source,
     gathered: &mut Gathered,
@@ -67,19 +70,28 @@ fn add_source<F: Files>(
     requires kinds { length kinds.now ≤ 64 }
     requires numbered { vec_len gathered.old.lists + width source.now ≤ 256 }
     requires counted { gathered.old.number + 1 < 2 ^ 32 }
-    ensures added { OnOk result (AddsSource kinds.now source.now (F.left files.old) (F.left files.new) gathered.old gathered.new) }
+    ensures added { OnOk result (AddsSource form kinds.now source.now (F.left files.old) (F.left files.new) gathered.old gathered.new) }
     ensures read_out { OnOk result (IsReadOut source.now.file (F.left files.new)) }
-    ensures fault { IfErr result (IsFaultOf kinds.now source.now gathered.old.number gathered.old.held (F.left files.old) (F.left files.new)) }
+    ensures fault { IfErr result (IsFaultOf form kinds.now source.now gathered.old.number gathered.old.held (F.left files.old) (F.left files.new)) }
     ensures taken { WhereTold (F.left files.old) (F.left files.new) (TakesFrom source.now.file) }
     ensures counts { CountsOf (F.left files.old) source.now.file (F.faults files.old) (F.faults files.new) }
     ensures quiet { result ≢ Err GatherFault.ReadFault → SameCounts (F.faults files.old) (F.faults files.new) }
     ensures puts { SameCounts (F.put_faults files.old) (F.put_faults files.new) }
-    ensures hides { IsErrOf result GatherFault.ReadFault → HidesNoDefect kinds.now source.now gathered.old.held (F.left files.old) (F.left files.new) }
+    ensures hides { IsErrOf result GatherFault.ReadFault → HidesNoDefect form kinds.now source.now gathered.old.held (F.left files.old) (F.left files.new) }
     ensures cause { IsErrOf result GatherFault.ReadFault → Rose (F.faults files.old source.now.file) (F.faults files.new source.now.file) }
 {
     let width = tag_count(source.tags.items());
     let first = gathered.lists.len() as u32;
-    let intake = match read_source(alloc, kinds, source, width, first, gathered.held, files) {
+    let intake = match read_source(
+        alloc,
+        form,
+        kinds,
+        source,
+        width,
+        first,
+        gathered.held,
+        files,
+    ) {
         Ok(intake) => intake,
         Err(stop) => return Err(fault_of(gathered.number, stop)),
     };

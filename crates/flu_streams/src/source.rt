@@ -10,7 +10,7 @@ use crate::faults::Why;
 use crate::intake::{Intake, RowRefusal};
 use flu_model::{Kind, Source};
 use flu_outside::{Files, TakeFault};
-use flu_rows::{Next, Rows};
+use flu_rows::{Next, RowForm, Rows};
 use std::alloc::Global;
 
 /// Why a source was not read to its end.
@@ -22,9 +22,10 @@ pub(crate) enum Stop {
     NoMemory,
 }
 
-/// Reads a source to its end. Its first itag has the number `first`, and this many items of other sources are held.
+/// Reads a source, whose rows have this form, to its end. Its first itag has the number `first`, and this many items of other sources are held.
 pub(crate) fn read_source<F: Files>(
     alloc: Global,
+    form: RowForm,
     kinds: &[Kind],
     source: &Source,
     width: u32,
@@ -36,20 +37,20 @@ pub(crate) fn read_source<F: Files>(
     requires width { width ≡ Tags.width source.now }
     requires numbered { first + width ≤ 256 }
     requires few { held ≤ 16777216 }
-    ensures good { IfOk result (IsGoodSource kinds.now source.now first held (F.left files.old) (F.left files.new)) }
+    ensures good { IfOk result (IsGoodSource form kinds.now source.now first held (F.left files.old) (F.left files.new)) }
     ensures read_out { OnOk result (IsReadOut source.now.file (F.left files.new)) }
-    ensures defect { IfErr result (IsFirstDefect kinds.now source.now held (F.left files.old) (F.left files.new)) }
+    ensures defect { IfErr result (IsFirstDefect form kinds.now source.now held (F.left files.old) (F.left files.new)) }
     ensures taken { WhereTold (F.left files.old) (F.left files.new) (TakesFrom source.now.file) }
     ensures counts { CountsOf (F.left files.old) source.now.file (F.faults files.old) (F.faults files.new) }
     ensures quiet { result ≢ Err Stop.ReadFault → SameCounts (F.faults files.old) (F.faults files.new) }
     ensures puts { SameCounts (F.put_faults files.old) (F.put_faults files.new) }
-    ensures hides { IsErrOf result Stop.ReadFault → HidesNoDefect kinds.now source.now held (F.left files.old) (F.left files.new) }
+    ensures hides { IsErrOf result Stop.ReadFault → HidesNoDefect form kinds.now source.now held (F.left files.old) (F.left files.new) }
     ensures cause { IsErrOf result Stop.ReadFault → Rose (F.faults files.old source.now.file) (F.faults files.new source.now.file) }
 {
     let Ok(mut intake) = Intake::new(alloc, first, width, held) else {
         return Err(Stop::NoMemory);
     };
-    let Ok(mut rows) = Rows::new(alloc, &source.file) else {
+    let Ok(mut rows) = Rows::new(alloc, form, &source.file) else {
         return Err(Stop::NoMemory);
     };
     loop {

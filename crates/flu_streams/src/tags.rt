@@ -1,28 +1,37 @@
 //! The tags that rows name.
 
-ghost use Rattle.std.specs.Prelude.{◌≡◌, ◌==◌, ◌<◌, ◌≤◌, length, true, IfOk, IfErr, OnOk, Some, IfSome};
+ghost use Rattle.std.specs.Prelude.{◌≡◌, ◌==◌, ◌<◌, ◌≤◌, length, IfOk, IfErr, Some, IfSome};
 ghost use Rattle.std.specs.List.{flat_map, position};
 ghost use Rattle.flu_model.specs.Listing.{listed_keys, listed_tags};
 ghost use Rattle.flu_model.specs.Rules.{is_same_tag};
-ghost use Rattle.flu_streams.specs.Tags.{kind_named, key_named, tag_named, place_named, value_fits, width};
+ghost use Rattle.flu_streams.specs.Tags.{kind_named, key_named, tag_named, place_named, given, given_to, width};
 ghost use Rattle.flu_streams.specs.Tests.{faults_of_event};
 
 use crate::faults::Why;
 use flu_model::{Keys, Kind, Source, Tag, TagRef};
+use flu_rows::Fields;
 
-/// The place of the tag that a row names among those that the source lists; or the rule that the row breaks.
-pub(crate) fn place_of_event(
+/// What a row says of its event: the place of its tag among those that the source lists, its item and its value.
+#[derive(Clone, Copy)]
+pub(crate) struct Found {
+    pub(crate) place: u32,
+    pub(crate) item: u16,
+    pub(crate) value: i64,
+}
+
+/// What a row says of its event; or the rule that the row breaks.
+pub(crate) fn found_of(
     kinds: &[Kind],
     source: &Source,
     name: &str,
     key: Option<u32>,
-    value: Option<i64>,
-) -> Result<u32, Why>
+    fields: Fields,
+) -> Result<Found, Why>
     requires few { length kinds.now ≤ 64 }
     requires room { width source.now ≤ 256 }
-    ensures place { IfOk result (λ place. place_named kinds.now source.now name.now key ≡ Some place) }
-    ensures value { OnOk result (value_fits kinds.now name.now value ≡ true) }
-    ensures refused { IfErr result (λ why. faults_of_event kinds.now source.now name.now key value ≡ Some why) }
+    ensures place { IfOk result (λ found. place_named kinds.now source.now name.now key ≡ Some found.place) }
+    ensures given { IfOk result (λ found. given_to kinds.now name.now fields ≡ Some (found.item, found.value)) }
+    ensures refused { IfErr result (λ why. faults_of_event kinds.now source.now name.now key fields ≡ Some why) }
 {
     let Some(tag) = tag_named(kinds, name, key) else {
         return Err(Why::UnknownTag);
@@ -30,10 +39,39 @@ pub(crate) fn place_of_event(
     let Some(place) = place_of(source.tags.items(), tag) else {
         return Err(Why::UnknownTag);
     };
-    if kinds[tag.kind as usize].has_value != value.is_some() {
+    let kind = &kinds[tag.kind as usize];
+    let Some((item, value)) = given(kind.has_item, kind.has_value, fields) else {
         return Err(Why::BadRow);
+    };
+    Ok(Found { place, item, value })
+}
+
+// The item and the value of an event whose kind has them or not.
+fn given(has_item: bool, has_value: bool, fields: Fields) -> Option<(u16, i64)>
+    ensures { result ≡ given has_item has_value fields }
+{
+    match fields {
+        Fields::Nothing => {
+            if has_item || has_value {
+                None
+            } else {
+                Some((0, 0))
+            }
+        }
+        Fields::One { item, value } => match (has_item, has_value) {
+            (false, true) => Some((0, value)),
+            (true, false) => Some((item?, 0)),
+            _ => None,
+        },
+        Fields::Two { item, value } => {
+            if has_item && has_value {
+                Some((item, value))
+            } else {
+                None
+            }
+        }
+        Fields::Other => None,
     }
-    Ok(place)
 }
 
 // The tag of a name and an optional key.

@@ -6,6 +6,7 @@ use Rattle.std.proofs.lemmas.Bool.Decides.{nat_tests}
 use Rattle.flu_text.specs.declared.words.Token.{Token}
 use Rattle.flu_text.specs.declared.words.Word.{Word}
 use Rattle.flu_text.specs.declared.words.Word.TheVariants as w
+use Rattle.flu_text.specs.declared.words.Contextual.TheVariants as contextual
 use Rattle.flu_names.specs.declared.reserved.Reserved.TheVariants as r
 use Rattle.flu_text.specs.declared.words.Mark.TheVariants as m
 use Rattle.flu_model.specs.declared.jobs.Op.{Op}
@@ -16,11 +17,12 @@ use Rattle.flu_syntax.specs.declared.tree.WrittenKey.{WrittenKey}
 use Rattle.flu_syntax.specs.declared.tree.WrittenKey.TheVariants as key
 use Rattle.flu_syntax.specs.declared.tree.WrittenRef.{WrittenRef}
 use Rattle.flu_lemmas.proofs.Tests.{true_lt}
+use Rattle.flu_syntax.specs.declared.tokens.Front.TheVariants as start
 use Rattle.flu_syntax.specs.Tree.{Tree, NumberTree, ValueTree, KeyTree, TimeTree, ReadTree, HasTree, ParenTree, NegTree, NotTree, TwoTree, Declarations}
 use Rattle.flu_syntax.specs.Machine.{cell_of, Context, Frame, NegFrame, NotFrame, ParenFrame, RightFrame, Want, Have, Done, Aim}
-use Rattle.flu_syntax.specs.Machine.{ToRead, ToTest, Now, CellFamily, CellKeys, CellKey, CellClose, InExpression, Goes, start_of}
+use Rattle.flu_syntax.specs.Machine.{ToRead, ToTest, Now, CellFamily, CellKeys, CellKey, CellClose, InExpression, Goes, on_name, start_of}
 use Rattle.flu_syntax.specs.Machine.{deeper, done_step, expression_step, operator_of, level_behind, is_within, opens, named, step, Verdict, TooDeep, run}
-use Rattle.flu_text.specs.Signs.{Sign, Any, At, Spanned, IsSign, AreSigns}
+use Rattle.flu_text.specs.Signs.{Sign, Any, At, Spanned, Named, IsSign, AreSigns, is_name_word, span_of}
 use Rattle.flu_syntax.specs.Grammar.{op_level, op_word, key_signs, cell_signs, spelled, left_level, Fits, nest}
 use Rattle.flu_syntax.specs.Reading.{NotFirst}
 use Rattle.flu_syntax.proofs.Runs.{run-takes, run-too_deep, run-neg, run-not, run-right, pass_end, pass_word, pass_level, opens-one, opens-same, not_starts}
@@ -29,15 +31,29 @@ use Rattle.flu_syntax.proofs.Parts.{run-passed, cell_alone}
 
 -- ---- signs
 
-abbrev pub word_of : Sign → Word
-word_of (Any word) = word
-word_of (At word from) = word
-word_of (Spanned word span) = word
+-- a token of this word may be what the sign stands for
+abbrev pub MayBe : Sign → Word → Type 0
+MayBe (Any word) x = x ≡ word
+MayBe (At word from) x = x ≡ word
+MayBe (Spanned word span) x = x ≡ word
+MayBe (Named span) x = is_name_word x ≡ true
 
-pub sign_word : (s : Sign) (t : Token) → IsSign s t → t.word ≡ word_of s
+pub sign_word : (s : Sign) (t : Token) → IsSign s t → MayBe s t.word
 sign_word (Any word) t h = h
 sign_word (At word from) t h = h.0
 sign_word (Spanned word span) t h = h.0
+sign_word (Named span) t h = h.0
+
+named_span : (name : WrittenSpan) (t : Token) → IsSign (Named name) t → span_of t ≡ name
+named_span name t h = rw (h.1, h.2) refl
+
+-- a name leads on where one is expected
+pub on_named : (name : WrittenSpan) (t : Token) (next : WrittenSpan → Now) → IsSign (Named name) t → on_name t.word (next (span_of t)) ≡ Goes (next name)
+on_named name t next h = by_word t.word h.0 (ap next (named_span name t h))
+  where
+    by_word : (word : Word) → is_name_word word ≡ true → next (span_of t) ≡ next name → on_name word (next (span_of t)) ≡ Goes (next name)
+    by_word (w.Name c) named same = ap Goes same
+    by_word _ named same = cc
 
 -- One verdict is that of another turn, or too deep: that where at most so many are open, and these are more than 64.
 pub data Reaches (most : ℕ) (a b : Verdict Declarations) : Type 0 where
@@ -76,7 +92,7 @@ opens_sign most end job now next frames (t ∷ rest) s more h le takes =
 -- the sign behind a part: no bracket opens, and no operator above a level stands there
 abbrev pub Follows : ℕ → List Sign → Type 0
 Follows n [] = Unit {0}
-Follows n (s ∷ more) = IfSome (operator_of (word_of s)) (λ o. op_level o ≤ n) × (word_of s ≢ w.Mark m.OpenBracket)
+Follows n (s ∷ more) = ((x : Word) → MayBe s x → IfSome (operator_of x) (λ o. op_level o ≤ n)) × (MayBe s (w.Mark m.OpenBracket) → ⊥)
 
 if_some_more : (o : Option Op) (m n : ℕ) → m ≤ n → IfSome o (λ o. op_level o ≤ m) → IfSome o (λ o. op_level o ≤ n)
 if_some_more None m n le h = tt
@@ -84,11 +100,11 @@ if_some_more (Some o) m n le h = omega arith
 
 Follows-more : (m n : ℕ) (more : List Sign) → m ≤ n → Follows m more → Follows n more
 Follows-more m n [] le h = tt
-Follows-more m n (s ∷ more) le h = (if_some_more (operator_of (word_of s)) m n le h.0, h.1)
+Follows-more m n (s ∷ more) le h = (λ x is. if_some_more (operator_of x) m n le (h.0 x is), h.1)
 
 abbrev pub NoBracket : List Sign → Type 0
 NoBracket [] = Unit {0}
-NoBracket (s ∷ more) = word_of s ≢ w.Mark m.OpenBracket
+NoBracket (s ∷ more) = MayBe s (w.Mark m.OpenBracket) → ⊥
 
 pub Follows-bracket : (n : ℕ) (more : List Sign) → Follows n more → NoBracket more
 Follows-bracket n [] h = tt
@@ -97,12 +113,12 @@ Follows-bracket n (s ∷ more) h = h.1
 -- the first sign is of another word
 abbrev pub NotWord : Word → List Sign → Type 0
 NotWord word [] = Unit {0}
-NotWord word (s ∷ more) = word_of s ≢ word
+NotWord word (s ∷ more) = MayBe s word → ⊥
 
 pub not_first : (word : Word) (tokens : List Token) (more : List Sign) → AreSigns more tokens → NotWord word more → NotFirst word tokens
 not_first word [] more h no_word = tt
 not_first word (t ∷ tokens) [] h no_word = absurd h
-not_first word (t ∷ tokens) (s ∷ more) h no_word = λ e. no_word (sym (sign_word s t h.0) ∙ e)
+not_first word (t ∷ tokens) (s ∷ more) h no_word = λ e. no_word (subst (MayBe s) e (sign_word s t h.0))
 
 pub bracket_word : (more : List Sign) → NoBracket more → NotWord (w.Mark m.OpenBracket) more
 bracket_word [] h = tt
@@ -119,6 +135,11 @@ own_step : (aim : Aim) (family : WrittenSpan) (at : ℕ) (t : Token) → IsSign 
 unfolding step
 own_step aim family at t h = rw (h.0, h.1) refl
 
+item_step : (aim : Aim) (family : WrittenSpan) (at : ℕ) (t : Token) → IsSign (At (w.Name contextual.Item) at) t
+    → step (CellKey aim family) t ≡ Goes (CellClose aim (cell_of family (key.OwnItem at)))
+unfolding step
+item_step aim family at t h = rw (h.0, h.1) refl
+
 fixed_step : (aim : Aim) (family : WrittenSpan) (n : WrittenNumber) (t : Token) → IsSign (At (w.Number n.value) n.at) t
     → step (CellKey aim family) t ≡ Goes (CellClose aim (cell_of family (key.Fixed n)))
 unfolding step
@@ -128,9 +149,9 @@ close_step : (aim : Aim) (cell : WrittenRef) (t : Token) → IsSign (Any (w.Mark
 unfolding step
 close_step aim cell t h = rw h refl
 
-family_step : (aim : Aim) (family : WrittenSpan) (t : Token) → IsSign (Spanned w.Name family) t → step (CellFamily aim) t ≡ Goes (CellKeys aim family)
+family_step : (aim : Aim) (family : WrittenSpan) (t : Token) → IsSign (Named family) t → step (CellFamily aim) t ≡ Goes (CellKeys aim family)
 unfolding step
-family_step aim family t h = rw (h.0, h.1, h.2) refl
+family_step aim family t h = on_named family t (λ name. CellKeys aim name) h
 
 pub accepts_key : (most end : ℕ) (job : Declarations) (aim : Aim) (family : WrittenSpan) (k : WrittenKey) (tokens : List Token) (more : List Sign)
     → AreSigns (key_signs k ++ more) tokens → NoBracket more
@@ -145,6 +166,14 @@ accepts_key most end job aim family (key.OwnKey at) tokens more h free =
     let c = takes_sign most end job (CellClose aim (cell_of family (key.OwnKey at))) (named aim (cell_of family (key.OwnKey at))) b.0
     (Any (w.Mark m.CloseBracket)) more b.1 (close_step aim (cell_of family (key.OwnKey at))) in
     (c.0, c.1, a.2 then b.2 then c.2)
+accepts_key most end job aim family (key.OwnItem at) tokens more h free =
+    let a = takes_sign most end job (CellKeys aim family) (CellKey aim family) tokens (Any (w.Mark m.OpenBracket))
+    (At (w.Name contextual.Item) at ∷ Any (w.Mark m.CloseBracket) ∷ more) h (bracket_step aim family) in
+    let b = takes_sign most end job (CellKey aim family) (CellClose aim (cell_of family (key.OwnItem at))) a.0 (At (w.Name contextual.Item) at)
+    (Any (w.Mark m.CloseBracket) ∷ more) a.1 (item_step aim family at) in
+    let c = takes_sign most end job (CellClose aim (cell_of family (key.OwnItem at))) (named aim (cell_of family (key.OwnItem at))) b.0
+    (Any (w.Mark m.CloseBracket)) more b.1 (close_step aim (cell_of family (key.OwnItem at))) in
+    (c.0, c.1, a.2 then b.2 then c.2)
 accepts_key most end job aim family (key.Fixed n) tokens more h free =
     let a = takes_sign most end job (CellKeys aim family) (CellKey aim family) tokens (Any (w.Mark m.OpenBracket))
     (At (w.Number n.value) n.at ∷ Any (w.Mark m.CloseBracket) ∷ more) h (bracket_step aim family) in
@@ -157,7 +186,7 @@ accepts_key most end job aim family (key.Fixed n) tokens more h free =
 pub accepts_cell : (most end : ℕ) (job : Declarations) (aim : Aim) (cell : WrittenRef) (tokens : List Token) (more : List Sign)
     → AreSigns (cell_signs cell ++ more) tokens → NoBracket more → LeadsTo most end job (CellFamily aim) tokens job (named aim cell) more
 accepts_cell most end job aim cell tokens more h free =
-    let a = takes_sign most end job (CellFamily aim) (CellKeys aim cell.family) tokens (Spanned w.Name cell.family) (key_signs cell.key ++ more) h
+    let a = takes_sign most end job (CellFamily aim) (CellKeys aim cell.family) tokens (Named cell.family) (key_signs cell.key ++ more) h
     (family_step aim cell.family) in
     let b = accepts_key most end job aim cell.family cell.key a.0 more a.1 free in
     (b.0, b.1, a.2 then b.2)
@@ -175,11 +204,11 @@ top (HasTree at cell) = 5
 top (ParenTree at inner) = 5
 top (NegTree at inner) = 5
 top (NotTree at inner) = 1
-top (TwoTree o left right) = op_level o
+top (TwoTree o at left right) = op_level o
 
 abbrev pub high_of : Tree → ℕ
 high_of (NotTree at inner) = 2
-high_of (TwoTree o left right) = level_behind (op_level o)
+high_of (TwoTree o at left right) = level_behind (op_level o)
 high_of _ = 6
 
 -- each operator has a level, which is not that of `not`
@@ -191,6 +220,8 @@ pub level_is : (o : Op) → IsLevel (op_level o)
 level_is op.Plus = record { below = omega arith; other = omega arith }
 level_is op.Minus = record { below = omega arith; other = omega arith }
 level_is op.Times = record { below = omega arith; other = omega arith }
+level_is op.Divide = record { below = omega arith; other = omega arith }
+level_is op.Remainder = record { below = omega arith; other = omega arith }
 level_is op.Less = record { below = omega arith; other = omega arith }
 level_is op.LessEq = record { below = omega arith; other = omega arith }
 level_is op.More = record { below = omega arith; other = omega arith }
@@ -205,6 +236,8 @@ unfolding operator_of
 operator_of-op_word op.Plus = refl
 operator_of-op_word op.Minus = refl
 operator_of-op_word op.Times = refl
+operator_of-op_word op.Divide = refl
+operator_of-op_word op.Remainder = refl
 operator_of-op_word op.Less = refl
 operator_of-op_word op.LessEq = refl
 operator_of-op_word op.More = refl
@@ -214,10 +247,12 @@ operator_of-op_word op.Differs = refl
 operator_of-op_word op.Both = refl
 operator_of-op_word op.Either = refl
 
-op_no_bracket : (o : Op) → op_word o ≢ w.Mark m.OpenBracket
+op_no_bracket : (o : Op) → w.Mark m.OpenBracket ≢ op_word o
 op_no_bracket op.Plus = λ e. cc
 op_no_bracket op.Minus = λ e. cc
 op_no_bracket op.Times = λ e. cc
+op_no_bracket op.Divide = λ e. cc
+op_no_bracket op.Remainder = λ e. cc
 op_no_bracket op.Less = λ e. cc
 op_no_bracket op.LessEq = λ e. cc
 op_no_bracket op.More = λ e. cc
@@ -227,12 +262,12 @@ op_no_bracket op.Differs = λ e. cc
 op_no_bracket op.Both = λ e. cc
 op_no_bracket op.Either = λ e. cc
 
-op_follows : (o : Op) (n : ℕ) (more : List Sign) → op_level o ≤ n → Follows n (Any (op_word o) ∷ more)
-op_follows o n more le = (rw operator_of-op_word le, op_no_bracket o)
+op_follows : (o : Op) (at n : ℕ) (more : List Sign) → op_level o ≤ n → Follows n (At (op_word o) at ∷ more)
+op_follows o at n more le = (λ x is. rw (is, operator_of-op_word o) le, op_no_bracket o)
 
 pub Fits-below : (j k : ℕ) (t : Tree) → j ≤ k → Fits k t → Fits j t
 Fits-below j k (NotTree at inner) le h = (omega arith, h.1)
-Fits-below j k (TwoTree o a b) le h = (omega arith, h.1, h.2)
+Fits-below j k (TwoTree o at a b) le h = (omega arith, h.1, h.2)
 Fits-below j k (NumberTree n) le h = h
 Fits-below j k (ValueTree at) le h = h
 Fits-below j k (KeyTree at) le h = h
@@ -254,7 +289,7 @@ by_six p is = (omega (arith, is.below), omega (arith, is.below), grind (arith, n
 -- a left operand lets its operator follow, and take it
 pub left_fits : (p : ℕ) (t : Tree) → IsLevel p → Fits (left_level p) t → (p ≤ top t) × (p ≤ high_of t) × (p ≤ left_level p)
 left_fits p (NotTree at inner) is h = by_level p 2 is h.0 refl
-left_fits p (TwoTree o a b) is h = by_two p (op_level o) is h.0
+left_fits p (TwoTree o at a b) is h = by_two p (op_level o) is h.0
 left_fits p (NumberTree n) is h = by_six p is
 left_fits p (ValueTree at) is h = by_six p is
 left_fits p (KeyTree at) is h = by_six p is
@@ -266,7 +301,7 @@ left_fits p (NegTree at inner) is h = by_six p is
 
 pub right_fits : (p : ℕ) (t : Tree) → p < 6 → Fits (p + 1) t → p ≤ top t
 right_fits p (NotTree at inner) lt h = omega (arith, h.0)
-right_fits p (TwoTree o a b) lt h = omega (arith, h.0)
+right_fits p (TwoTree o at a b) lt h = omega (arith, h.0)
 right_fits p (NumberTree n) lt h = omega arith
 right_fits p (ValueTree at) lt h = omega arith
 right_fits p (KeyTree at) lt h = omega arith
@@ -279,7 +314,7 @@ right_fits p (NegTree at inner) lt h = omega arith
 -- an operand of unary minus
 pub six_fits : (t : Tree) → Fits 6 t → 5 ≤ top t
 six_fits (NotTree at inner) h = omega (arith, h.0)
-six_fits (TwoTree o a b) h = omega (arith, h.0, (level_is o).below)
+six_fits (TwoTree o at a b) h = omega (arith, h.0, (level_is o).below)
 six_fits (NumberTree n) h = omega arith
 six_fits (ValueTree at) h = omega arith
 six_fits (KeyTree at) h = omega arith
@@ -311,18 +346,16 @@ pub passes_low : (end low high n : ℕ) (job : Declarations) (context : Context)
 passes_low end low high n job context t frames [] more e lt h = pass_end low high end job context t frames [] refl
 passes_low end low high n job context t frames (x ∷ rest) [] e lt h = absurd e
 passes_low end low high n job context t frames (x ∷ rest) (s ∷ more) e lt h =
-    let same : operator_of x.word ≡ operator_of (word_of s) = ap operator_of (sign_word s x e.0) in
-    let f : IfSome (operator_of x.word) (λ o. op_level o ≤ n) = subst (λ (x : Option Op). IfSome x (λ o. op_level o ≤ n)) (sym same) h.0 in
-    not_taken end low high n job context t frames x rest lt (operator_of x.word) refl f
+    not_taken end low high n job context t frames x rest lt (operator_of x.word) refl (h.0 x.word (sign_word s x e.0))
 
 -- a sign that is no operator
 abbrev pub Quiet : List Sign → Type 0
 Quiet [] = Unit {0}
-Quiet (s ∷ more) = (operator_of (word_of s) ≡ None) × (word_of s ≢ w.Mark m.OpenBracket)
+Quiet (s ∷ more) = ((x : Word) → MayBe s x → operator_of x ≡ None) × (MayBe s (w.Mark m.OpenBracket) → ⊥)
 
 pub Quiet-follows : (n : ℕ) (more : List Sign) → Quiet more → Follows n more
 Quiet-follows n [] h = tt
-Quiet-follows n (s ∷ more) h = (rw h.0 tt, h.1)
+Quiet-follows n (s ∷ more) h = (λ x is. rw (h.0 x is) tt, h.1)
 
 pub passes_quiet : (end low high : ℕ) (job : Declarations) (context : Context) (t : Tree) (frames : List Frame) (rest : List Token) (more : List Sign)
     → AreSigns more rest → Quiet more
@@ -330,7 +363,7 @@ pub passes_quiet : (end low high : ℕ) (job : Declarations) (context : Context)
 passes_quiet end low high job context t frames [] more e h = pass_end low high end job context t frames [] refl
 passes_quiet end low high job context t frames (x ∷ rest) [] e h = absurd e
 passes_quiet end low high job context t frames (x ∷ rest) (s ∷ more) e h =
-    pass_word low high end job context t frames x (x ∷ rest) rest refl (sym (ap operator_of (sign_word s x e.0) ∙ h.0))
+    pass_word low high end job context t frames x (x ∷ rest) rest refl (sym (h.0 x.word (sign_word s x e.0)))
 
 -- ---- steps of an expression
 
@@ -357,10 +390,16 @@ time_step : (context : Context) (level : ℕ) (frames : List Frame) (at : ℕ) (
 unfolding step expression_step start_of
 time_step context level frames at t h = rw (h.0, h.1) refl
 
-read_step : (context : Context) (level : ℕ) (frames : List Frame) (family : WrittenSpan) (t : Token) → IsSign (Spanned w.Name family) t
+name_begins : (word : Word) → is_name_word word ≡ true → start_of word ≡ start.Family
+unfolding start_of
+name_begins (w.Name c) named = refl
+name_begins _ named = cc
+
+read_step : (context : Context) (level : ℕ) (frames : List Frame) (family : WrittenSpan) (t : Token) → IsSign (Named family) t
     → step (want context level frames) t ≡ Goes (CellKeys (ToRead context level frames) family)
-unfolding step expression_step start_of
-read_step context level frames family t h = rw (h.0, h.1, h.2) refl
+unfolding step expression_step
+read_step context level frames family t h =
+    rw (name_begins t.word h.0) (ap (λ (name : WrittenSpan). Goes (CellKeys (ToRead context level frames) name)) (named_span family t h))
 
 has_step : (context : Context) (level : ℕ) (frames : List Frame) (at : ℕ) (t : Token) → IsSign (At (w.Reserved r.Has) at) t
     → step (want context level frames) t ≡ Goes (CellFamily (ToTest context level frames at))
@@ -387,19 +426,19 @@ paren_close : (context : Context) (level at : ℕ) (inner : Tree) (frames : List
 unfolding step expression_step done_step
 paren_close context level at inner frames t h = rw h refl
 
-operator_step : (low high : ℕ) (context : Context) (t : Tree) (frames : List Frame) (o : Op) → low ≤ op_level o → op_level o ≤ high → (x : Token)
-    → IsSign (Any (op_word o)) x
-    → step (InExpression context (Have low high t) frames) x ≡ Goes (want context (op_level o + 1) (RightFrame low o t ∷ frames))
+operator_step : (low high : ℕ) (context : Context) (t : Tree) (frames : List Frame) (o : Op) (at : ℕ) → low ≤ op_level o → op_level o ≤ high → (x : Token)
+    → IsSign (At (op_word o) at) x
+    → step (InExpression context (Have low high t) frames) x ≡ Goes (want context (op_level o + 1) (RightFrame low o at t ∷ frames))
 unfolding step expression_step
-operator_step low high context t frames o le below x h = rw (h, operator_of-op_word o, within low (op_level o) high le below) refl
+operator_step low high context t frames o at le below x h = rw (h.0, h.1, operator_of-op_word o, within low (op_level o) high le below) refl
 
 close_follows : (n : ℕ) (more : List Sign) → Follows n (Any (w.Mark m.CloseParen) ∷ more)
 unfolding operator_of
-close_follows n more = (tt, λ e. cc)
+close_follows n more = (λ x is. rw is tt, λ e. cc)
 
 close_quiet : (more : List Sign) → Quiet (Any (w.Mark m.CloseParen) ∷ more)
 unfolding operator_of
-close_quiet more = (refl, λ e. cc)
+close_quiet more = (λ x is. rw is refl, λ e. cc)
 
 abbrev have : Context → ℕ → Tree → List Frame → Now
 have context level t frames = InExpression context (Have level (high_of t) t) frames
@@ -421,7 +460,7 @@ accepts most end job context (TimeTree at) level frames tokens more six fits e l
     takes_sign most end job (want context level frames) (InExpression context (Have level 6 (TimeTree at)) frames) tokens (At (w.Reserved r.Time) at) more e
     (time_step context level frames at)
 accepts most end job context (ReadTree cell) level frames tokens more six fits e le h =
-    let a = takes_sign most end job (want context level frames) (CellKeys (ToRead context level frames) cell.family) tokens (Spanned w.Name cell.family)
+    let a = takes_sign most end job (want context level frames) (CellKeys (ToRead context level frames) cell.family) tokens (Named cell.family)
     (key_signs cell.key ++ more) e (read_step context level frames cell.family) in
     let b = accepts_key most end job (ToRead context level frames) cell.family cell.key a.0 more a.1 (Follows-bracket 5 more h) in
     (b.0, b.1, a.2 then b.2)
@@ -461,22 +500,22 @@ accepts most end job context (NotTree at inner) level frames tokens more six fit
     (Follows-more 1 (top inner) more (right_fits 1 inner (omega arith) fits.1) h) in
     let c = passes_low end 2 (high_of inner) 1 job context inner (f ∷ frames) b.0 more b.1 (omega arith) h in
     (b.0, b.1, a.2 then b.2 then Same (c ∙ run-not end level at job context inner frames b.0))
-accepts most end job context (TwoTree o left right) level frames tokens more six fits e le h =
+accepts most end job context (TwoTree o at left right) level frames tokens more six fits e le h =
     let p = op_level o in
     let is = level_is o in
     let lf = left_fits p left is fits.1 in
-    let f = RightFrame level o left in
-    let g : AreSigns (spelled left ++ (Any (op_word o) ∷ (spelled right ++ more))) tokens = subst (λ (x : List Sign). AreSigns x tokens)
-    (append_assoc (spelled left) (Any (op_word o) ∷ spelled right) more) e in
-    let a = accepts most end job context left level frames tokens (Any (op_word o) ∷ (spelled right ++ more)) six
-    (Fits-below level (left_level p) left (omega arith) fits.1) g (omega arith) (op_follows o (top left) (spelled right ++ more) lf.0) in
+    let f = RightFrame level o at left in
+    let g : AreSigns (spelled left ++ (At (op_word o) at ∷ (spelled right ++ more))) tokens = subst (λ (x : List Sign). AreSigns x tokens)
+    (append_assoc (spelled left) (At (op_word o) at ∷ spelled right) more) e in
+    let a = accepts most end job context left level frames tokens (At (op_word o) at ∷ (spelled right ++ more)) six
+    (Fits-below level (left_level p) left (omega arith) fits.1) g (omega arith) (op_follows o at (top left) (spelled right ++ more) lf.0) in
     let i = opens-same f frames (opens frames) refl refl in
-    let t = takes_sign most end job (have context level left frames) (want context (p + 1) (f ∷ frames)) a.0 (Any (op_word o)) (spelled right ++ more) a.1
-    (operator_step level (high_of left) context left frames o fits.0 lf.1) in
+    let t = takes_sign most end job (have context level left frames) (want context (p + 1) (f ∷ frames)) a.0 (At (op_word o) at) (spelled right ++ more) a.1
+    (operator_step level (high_of left) context left frames o at fits.0 lf.1) in
     let b = accepts most end job context right (p + 1) (f ∷ frames) t.0 more (omega (arith, is.below)) fits.2 t.1 (omega arith)
     (Follows-more p (top right) more (right_fits p right is.below fits.2) h) in
     let c = passes_low end (p + 1) (high_of right) p job context right (f ∷ frames) b.0 more b.1 (omega arith) h in
-    (b.0, b.1, a.2 then t.2 then b.2 then Same (c ∙ run-right end level job context o left right frames b.0))
+    (b.0, b.1, a.2 then t.2 then b.2 then Same (c ∙ run-right end level at job context o left right frames b.0))
 
 -- no expression begins with a bracket
 pub no_bracket : (t : Tree) (more : List Sign) → NoBracket (spelled t ++ more)
@@ -489,5 +528,5 @@ no_bracket (HasTree at cell) more = λ e. cc
 no_bracket (ParenTree at inner) more = λ e. cc
 no_bracket (NegTree at inner) more = λ e. cc
 no_bracket (NotTree at inner) more = λ e. cc
-no_bracket (TwoTree o left right) more =
-    subst NoBracket (sym (append_assoc (spelled left) (Any (op_word o) ∷ spelled right) more)) (no_bracket left (Any (op_word o) ∷ (spelled right ++ more)))
+no_bracket (TwoTree o at left right) more =
+    subst NoBracket (sym (append_assoc (spelled left) (At (op_word o) at ∷ spelled right) more)) (no_bracket left (At (op_word o) at ∷ (spelled right ++ more)))

@@ -5,6 +5,7 @@ use Rattle.std.proofs.lemmas.List.{append-nil}
 use Rattle.flu_text.specs.declared.words.Token.{Token}
 use Rattle.flu_text.specs.declared.words.Word.{Word}
 use Rattle.flu_text.specs.declared.words.Word.TheVariants as w
+use Rattle.flu_text.specs.declared.words.Contextual.TheVariants as contextual
 use Rattle.flu_names.specs.declared.reserved.Reserved.TheVariants as r
 use Rattle.flu_text.specs.declared.words.Mark.TheVariants as m
 use Rattle.flu_model.specs.declared.jobs.Sort.{Sort}
@@ -20,49 +21,49 @@ use Rattle.flu_syntax.specs.declared.tree.WrittenRelation.{WrittenRelation}
 use Rattle.flu_syntax.specs.declared.tree.WrittenRelation.TheVariants as relation
 use Rattle.flu_syntax.specs.Tree.{Tree, Deed, Writes, Clears, Emits, Flushes, Action, Declaration, Cell, Tag, Depends, On, Source, Declarations}
 use Rattle.flu_syntax.specs.Machine.{tag_of, Actions, Tags, Context, Amount, Guard, Want, Done, ToWrite, ToClear, Now, Start, Declared, CellName, CellForm}
-use Rattle.flu_syntax.specs.Machine.{CellSort, TagName, TagForm, TagValue, DependsFirst, DependsSecond, DependsHow, SourceName, SourceFile, SourceRate}
+use Rattle.flu_syntax.specs.Machine.{CellSort, TagName, TagForm, TagItem, TagValue, DependsFirst, DependsSecond, DependsHow, SourceName, SourceFile, SourceRate}
 use Rattle.flu_syntax.specs.Machine.{RateNumber, SourceSlack, SlackNumber, SourceColon, TagKind, TagKeys, TagLow, TagMore, TagHigh, TagClose, TagEnd, OnKind}
 use Rattle.flu_syntax.specs.Machine.{OnColon, ActionStart, DeedEnd, ActionEnd, EmitText, FlushFamily, FlushText, CellFamily, InExpression, Goes, acted}
 use Rattle.flu_syntax.specs.Machine.{listed, source_of, deed_step, action_step, operator_of, doing_of, sort_of, value_of, heading_of, opening, step, Found}
 use Rattle.flu_syntax.specs.Machine.{run}
-use Rattle.flu_text.specs.Signs.{Sign, Any, At, Spanned, IsSign, AreSigns, keys_signs}
+use Rattle.flu_text.specs.Signs.{Sign, Any, At, Spanned, Named, IsSign, AreSigns, keys_signs}
 use Rattle.flu_syntax.specs.Grammar.{sort_word, value_word, verb_word, cell_signs, spelled, IsExpression, deed_signs, IsDeed}
-use Rattle.flu_syntax.specs.Grammar.{guard_signs, IsGuard, action_signs, AreActions, tag_signs, keyed_signs, relation_signs}
+use Rattle.flu_syntax.specs.Grammar.{guard_signs, IsGuard, action_signs, AreActions, tag_signs, keyed_signs, item_signs, relation_signs}
 use Rattle.flu_syntax.specs.Grammar.{rate_signs, slack_signs, declaration_signs, IsDeclaration, declarations_signs, AreDeclarations}
 use Rattle.flu_syntax.specs.Reading.{no_actions}
 use Rattle.flu_syntax.proofs.Runs.{run-behind, begins, job_ends, opens-nil}
 use Rattle.flu_syntax.proofs.Parts.{run-passed, run-closed, run-declared, run-no_relation, deed_plain, source_plain}
-use Rattle.flu_syntax.proofs.Parts.{source_prompt, cell_plain, tag_plain, tag_alone, tags_end, actions_end}
-use Rattle.flu_syntax.proofs.Accepts.{word_of, Reaches, Same, Stops, ◌then◌, LeadsTo, takes_sign, NoBracket, NotWord, not_first, bracket_word, Quiet}
+use Rattle.flu_syntax.proofs.Parts.{source_prompt, cell_plain, tag_plain, tag_itemless, tag_alone, tags_end, actions_end}
+use Rattle.flu_syntax.proofs.Accepts.{MayBe, on_named, Reaches, Same, Stops, ◌then◌, LeadsTo, takes_sign, NoBracket, NotWord, not_first, bracket_word, Quiet}
 use Rattle.flu_syntax.proofs.Accepts.{Quiet-follows, passes_quiet, high_of, top, accepts, accepts_cell, no_bracket}
 
 -- ---- what stands behind a declaration
 
-pub record IsHeading (word : Word) : Type 0 where
-  pub quiet : operator_of word ≡ None
-  pub bracket : word ≢ w.Mark m.OpenBracket
-  pub semicolon : word ≢ w.Mark m.Semicolon
-  pub comma : word ≢ w.Mark m.Comma
-  pub guarded : word ≢ w.Reserved r.When
-  pub same : word ≢ w.Reserved r.Same
-  pub all : word ≢ w.Reserved r.All
+pub record IsHeading (s : Sign) : Type 0 where
+  pub quiet : (word : Word) → MayBe s word → operator_of word ≡ None
+  pub bracket : MayBe s (w.Mark m.OpenBracket) → ⊥
+  pub semicolon : MayBe s (w.Mark m.Semicolon) → ⊥
+  pub comma : MayBe s (w.Mark m.Comma) → ⊥
+  pub guarded : MayBe s (w.Reserved r.When) → ⊥
+  pub same : MayBe s (w.Reserved r.Same) → ⊥
+  pub all : MayBe s (w.Reserved r.All) → ⊥
 
 abbrev pub Ends : List Sign → Type 0
 Ends [] = Unit {0}
-Ends (s ∷ more) = IsHeading (word_of s)
+Ends (s ∷ more) = IsHeading s
 
 headed : (d : Declaration) (more : List Sign) → Ends (declaration_signs d ++ more)
 unfolding operator_of
 headed (Cell n keyed s) more = record
-    { quiet = refl; bracket = λ e. cc; semicolon = λ e. cc; comma = λ e. cc; guarded = λ e. cc; same = λ e. cc; all = λ e. cc }
-headed (Tag n keyed has_value) more = record
-    { quiet = refl; bracket = λ e. cc; semicolon = λ e. cc; comma = λ e. cc; guarded = λ e. cc; same = λ e. cc; all = λ e. cc }
+    { quiet = λ word is. rw is refl; bracket = λ e. cc; semicolon = λ e. cc; comma = λ e. cc; guarded = λ e. cc; same = λ e. cc; all = λ e. cc }
+headed (Tag n keyed item has_value) more = record
+    { quiet = λ word is. rw is refl; bracket = λ e. cc; semicolon = λ e. cc; comma = λ e. cc; guarded = λ e. cc; same = λ e. cc; all = λ e. cc }
 headed (Depends a b how) more = record
-    { quiet = refl; bracket = λ e. cc; semicolon = λ e. cc; comma = λ e. cc; guarded = λ e. cc; same = λ e. cc; all = λ e. cc }
+    { quiet = λ word is. rw is refl; bracket = λ e. cc; semicolon = λ e. cc; comma = λ e. cc; guarded = λ e. cc; same = λ e. cc; all = λ e. cc }
 headed (On kind actions) more = record
-    { quiet = refl; bracket = λ e. cc; semicolon = λ e. cc; comma = λ e. cc; guarded = λ e. cc; same = λ e. cc; all = λ e. cc }
+    { quiet = λ word is. rw is refl; bracket = λ e. cc; semicolon = λ e. cc; comma = λ e. cc; guarded = λ e. cc; same = λ e. cc; all = λ e. cc }
 headed (Source n file rate slack tags) more = record
-    { quiet = refl; bracket = λ e. cc; semicolon = λ e. cc; comma = λ e. cc; guarded = λ e. cc; same = λ e. cc; all = λ e. cc }
+    { quiet = λ word is. rw is refl; bracket = λ e. cc; semicolon = λ e. cc; comma = λ e. cc; guarded = λ e. cc; same = λ e. cc; all = λ e. cc }
 
 declarations_headed : (job : Declarations) → Ends (declarations_signs job)
 declarations_headed [] = tt
@@ -131,10 +132,10 @@ emit_text_step : (so_far : Actions) (at : ℕ) (file : WrittenSpan) (t : Token) 
 unfolding step
 emit_text_step so_far at file t h = rw (h.0, h.1, h.2) refl
 
-flush_family_step : (so_far : Actions) (at : ℕ) (family : WrittenSpan) (t : Token) → IsSign (Spanned w.Name family) t
+flush_family_step : (so_far : Actions) (at : ℕ) (family : WrittenSpan) (t : Token) → IsSign (Named family) t
     → step (FlushFamily so_far at) t ≡ Goes (FlushText so_far at family)
 unfolding step
-flush_family_step so_far at family t h = rw (h.0, h.1, h.2) refl
+flush_family_step so_far at family t h = on_named family t (λ name. FlushText so_far at name) h
 
 flush_text_step : (so_far : Actions) (at : ℕ) (family file : WrittenSpan) (t : Token) → IsSign (Spanned w.Text file) t
     → step (FlushText so_far at family) t ≡ Goes (DeedEnd so_far at (Flushes family file))
@@ -172,8 +173,8 @@ accepts_deed most end job so_far at (Emits file) tokens more h is quiet =
     (b.0, b.1, a.2 then b.2)
 accepts_deed most end job so_far at (Flushes family file) tokens more h is quiet =
     let a = takes_sign most end job (ActionStart so_far) (FlushFamily so_far at) tokens (At (w.Reserved r.Flush) at)
-    (Spanned w.Name family ∷ Spanned w.Text file ∷ more) h (flush_step so_far at) in
-    let b = takes_sign most end job (FlushFamily so_far at) (FlushText so_far at family) a.0 (Spanned w.Name family) (Spanned w.Text file ∷ more) a.1
+    (Named family ∷ Spanned w.Text file ∷ more) h (flush_step so_far at) in
+    let b = takes_sign most end job (FlushFamily so_far at) (FlushText so_far at family) a.0 (Named family) (Spanned w.Text file ∷ more) a.1
     (flush_family_step so_far at family) in
     let c = takes_sign most end job (FlushText so_far at family) (DeedEnd so_far at (Flushes family file)) b.0 (Spanned w.Text file) more b.1
     (flush_text_step so_far at family file) in
@@ -198,7 +199,7 @@ accepts_guard most end job so_far at deed (Some guard) tokens more h is behind =
 guard_quiet : (guard : Option Tree) (more : List Sign) → Quiet more → Quiet (guard_signs guard ++ more)
 unfolding operator_of
 guard_quiet None more h = h
-guard_quiet (Some guard) more h = (refl, λ e. cc)
+guard_quiet (Some guard) more h = (λ x is. rw is refl, λ e. cc)
 
 accepts_action : (most end : ℕ) (job : Declarations) (so_far : Actions) (a : Action) (tokens : List Token) (more : List Sign)
     → AreSigns (action_signs a ++ more) tokens → IsDeed most a.deed → IsGuard most a.guard → Behind more
@@ -219,7 +220,7 @@ more_actions rest = flat_map (λ (y : Action). Any (w.Mark m.Semicolon) ∷ acti
 
 semicolon_behind : (more : List Sign) → Behind (Any (w.Mark m.Semicolon) ∷ more)
 unfolding operator_of
-semicolon_behind more = ((refl, λ e. cc), λ e. cc)
+semicolon_behind more = ((λ x is. rw is refl, λ e. cc), λ e. cc)
 
 accepts_actions : (most end : ℕ) (job : Declarations) (so_far : Actions) (a : Action) (others : List Action) (tokens : List Token) (more : List Sign)
     → AreSigns ((action_signs a ++ more_actions others) ++ more) tokens → AreActions most (a ∷ others) → Ends more
@@ -245,9 +246,9 @@ accepts_actions most end job so_far a (next ∷ others) tokens more h are ends =
 
 -- ---- tags
 
-tag_kind_step : (so_far : Tags) (kind : WrittenSpan) (t : Token) → IsSign (Spanned w.Name kind) t → step (TagKind so_far) t ≡ Goes (TagKeys so_far kind)
+tag_kind_step : (so_far : Tags) (kind : WrittenSpan) (t : Token) → IsSign (Named kind) t → step (TagKind so_far) t ≡ Goes (TagKeys so_far kind)
 unfolding step
-tag_kind_step so_far kind t h = rw (h.0, h.1, h.2) refl
+tag_kind_step so_far kind t h = on_named kind t (λ name. TagKeys so_far name) h
 
 tag_open_step : (so_far : Tags) (kind : WrittenSpan) (t : Token) → IsSign (Any (w.Mark m.OpenBracket)) t
     → step (TagKeys so_far kind) t ≡ Goes (TagLow so_far kind)
@@ -311,7 +312,7 @@ accepts_tag : (most end : ℕ) (job : Declarations) (so_far : Tags) (tag : Writt
     → AreSigns (tag_signs tag ++ more) tokens → NoBracket more
     → LeadsTo most end job (TagKind so_far) tokens job (TagEnd (listed so_far tag)) more
 accepts_tag most end job so_far tag tokens more h free =
-    let a = takes_sign most end job (TagKind so_far) (TagKeys so_far tag.kind) tokens (Spanned w.Name tag.kind) (keys_signs tag.keys ++ more) h
+    let a = takes_sign most end job (TagKind so_far) (TagKeys so_far tag.kind) tokens (Named tag.kind) (keys_signs tag.keys ++ more) h
     (tag_kind_step so_far tag.kind) in
     let b = accepts_keys most end job so_far tag.kind tag.keys a.0 more a.1 free in
     (b.0, b.1, a.2 then b.2)
@@ -354,9 +355,9 @@ opens_with : (most end : ℕ) (job : Declarations) (now : Now) (tokens : List To
 opens_with most end job now [] word more h e = absurd h
 opens_with most end job now (t ∷ rest) word more h e = (rest, h.1, Same (begins end job now t rest (ap (λ x. opening (heading_of x)) h.0 ∙ e)))
 
-cell_name_step : (n : WrittenSpan) (t : Token) → IsSign (Spanned w.Name n) t → step CellName t ≡ Goes (CellForm n)
+cell_name_step : (n : WrittenSpan) (t : Token) → IsSign (Named n) t → step CellName t ≡ Goes (CellForm n)
 unfolding step
-cell_name_step n t h = rw (h.0, h.1, h.2) refl
+cell_name_step n t h = on_named n t (λ name. CellForm name) h
 
 cell_keyed_step : (n : WrittenSpan) (t : Token) → IsSign (Any (w.Reserved r.Keyed)) t → step (CellForm n) t ≡ Goes (CellSort n true)
 unfolding step
@@ -373,7 +374,7 @@ cell_sort_step : (n : WrittenSpan) (keyed : Bool) (s : Sort) (t : Token) → IsS
 unfolding step
 cell_sort_step n keyed s t h = rw (h, sort_is s) refl
 
-sort_not_keyed : (s : Sort) → sort_word s ≢ w.Reserved r.Keyed
+sort_not_keyed : (s : Sort) → w.Reserved r.Keyed ≢ sort_word s
 sort_not_keyed sort.Sum = λ e. cc
 sort_not_keyed sort.Max = λ e. cc
 sort_not_keyed sort.Last = λ e. cc
@@ -386,11 +387,11 @@ accepts_cell_keyed most end job n true s tokens more h =
 accepts_cell_keyed most end job n false s tokens more h =
     (tokens, h, Same (run-passed end job tokens (cell_plain n) (not_first _ tokens (Any (sort_word s) ∷ more) h (sort_not_keyed s))))
 
-tag_name_step : (n : WrittenSpan) (t : Token) → IsSign (Spanned w.Name n) t → step TagName t ≡ Goes (TagForm n)
+tag_name_step : (n : WrittenSpan) (t : Token) → IsSign (Named n) t → step TagName t ≡ Goes (TagForm n)
 unfolding step
-tag_name_step n t h = rw (h.0, h.1, h.2) refl
+tag_name_step n t h = on_named n t (λ name. TagForm name) h
 
-tag_keyed_step : (n : WrittenSpan) (t : Token) → IsSign (Any (w.Reserved r.Keyed)) t → step (TagForm n) t ≡ Goes (TagValue n true)
+tag_keyed_step : (n : WrittenSpan) (t : Token) → IsSign (Any (w.Reserved r.Keyed)) t → step (TagForm n) t ≡ Goes (TagItem n true)
 unfolding step
 tag_keyed_step n t h = rw h refl
 
@@ -399,30 +400,64 @@ unfolding value_of
 value_is true = refl
 value_is false = refl
 
-tag_value_step : (n : WrittenSpan) (keyed has_value : Bool) (t : Token) → IsSign (Any (value_word has_value)) t
-    → step (TagValue n keyed) t ≡ Goes (Declared (Tag n keyed has_value))
+tag_item_step : (n : WrittenSpan) (keyed : Bool) (at : ℕ) (t : Token) → IsSign (At (w.Name contextual.Item) at) t
+    → step (TagItem n keyed) t ≡ Goes (TagValue n keyed (Some at))
 unfolding step
-tag_value_step n keyed has_value t h = rw (h, value_is has_value) refl
+tag_item_step n keyed at t h = rw (h.0, h.1) refl
 
-value_not_keyed : (b : Bool) → value_word b ≢ w.Reserved r.Keyed
+tag_value_step : (n : WrittenSpan) (keyed : Bool) (item : Option ℕ) (has_value : Bool) (t : Token) → IsSign (Any (value_word has_value)) t
+    → step (TagValue n keyed item) t ≡ Goes (Declared (Tag n keyed item has_value))
+unfolding step
+tag_value_step n keyed item has_value t h = rw (h, value_is has_value) refl
+
+value_not_keyed : (b : Bool) → w.Reserved r.Keyed ≢ value_word b
 value_not_keyed true = λ e. cc
 value_not_keyed false = λ e. cc
 
-accepts_tag_keyed : (most end : ℕ) (job : Declarations) (n : WrittenSpan) (keyed has_value : Bool) (tokens : List Token) (more : List Sign)
-    → AreSigns ((keyed_signs keyed ++ Any (value_word has_value) ∷ []) ++ more) tokens
-    → LeadsTo most end job (TagForm n) tokens job (TagValue n keyed) (Any (value_word has_value) ∷ more)
-accepts_tag_keyed most end job n true has_value tokens more h =
-    takes_sign most end job (TagForm n) (TagValue n true) tokens (Any (w.Reserved r.Keyed)) (Any (value_word has_value) ∷ more) h (tag_keyed_step n)
-accepts_tag_keyed most end job n false has_value tokens more h =
-    (tokens, h, Same (run-passed end job tokens (tag_plain n) (not_first _ tokens (Any (value_word has_value) ∷ more) h (value_not_keyed has_value))))
+value_no_item : (b : Bool) → w.Name contextual.Item ≢ value_word b
+value_no_item true = λ e. cc
+value_no_item false = λ e. cc
 
-depends_first_step : (a : WrittenSpan) (t : Token) → IsSign (Spanned w.Name a) t → step DependsFirst t ≡ Goes (DependsSecond a)
-unfolding step
-depends_first_step a t h = rw (h.0, h.1, h.2) refl
+-- what stands behind a tag's `keyed`
+abbrev behind_keyed : Option ℕ → Bool → List Sign → List Sign
+behind_keyed item has_value more = item_signs item ++ (Any (value_word has_value) ∷ more)
 
-depends_second_step : (a b : WrittenSpan) (t : Token) → IsSign (Spanned w.Name b) t → step (DependsSecond a) t ≡ Goes (DependsHow a b)
+item_not_keyed : (item : Option ℕ) (has_value : Bool) (more : List Sign) → NotWord (w.Reserved r.Keyed) (behind_keyed item has_value more)
+item_not_keyed None has_value more = value_not_keyed has_value
+item_not_keyed (Some at) has_value more = λ e. cc
+
+accepts_tag_keyed : (most end : ℕ) (job : Declarations) (n : WrittenSpan) (keyed : Bool) (item : Option ℕ) (has_value : Bool) (tokens : List Token)
+    (more : List Sign) → AreSigns (keyed_signs keyed ++ behind_keyed item has_value more) tokens
+    → LeadsTo most end job (TagForm n) tokens job (TagItem n keyed) (behind_keyed item has_value more)
+accepts_tag_keyed most end job n true item has_value tokens more h =
+    takes_sign most end job (TagForm n) (TagItem n true) tokens (Any (w.Reserved r.Keyed)) (behind_keyed item has_value more) h (tag_keyed_step n)
+accepts_tag_keyed most end job n false item has_value tokens more h = (
+  tokens,
+  h,
+  Same (run-passed end job tokens (tag_plain n)
+      (not_first _ tokens (behind_keyed item has_value more) h (item_not_keyed item has_value more))),
+)
+
+accepts_tag_item : (most end : ℕ) (job : Declarations) (n : WrittenSpan) (keyed : Bool) (item : Option ℕ) (has_value : Bool) (tokens : List Token)
+    (more : List Sign) → AreSigns (behind_keyed item has_value more) tokens
+    → LeadsTo most end job (TagItem n keyed) tokens job (TagValue n keyed item) (Any (value_word has_value) ∷ more)
+accepts_tag_item most end job n keyed None has_value tokens more h = (
+  tokens,
+  h,
+  Same (run-passed end job tokens (tag_itemless n keyed)
+      (not_first _ tokens (Any (value_word has_value) ∷ more) h (value_no_item has_value))),
+)
+accepts_tag_item most end job n keyed (Some at) has_value tokens more h =
+    takes_sign most end job (TagItem n keyed) (TagValue n keyed (Some at)) tokens (At (w.Name contextual.Item) at) (Any (value_word has_value) ∷ more) h
+    (tag_item_step n keyed at)
+
+depends_first_step : (a : WrittenSpan) (t : Token) → IsSign (Named a) t → step DependsFirst t ≡ Goes (DependsSecond a)
 unfolding step
-depends_second_step a b t h = rw (h.0, h.1, h.2) refl
+depends_first_step a t h = on_named a t (λ name. DependsSecond name) h
+
+depends_second_step : (a b : WrittenSpan) (t : Token) → IsSign (Named b) t → step (DependsSecond a) t ≡ Goes (DependsHow a b)
+unfolding step
+depends_second_step a b t h = on_named b t (λ name. DependsHow a name) h
 
 same_step : (a b : WrittenSpan) (at : ℕ) (t : Token) → IsSign (At (w.Reserved r.Same) at) t
     → step (DependsHow a b) t ≡ Goes (Declared (Depends a b (relation.Same at)))
@@ -445,9 +480,9 @@ accepts_relation most end job a b (relation.Same at) tokens more h ends =
     let c = takes_sign most end job (DependsHow a b) (Declared (Depends a b (relation.Same at))) tokens (At (w.Reserved r.Same) at) more h (same_step a b at) in
     (c.0, c.1, c.2 then Same (run-declared end job (Depends a b (relation.Same at)) c.0))
 
-source_name_step : (n : WrittenSpan) (t : Token) → IsSign (Spanned w.Name n) t → step SourceName t ≡ Goes (SourceFile n)
+source_name_step : (n : WrittenSpan) (t : Token) → IsSign (Named n) t → step SourceName t ≡ Goes (SourceFile n)
 unfolding step
-source_name_step n t h = rw (h.0, h.1, h.2) refl
+source_name_step n t h = on_named n t (λ name. SourceFile name) h
 
 source_file_step : (n file : WrittenSpan) (t : Token) → IsSign (Spanned w.Text file) t → step (SourceFile n) t ≡ Goes (SourceRate n file)
 unfolding step
@@ -511,9 +546,9 @@ accepts_slack most end job n file rate (Some slack) tokens more h =
     (slack_number_step n file rate slack) in
     (b.0, b.1, a.2 then b.2)
 
-on_kind_step : (kind : WrittenSpan) (t : Token) → IsSign (Spanned w.Name kind) t → step OnKind t ≡ Goes (OnColon kind)
+on_kind_step : (kind : WrittenSpan) (t : Token) → IsSign (Named kind) t → step OnKind t ≡ Goes (OnColon kind)
 unfolding step
-on_kind_step kind t h = rw (h.0, h.1, h.2) refl
+on_kind_step kind t h = on_named kind t (λ name. OnColon name) h
 
 on_colon_step : (kind : WrittenSpan) (t : Token) → IsSign (Any (w.Mark m.Colon)) t → step (OnColon kind) t ≡ Goes (ActionStart (no_actions kind))
 unfolding step
@@ -544,31 +579,38 @@ accepts_declaration : (most end : ℕ) (job : Declarations) (d : Declaration) (t
     → LeadsTo most end job Start tokens (job ++ d ∷ []) Start more
 accepts_declaration most end job (Cell n keyed s) tokens more h is ends =
     let tail = (keyed_signs keyed ++ Any (sort_word s) ∷ []) ++ more in
-    let a = opens_with most end job CellName tokens (w.Reserved r.Cell) (Spanned w.Name n ∷ tail) h heading_cell in
-    let b = takes_sign most end job CellName (CellForm n) a.0 (Spanned w.Name n) tail a.1 (cell_name_step n) in
+    let a = opens_with most end job CellName tokens (w.Reserved r.Cell) (Named n ∷ tail) h heading_cell in
+    let b = takes_sign most end job CellName (CellForm n) a.0 (Named n) tail a.1 (cell_name_step n) in
     let c = accepts_cell_keyed most end job n keyed s b.0 more b.1 in
     let d = takes_sign most end job (CellSort n keyed) (Declared (Cell n keyed s)) c.0 (Any (sort_word s)) more c.1 (cell_sort_step n keyed s) in
     (d.0, d.1, a.2 then b.2 then c.2 then d.2 then Same (run-declared end job (Cell n keyed s) d.0))
-accepts_declaration most end job (Tag n keyed has_value) tokens more h is ends =
-    let tail = (keyed_signs keyed ++ Any (value_word has_value) ∷ []) ++ more in
-    let a = opens_with most end job TagName tokens (w.Reserved r.Tag) (Spanned w.Name n ∷ tail) h heading_tag in
-    let b = takes_sign most end job TagName (TagForm n) a.0 (Spanned w.Name n) tail a.1 (tag_name_step n) in
-    let c = accepts_tag_keyed most end job n keyed has_value b.0 more b.1 in
-    let d = takes_sign most end job (TagValue n keyed) (Declared (Tag n keyed has_value)) c.0 (Any (value_word has_value)) more c.1
-    (tag_value_step n keyed has_value) in
-    (d.0, d.1, a.2 then b.2 then c.2 then d.2 then Same (run-declared end job (Tag n keyed has_value) d.0))
+accepts_declaration most end job (Tag n keyed item has_value) tokens more h is ends =
+    let value : List Sign = Any (value_word has_value) ∷ [] in
+    let tail = keyed_signs keyed ++ behind_keyed item has_value more in
+    let moves : (keyed_signs keyed ++ item_signs item ++ value) ++ more ≡ tail =
+    append_assoc (keyed_signs keyed ++ item_signs item) value more
+    ∙ append_assoc (keyed_signs keyed) (item_signs item) (Any (value_word has_value) ∷ more) in
+    let g : AreSigns (Any (w.Reserved r.Tag) ∷ Named n ∷ tail) tokens =
+    subst (λ (x : List Sign). AreSigns (Any (w.Reserved r.Tag) ∷ Named n ∷ x) tokens) moves h in
+    let a = opens_with most end job TagName tokens (w.Reserved r.Tag) (Named n ∷ tail) g heading_tag in
+    let b = takes_sign most end job TagName (TagForm n) a.0 (Named n) tail a.1 (tag_name_step n) in
+    let c = accepts_tag_keyed most end job n keyed item has_value b.0 more b.1 in
+    let i = accepts_tag_item most end job n keyed item has_value c.0 more c.1 in
+    let d = takes_sign most end job (TagValue n keyed item) (Declared (Tag n keyed item has_value)) i.0 (Any (value_word has_value)) more i.1
+    (tag_value_step n keyed item has_value) in
+    (d.0, d.1, a.2 then b.2 then c.2 then i.2 then d.2 then Same (run-declared end job (Tag n keyed item has_value) d.0))
 accepts_declaration most end job (Depends a b how) tokens more h is ends =
     let tail = relation_signs how ++ more in
-    let x = opens_with most end job DependsFirst tokens (w.Reserved r.Depends) (Spanned w.Name a ∷ Spanned w.Name b ∷ tail) h heading_depends in
-    let y = takes_sign most end job DependsFirst (DependsSecond a) x.0 (Spanned w.Name a) (Spanned w.Name b ∷ tail) x.1 (depends_first_step a) in
-    let z = takes_sign most end job (DependsSecond a) (DependsHow a b) y.0 (Spanned w.Name b) tail y.1 (depends_second_step a b) in
+    let x = opens_with most end job DependsFirst tokens (w.Reserved r.Depends) (Named a ∷ Named b ∷ tail) h heading_depends in
+    let y = takes_sign most end job DependsFirst (DependsSecond a) x.0 (Named a) (Named b ∷ tail) x.1 (depends_first_step a) in
+    let z = takes_sign most end job (DependsSecond a) (DependsHow a b) y.0 (Named b) tail y.1 (depends_second_step a b) in
     let c = accepts_relation most end job a b how z.0 more z.1 ends in
     (c.0, c.1, x.2 then y.2 then z.2 then c.2)
 accepts_declaration most end job (On kind []) tokens more h is ends = absurd (is.0 refl)
 accepts_declaration most end job (On kind (first ∷ actions)) tokens more h is ends =
     let tail = (action_signs first ++ more_actions actions) ++ more in
-    let x = opens_with most end job OnKind tokens (w.Reserved r.On) (Spanned w.Name kind ∷ Any (w.Mark m.Colon) ∷ tail) h heading_on in
-    let y = takes_sign most end job OnKind (OnColon kind) x.0 (Spanned w.Name kind) (Any (w.Mark m.Colon) ∷ tail) x.1 (on_kind_step kind) in
+    let x = opens_with most end job OnKind tokens (w.Reserved r.On) (Named kind ∷ Any (w.Mark m.Colon) ∷ tail) h heading_on in
+    let y = takes_sign most end job OnKind (OnColon kind) x.0 (Named kind) (Any (w.Mark m.Colon) ∷ tail) x.1 (on_kind_step kind) in
     let z = takes_sign most end job (OnColon kind) (ActionStart (no_actions kind)) y.0 (Any (w.Mark m.Colon)) tail y.1 (on_colon_step kind) in
     let c = accepts_actions most end job (no_actions kind) first actions z.0 more z.1 is.1 ends in
     (c.0, c.1, x.2 then y.2 then z.2 then c.2)
@@ -580,10 +622,10 @@ accepts_declaration most end job (Source n file rate slack (first ∷ tags)) tok
     let moves : ((rate_signs rate ++ slack_signs slack) ++ (Any (w.Mark m.Colon) ∷ list)) ++ more ≡ behind =
     append_assoc (rate_signs rate ++ slack_signs slack) (Any (w.Mark m.Colon) ∷ list) more
     ∙ append_assoc (rate_signs rate) (slack_signs slack) (Any (w.Mark m.Colon) ∷ tail) in
-    let g : AreSigns (Any (w.Reserved r.Source) ∷ Spanned w.Name n ∷ Spanned w.Text file ∷ behind) tokens =
-    subst (λ (x : List Sign). AreSigns (Any (w.Reserved r.Source) ∷ Spanned w.Name n ∷ Spanned w.Text file ∷ x) tokens) moves h in
-    let x = opens_with most end job SourceName tokens (w.Reserved r.Source) (Spanned w.Name n ∷ Spanned w.Text file ∷ behind) g heading_source in
-    let y = takes_sign most end job SourceName (SourceFile n) x.0 (Spanned w.Name n) (Spanned w.Text file ∷ behind) x.1 (source_name_step n) in
+    let g : AreSigns (Any (w.Reserved r.Source) ∷ Named n ∷ Spanned w.Text file ∷ behind) tokens =
+    subst (λ (x : List Sign). AreSigns (Any (w.Reserved r.Source) ∷ Named n ∷ Spanned w.Text file ∷ x) tokens) moves h in
+    let x = opens_with most end job SourceName tokens (w.Reserved r.Source) (Named n ∷ Spanned w.Text file ∷ behind) g heading_source in
+    let y = takes_sign most end job SourceName (SourceFile n) x.0 (Named n) (Spanned w.Text file ∷ behind) x.1 (source_name_step n) in
     let z = takes_sign most end job (SourceFile n) (SourceRate n file) y.0 (Spanned w.Text file) behind y.1 (source_file_step n file) in
     let u = accepts_rate most end job n file rate slack z.0 tail z.1 in
     let s = accepts_slack most end job n file rate slack u.0 tail u.1 in

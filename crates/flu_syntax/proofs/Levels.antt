@@ -5,6 +5,7 @@ use Rattle.std.proofs.lemmas.Bool.Decides.{nat_tests}
 use Rattle.flu_text.specs.declared.words.Token.{Token}
 use Rattle.flu_text.specs.declared.words.Word.{Word}
 use Rattle.flu_text.specs.declared.words.Word.TheVariants as w
+use Rattle.flu_text.specs.declared.words.Contextual.TheVariants as contextual
 use Rattle.flu_names.specs.declared.reserved.Reserved.TheVariants as r
 use Rattle.flu_text.specs.declared.words.Mark.TheVariants as m
 use Rattle.flu_model.specs.declared.jobs.Op.{Op}
@@ -27,12 +28,12 @@ use Rattle.flu_syntax.specs.Tree.{NotTree, TwoTree, Deed, Writes, Clears, Emits,
 use Rattle.flu_text.specs.Signs.{span_of}
 use Rattle.flu_syntax.specs.Machine.{cell_of, tag_of, Actions, Tags, Context, Amount, Guard, Frame, NegFrame, NotFrame, ParenFrame, RightFrame, Mode, Want}
 use Rattle.flu_syntax.specs.Machine.{Have, Done, Aim, ToWrite, ToClear, ToRead, ToTest, Now, Start, Declared, CellName, CellForm, CellSort, TagName}
-use Rattle.flu_syntax.specs.Machine.{TagForm, TagValue, DependsFirst, DependsSecond, DependsHow, SourceName, SourceFile, SourceRate, RateNumber, SourceSlack}
-use Rattle.flu_syntax.specs.Machine.{SlackNumber, SourceColon, TagKind, TagKeys, TagLow, TagMore, TagHigh, TagClose, TagEnd, OnKind, OnColon, ActionStart}
-use Rattle.flu_syntax.specs.Machine.{DeedEnd, ActionEnd, EmitText, FlushFamily, FlushText, CellFamily, CellKeys, CellKey, CellClose, InExpression, Next}
-use Rattle.flu_syntax.specs.Machine.{Goes, Deep, Refused, begin, take_or, done_step, expression_step, behind_step, deed_step, action_step, acted, listed}
+use Rattle.flu_syntax.specs.Machine.{TagForm, TagItem, TagValue, DependsFirst, DependsSecond, DependsHow, SourceName, SourceFile, SourceRate, RateNumber}
+use Rattle.flu_syntax.specs.Machine.{SourceSlack, SlackNumber, SourceColon, TagKind, TagKeys, TagLow, TagMore, TagHigh, TagClose, TagEnd, OnKind, OnColon}
+use Rattle.flu_syntax.specs.Machine.{ActionStart, DeedEnd, ActionEnd, EmitText, FlushFamily, FlushText, CellFamily, CellKeys, CellKey, CellClose, InExpression}
+use Rattle.flu_syntax.specs.Machine.{Next, Goes, Deep, Refused, begin, take_or, done_step, expression_step, behind_step, deed_step, action_step, acted, listed}
 use Rattle.flu_syntax.specs.Machine.{named, named_step, keys_step, key_step, on_name, on_text, on_colon, on_bracket, on_number, sort_of, sort_step}
-use Rattle.flu_syntax.specs.Machine.{cell_step, value_of, value_step, tag_step, how_step, rate_step, slack_step, source_of, tags_step, tag_keys_step}
+use Rattle.flu_syntax.specs.Machine.{cell_step, value_of, value_step, item_step, tag_step, how_step, rate_step, slack_step, source_of, tags_step, tag_keys_step}
 use Rattle.flu_syntax.specs.Machine.{range_step, doing_of, act_step, start_of, operator_of, is_within, is_close, level_behind, opens, heading_of, opening}
 use Rattle.flu_syntax.specs.Machine.{done_whole, behind_whole, named_whole, step, whole, Verdict, Found, goes_on, next_declaration, ended, run}
 use Rattle.flu_syntax.specs.Grammar.{op_level, left_level, Fits, nest, IsDeed, IsGuard, AreActions, IsDeclaration, AreDeclarations}
@@ -44,7 +45,7 @@ hole [] = 0
 hole (NegFrame level at ∷ frames) = 6
 hole (NotFrame level at ∷ frames) = 2
 hole (ParenFrame level at ∷ frames) = 0
-hole (RightFrame level o left ∷ frames) = op_level o + 1
+hole (RightFrame level o at left ∷ frames) = op_level o + 1
 
 -- a token opens this where an operand of a level is wanted, and one of another level is wanted in it
 pub data Opens (level : ℕ) (t : Token) : Front → ℕ → Frame → Type 0 where
@@ -67,7 +68,7 @@ module _ (most : ℕ) where
   Stack (NegFrame level at ∷ frames) = (level ≡ hole frames) × Stack frames
   Stack (NotFrame level at ∷ frames) = (level ≡ hole frames) × (level ≤ 2) × Stack frames
   Stack (ParenFrame level at ∷ frames) = (level ≡ hole frames) × Stack frames
-  Stack (RightFrame level o left ∷ frames) =
+  Stack (RightFrame level o at left ∷ frames) =
       (level ≡ hole frames) × (level ≤ op_level o) × Fits (left_level (op_level o)) left × (nest left + opens frames ≤ most) × Stack frames
 
   abbrev pub KeptMode : Mode → List Frame → Type 0
@@ -118,7 +119,7 @@ module _ (most : ℕ) where
       -- ---- where one word alone may follow
 
       name_keeps : (word : Word) (now : Now) → Kept now → Keeps (on_name word now)
-      name_keeps w.Name now h = h
+      name_keeps (w.Name c) now h = h
       name_keeps _ now h = tt
 
       text_keeps : (word : Word) (now : Now) → Kept now → Keeps (on_text word now)
@@ -148,13 +149,17 @@ module _ (most : ℕ) where
       cell_keeps n (w.Reserved r.Keyed) = tt
       cell_keeps n word = sort_keeps n false (sort_of word)
 
-      value_keeps : (n : WrittenSpan) (keyed : Bool) (o : Option Bool) → Keeps (value_step n keyed o)
-      value_keeps n keyed None = tt
-      value_keeps n keyed (Some s) = tt
+      value_keeps : (n : WrittenSpan) (keyed : Bool) (item : Option ℕ) (o : Option Bool) → Keeps (value_step n keyed item o)
+      value_keeps n keyed item None = tt
+      value_keeps n keyed item (Some s) = tt
 
-      tag_keeps : (n : WrittenSpan) (word : Word) → Keeps (tag_step n word)
-      tag_keeps n (w.Reserved r.Keyed) = tt
-      tag_keeps n word = value_keeps n false (value_of word)
+      item_keeps : (n : WrittenSpan) (keyed : Bool) (t : Token) (word : Word) → Keeps (item_step n keyed t word)
+      item_keeps n keyed t (w.Name contextual.Item) = tt
+      item_keeps n keyed t word = value_keeps n keyed None (value_of word)
+
+      tag_keeps : (n : WrittenSpan) (t : Token) (word : Word) → Keeps (tag_step n t word)
+      tag_keeps n t (w.Reserved r.Keyed) = tt
+      tag_keeps n t word = item_keeps n false t word
 
       how_keeps : (a b : WrittenSpan) (t : Token) (word : Word) → Keeps (how_step a b t word)
       how_keeps a b t (w.Reserved r.Same) = tt
@@ -267,7 +272,7 @@ module _ (most : ℕ) where
       -- an operator that may take the expression finds a left operand that fits
       left_kept : (t : Tree) (low p : ℕ) → Fits low t → IsLevel p → p ≤ high_of t → Fits (left_level p) t
       left_kept (NotTree at inner) low p fits is le = (not_level p is le, fits.1)
-      left_kept (TwoTree o left right) low p fits is le = (two_level p (op_level o) is le, fits.1, fits.2)
+      left_kept (TwoTree o at left right) low p fits is le = (two_level p (op_level o) is le, fits.1, fits.2)
       left_kept (NumberTree n) low p fits is le = fits
       left_kept (ValueTree at) low p fits is le = fits
       left_kept (KeyTree at) low p fits is le = fits
@@ -281,13 +286,13 @@ module _ (most : ℕ) where
       kept_or true now others h k = h refl
       kept_or false now others h k = k
 
-      take_keeps : (context : Context) (low high : ℕ) (tree : Tree) (frames : List Frame) (o : Option Op) (others : Next) → KeptContext context → Stack frames
-          → low ≡ hole frames → Fits low tree → high ≡ high_of tree
-          → nest tree + opens frames ≤ most → Keeps others → Keeps (take_or context low high tree frames o others)
+      take_keeps : (context : Context) (low high : ℕ) (tree : Tree) (frames : List Frame) (at : ℕ) (o : Option Op) (others : Next) → KeptContext context
+          → Stack frames → low ≡ hole frames → Fits low tree → high ≡ high_of tree
+          → nest tree + opens frames ≤ most → Keeps others → Keeps (take_or context low high tree frames at o others)
       unfolding opens
-      take_keeps context low high tree frames None others c k e fits top few h = h
-      take_keeps context low high tree frames (Some o) others c k e fits top few h =
-          kept_or (is_within low (op_level o) high) (InExpression context (Want (op_level o + 1)) (RightFrame low o tree ∷ frames)) others
+      take_keeps context low high tree frames at None others c k e fits top few h = h
+      take_keeps context low high tree frames at (Some o) others c k e fits top few h =
+          kept_or (is_within low (op_level o) high) (InExpression context (Want (op_level o + 1)) (RightFrame low o at tree ∷ frames)) others
           (λ hit. (
             c,
             (
@@ -307,22 +312,22 @@ module _ (most : ℕ) where
       behind_keeps (Amount so_far at verb cell) tree word c fits few = deed_keeps so_far at (Writes verb cell tree) word c (fits, few)
       behind_keeps (Guard so_far at deed) tree word c fits few = action_keeps so_far at deed (Some tree) word c.0 c.1 (fits, few)
 
-      done_keeps : (context : Context) (tree : Tree) (frames : List Frame) (word : Word) → KeptContext context → Stack frames → Fits (hole frames) tree
-          → nest tree + opens frames ≤ most → Keeps (done_step context tree frames word)
+      done_keeps : (context : Context) (tree : Tree) (frames : List Frame) (x : Token) → KeptContext context → Stack frames → Fits (hole frames) tree
+          → nest tree + opens frames ≤ most → Keeps (done_step context tree frames x)
       unfolding done_step opens
-      done_keeps context tree [] word c k fits few = behind_keeps context tree word c fits (omega arith)
-      done_keeps context tree (NegFrame level at ∷ frames) word c k fits few =
-          take_keeps context level 6 (NegTree at tree) frames (operator_of word) (done_step context (NegTree at tree) frames word) c k.1 k.0 fits refl
-          (omega arith) (done_keeps context (NegTree at tree) frames word c k.1 fits (omega arith))
-      done_keeps context tree (NotFrame level at ∷ frames) word c k fits few =
-          take_keeps context level 2 (NotTree at tree) frames (operator_of word) (done_step context (NotTree at tree) frames word) c k.2 k.0 (k.1, fits) refl
-          (omega arith)
-          (done_keeps context (NotTree at tree) frames word c k.2 (subst (λ (x : ℕ). x ≤ 2) k.0 k.1, fits) (omega arith))
-      done_keeps context tree (ParenFrame level at ∷ frames) word c k fits few = kept_if (is_close word) _ (λ hit. (c, k.1, (k.0, fits, refl, omega arith)))
-      done_keeps context tree (RightFrame level o left ∷ frames) word c k fits few =
-          take_keeps context level (level_behind (op_level o)) (TwoTree o left tree) frames (operator_of word)
-          (done_step context (TwoTree o left tree) frames word) c k.4 k.0 (k.1, k.2, fits) refl (omega (arith, k.3))
-          (done_keeps context (TwoTree o left tree) frames word c k.4 (subst (λ (x : ℕ). x ≤ op_level o) k.0 k.1, k.2, fits) (omega (arith, k.3)))
+      done_keeps context tree [] x c k fits few = behind_keeps context tree x.word c fits (omega arith)
+      done_keeps context tree (NegFrame level at ∷ frames) x c k fits few =
+          take_keeps context level 6 (NegTree at tree) frames x.from (operator_of x.word) (done_step context (NegTree at tree) frames x) c k.1 k.0 fits refl
+          (omega arith) (done_keeps context (NegTree at tree) frames x c k.1 fits (omega arith))
+      done_keeps context tree (NotFrame level at ∷ frames) x c k fits few =
+          take_keeps context level 2 (NotTree at tree) frames x.from (operator_of x.word) (done_step context (NotTree at tree) frames x) c k.2 k.0
+          (k.1, fits) refl (omega arith)
+          (done_keeps context (NotTree at tree) frames x c k.2 (subst (λ (n : ℕ). n ≤ 2) k.0 k.1, fits) (omega arith))
+      done_keeps context tree (ParenFrame level at ∷ frames) x c k fits few = kept_if (is_close x.word) _ (λ hit. (c, k.1, (k.0, fits, refl, omega arith)))
+      done_keeps context tree (RightFrame level o at left ∷ frames) x c k fits few =
+          take_keeps context level (level_behind (op_level o)) (TwoTree o at left tree) frames x.from (operator_of x.word)
+          (done_step context (TwoTree o at left tree) frames x) c k.4 k.0 (k.1, k.2, fits) refl (omega (arith, k.3))
+          (done_keeps context (TwoTree o at left tree) frames x c k.4 (subst (λ (n : ℕ). n ≤ op_level o) k.0 k.1, k.2, fits) (omega (arith, k.3)))
 
       -- this holds where an operand is wanted, 64 are open and the token opens one more
       abbrev Allows : Now → Token → Type 0
@@ -335,9 +340,9 @@ module _ (most : ℕ) where
       unfolding expression_step
       expression_keeps context (Want level) frames t c k h over = begin_keeps context level frames t (start_of t.word) c k h.0 h.1 over
       expression_keeps context (Have low high tree) frames t c k h over =
-          take_keeps context low high tree frames (operator_of t.word) (done_step context tree frames t.word) c k h.0 h.1 h.2 h.3
-          (done_keeps context tree frames t.word c k (subst (λ (x : ℕ). Fits x tree) h.0 h.1) h.3)
-      expression_keeps context (Done tree) frames t c k h over = done_keeps context tree frames t.word c k h.0 h.1
+          take_keeps context low high tree frames t.from (operator_of t.word) (done_step context tree frames t) c k h.0 h.1 h.2 h.3
+          (done_keeps context tree frames t c k (subst (λ (x : ℕ). Fits x tree) h.0 h.1) h.3)
+      expression_keeps context (Done tree) frames t c k h over = done_keeps context tree frames t c k h.0 h.1
 
       -- ---- cells
 
@@ -364,6 +369,7 @@ module _ (most : ℕ) where
 
       key_keeps : (aim : Aim) (family : WrittenSpan) (t : Token) (word : Word) → KeptAim aim → Keeps (key_step aim family t word)
       key_keeps aim family t (w.Reserved r.Key) h = h
+      key_keeps aim family t (w.Name contextual.Item) h = h
       key_keeps aim family t (w.Number n) h = h
       key_keeps aim family t _ h = tt
 
@@ -377,8 +383,9 @@ module _ (most : ℕ) where
       step_keeps (CellForm n) t h over = cell_keeps n t.word
       step_keeps (CellSort n keyed) t h over = sort_keeps n keyed (sort_of t.word)
       step_keeps TagName t h over = name_keeps t.word (TagForm (span_of t)) tt
-      step_keeps (TagForm n) t h over = tag_keeps n t.word
-      step_keeps (TagValue n keyed) t h over = value_keeps n keyed (value_of t.word)
+      step_keeps (TagForm n) t h over = tag_keeps n t t.word
+      step_keeps (TagItem n keyed) t h over = item_keeps n keyed t t.word
+      step_keeps (TagValue n keyed item) t h over = value_keeps n keyed item (value_of t.word)
       step_keeps DependsFirst t h over = name_keeps t.word (DependsSecond (span_of t)) tt
       step_keeps (DependsSecond a) t h over = name_keeps t.word (DependsHow a (span_of t)) tt
       step_keeps (DependsHow a b) t h over = how_keeps a b t t.word
@@ -431,8 +438,8 @@ module _ (most : ℕ) where
     done_kept context tree (NotFrame level at ∷ frames) c k fits few =
         done_kept context (NotTree at tree) frames c k.2 (subst (λ (x : ℕ). x ≤ 2) k.0 k.1, fits) (omega arith)
     done_kept context tree (ParenFrame level at ∷ frames) c k fits few = tt
-    done_kept context tree (RightFrame level o left ∷ frames) c k fits few =
-        done_kept context (TwoTree o left tree) frames c k.4 (subst (λ (x : ℕ). x ≤ op_level o) k.0 k.1, k.2, fits) (omega (arith, k.3))
+    done_kept context tree (RightFrame level o at left ∷ frames) c k fits few =
+        done_kept context (TwoTree o at left tree) frames c k.4 (subst (λ (x : ℕ). x ≤ op_level o) k.0 k.1, k.2, fits) (omega (arith, k.3))
 
     keys_kept : (aim : Aim) (cell : WrittenRef) → KeptAim aim → IfSome (named_whole aim cell) (AreDeclarations most)
     keys_kept (ToWrite so_far at verb) cell h = tt

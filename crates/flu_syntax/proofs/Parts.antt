@@ -3,6 +3,7 @@ use Rattle.std.proofs.Common.{◌≡◌, ◌≢◌, ℕ, ℤ, Bool, true, false,
 use Rattle.flu_text.specs.declared.words.Token.{Token}
 use Rattle.flu_text.specs.declared.words.Word.{Word}
 use Rattle.flu_text.specs.declared.words.Word.TheVariants as w
+use Rattle.flu_text.specs.declared.words.Contextual.TheVariants as contextual
 use Rattle.flu_names.specs.declared.reserved.Reserved.TheVariants as r
 use Rattle.flu_text.specs.declared.words.Mark.TheVariants as m
 use Rattle.flu_model.specs.declared.jobs.Sort.{Sort}
@@ -20,15 +21,16 @@ use Rattle.flu_syntax.specs.declared.tokens.Heading.{Heading}
 use Rattle.flu_syntax.specs.declared.tokens.Doing.{Doing}
 use Rattle.flu_syntax.specs.declared.tokens.Doing.TheVariants as doing
 use Rattle.flu_syntax.specs.Tree.{Deed, Emits, Flushes, Declaration, Cell, Tag, Depends, On, Source, Declarations}
-use Rattle.flu_syntax.specs.Reading.{Tells, NotFirst, IsFirst, IsNumber, NotNumber, no_actions, TakesKeyed, ReadsWriting, ReadsDeed, ReadsDeclaration}
-use Rattle.flu_text.specs.Signs.{span_of, number_of}
+use Rattle.flu_syntax.specs.Reading.{Tells, NotFirst, IsFirst, IsNumber, NotNumber, IsNamed, NotNamed, no_actions, TakesKeyed, TakesItem}
+use Rattle.flu_syntax.specs.Reading.{ReadsWriting, ReadsDeed, ReadsDeclaration}
+use Rattle.flu_text.specs.Signs.{is_name_word, span_of, number_of}
 use Rattle.flu_syntax.specs.Machine.{cell_of, tag_of, Actions, Tags, Aim, ToWrite, ToClear, ToRead, ToTest, Guard, InExpression, Want, Now, Start}
-use Rattle.flu_syntax.specs.Machine.{Declared, CellName, CellForm, CellSort, TagName, TagForm, TagValue, DependsFirst, DependsSecond, DependsHow}
+use Rattle.flu_syntax.specs.Machine.{Declared, CellName, CellForm, CellSort, TagName, TagForm, TagItem, TagValue, DependsFirst, DependsSecond, DependsHow}
 use Rattle.flu_syntax.specs.Machine.{SourceName, SourceFile, SourceRate, RateNumber, SourceSlack, SlackNumber, SourceColon, TagKind, TagKeys, TagLow}
 use Rattle.flu_syntax.specs.Machine.{TagMore, TagHigh, TagClose, TagEnd, OnKind, OnColon, ActionStart, DeedEnd, ActionEnd, EmitText, FlushFamily}
 use Rattle.flu_syntax.specs.Machine.{FlushText, CellFamily, CellKeys, CellKey, CellClose, Goes, Refused, Verdict, Unexpected, acted, action_step}
 use Rattle.flu_syntax.specs.Machine.{deed_step, named, named_step, keys_step, key_step, on_name, on_text, on_colon, on_bracket, on_number, sort_of}
-use Rattle.flu_syntax.specs.Machine.{sort_step, cell_step, value_of, value_step, tag_step, how_step, source_of, rate_step, slack_step, listed}
+use Rattle.flu_syntax.specs.Machine.{sort_step, cell_step, value_of, value_step, item_step, tag_step, how_step, source_of, rate_step, slack_step, listed}
 use Rattle.flu_syntax.specs.Machine.{tags_step, tag_keys_step, range_step, doing_of, act_step, heading_of, opening, step, whole, run}
 use Rattle.flu_text.specs.Signs.{place_of}
 use Rattle.flu_syntax.proofs.Runs.{run-takes, run-misses, run-ends, run-same, run-same_empty, closes_empty, closes_token, begins, begins_none, Tells-through}
@@ -70,6 +72,22 @@ pub run-no_number : {now : Now} {next : WrittenNumber → Now} (end : ℕ) (job 
 run-no_number {now = now} end job [] expects h = run-ends end job now expects.none
 run-no_number {now = now} end job (t ∷ tokens) expects h = run-misses end job now t tokens (expects.refuses t h) expects.none
 
+-- at this turn a name alone may stand
+pub record ExpectsName (now : Now) (next : WrittenSpan → Now) : Type 0 where
+  pub takes : (t : Token) → is_name_word t.word ≡ true → step now t ≡ Goes (next (span_of t))
+  pub refuses : (t : Token) → is_name_word t.word ≡ false → step now t ≡ Refused
+  pub none : whole now ≡ None
+
+pub run-named : {now : Now} {next : WrittenSpan → Now} (end : ℕ) (job : Declarations) (tokens rest : List Token) (name : WrittenSpan)
+    → ExpectsName now next → IsNamed tokens name rest → run end job now tokens ≡ run end job (next name) rest
+run-named {now = now} {next = next} end job tokens rest name expects h =
+    rw h.1 (run-takes end job now (next name) h.0 rest (expects.takes h.0 h.2 ∙ ap (λ (x : WrittenSpan). Goes (next x)) (sym h.3)))
+
+pub run-no_name : {now : Now} {next : WrittenSpan → Now} (end : ℕ) (job : Declarations) (tokens : List Token) → ExpectsName now next → NotNamed tokens
+    → run end job now tokens ≡ Unexpected (place_of end tokens)
+run-no_name {now = now} end job [] expects h = run-ends end job now expects.none
+run-no_name {now = now} end job (t ∷ tokens) expects h = run-misses end job now t tokens (expects.refuses t h) expects.none
+
 -- a turn at which all other words do the same as at another turn
 pub record Passes (now : Now) (word : Word) (other : Now) : Type 0 where
   pub whole : whole now ≡ whole other
@@ -105,9 +123,13 @@ run-declared end job d (t ∷ tokens) = closes_token end job (Declared d) d t to
 
 -- ---- words
 
-name_only : (word : Word) (now : Now) → word ≢ w.Name → on_name word now ≡ Refused
-name_only w.Name now ne = absurd (ne refl)
-name_only _ now ne = refl
+name_takes : (word : Word) (now : Now) → is_name_word word ≡ true → on_name word now ≡ Goes now
+name_takes (w.Name c) now named = refl
+name_takes _ now named = cc
+
+name_only : (word : Word) (now : Now) → is_name_word word ≡ false → on_name word now ≡ Refused
+name_only (w.Name c) now other = cc
+name_only _ now other = refl
 
 text_only : (word : Word) (now : Now) → word ≢ w.Text → on_text word now ≡ Refused
 text_only w.Text now ne = absurd (ne refl)
@@ -127,9 +149,13 @@ number_only _ now ne = refl
 
 -- ---- cells
 
-pub cell_family : (aim : Aim) → Expects (CellFamily aim) w.Name (λ t. CellKeys aim (span_of t))
+pub cell_family : (aim : Aim) → ExpectsName (CellFamily aim) (λ name. CellKeys aim name)
 unfolding step whole
-cell_family aim = record { takes = λ t e. rw e refl; refuses = λ t ne. name_only t.word (CellKeys aim (span_of t)) ne; none = refl }
+cell_family aim = record {
+  takes = λ t named. name_takes t.word (CellKeys aim (span_of t)) named;
+  refuses = λ t other. name_only t.word (CellKeys aim (span_of t)) other;
+  none = refl;
+}
 
 pub cell_close : (aim : Aim) (cell : WrittenRef) → Expects (CellClose aim cell) (w.Mark m.CloseBracket) (λ t. named aim cell)
 unfolding step whole
@@ -178,11 +204,17 @@ pub cell_fixed : (aim : Aim) (family : WrittenSpan) (t : Token) (n : ℤ) → t.
 unfolding step
 cell_fixed aim family t n e = rw e refl
 
-key_only : (aim : Aim) (family : WrittenSpan) (t : Token) (word : Word) → word ≢ w.Reserved r.Key → ((n : ℤ) → word ≢ w.Number n)
-    → key_step aim family t word ≡ Refused
-key_only aim family t (w.Reserved r.Key) ne nor = absurd (ne refl)
-key_only aim family t (w.Number n) ne nor = absurd (nor n refl)
-key_only aim family t _ ne nor = refl
+pub cell_item : (aim : Aim) (family : WrittenSpan) (t : Token) → t.word ≡ w.Name contextual.Item
+    → step (CellKey aim family) t ≡ Goes (CellClose aim (cell_of family (key.OwnItem t.from)))
+unfolding step
+cell_item aim family t e = rw e refl
+
+key_only : (aim : Aim) (family : WrittenSpan) (t : Token) (word : Word) → word ≢ w.Reserved r.Key → word ≢ w.Name contextual.Item
+    → ((n : ℤ) → word ≢ w.Number n) → key_step aim family t word ≡ Refused
+key_only aim family t (w.Reserved r.Key) ne no_item nor = absurd (ne refl)
+key_only aim family t (w.Name contextual.Item) ne no_item nor = absurd (no_item refl)
+key_only aim family t (w.Number n) ne no_item nor = absurd (nor n refl)
+key_only aim family t _ ne no_item nor = refl
 
 key-step : (aim : Aim) (family : WrittenSpan) (t : Token) → step (CellKey aim family) t ≡ key_step aim family t t.word
 unfolding step
@@ -198,6 +230,12 @@ pub run-own : (end : ℕ) (job : Declarations) (aim : Aim) (family : WrittenSpan
 run-own end job aim family tokens rest t h =
     rw h.0 (run-takes end job (CellKey aim family) (CellClose aim (cell_of family (key.OwnKey t.from))) t rest (cell_own aim family t h.1))
 
+pub run-own_item : (end : ℕ) (job : Declarations) (aim : Aim) (family : WrittenSpan) (tokens rest : List Token) (t : Token)
+    → IsFirst (w.Name contextual.Item) tokens t rest
+    → run end job (CellKey aim family) tokens ≡ run end job (CellClose aim (cell_of family (key.OwnItem t.from))) rest
+run-own_item end job aim family tokens rest t h =
+    rw h.0 (run-takes end job (CellKey aim family) (CellClose aim (cell_of family (key.OwnItem t.from))) t rest (cell_item aim family t h.1))
+
 pub run-fixed : (end : ℕ) (job : Declarations) (aim : Aim) (family : WrittenSpan) (tokens rest : List Token) (n : WrittenNumber) → IsNumber tokens n rest
     → run end job (CellKey aim family) tokens ≡ run end job (CellClose aim (cell_of family (key.Fixed n))) rest
 run-fixed end job aim family tokens rest n h =
@@ -205,10 +243,10 @@ run-fixed end job aim family tokens rest n h =
     (cell_fixed aim family h.0 n.value h.1.1 ∙ ap (λ (x : WrittenNumber). Goes (CellClose aim (cell_of family (key.Fixed x)))) (sym h.2)))
 
 pub run-no_key : (end : ℕ) (job : Declarations) (aim : Aim) (family : WrittenSpan) (tokens : List Token) → NotFirst (w.Reserved r.Key) tokens
-    → NotNumber tokens → run end job (CellKey aim family) tokens ≡ Unexpected (place_of end tokens)
-run-no_key end job aim family [] ne nor = run-ends end job (CellKey aim family) (key_whole aim family)
-run-no_key end job aim family (t ∷ tokens) ne nor =
-    run-misses end job (CellKey aim family) t tokens (key-step aim family t ∙ key_only aim family t t.word ne nor) (key_whole aim family)
+    → NotFirst (w.Name contextual.Item) tokens → NotNumber tokens → run end job (CellKey aim family) tokens ≡ Unexpected (place_of end tokens)
+run-no_key end job aim family [] ne no_item nor = run-ends end job (CellKey aim family) (key_whole aim family)
+run-no_key end job aim family (t ∷ tokens) ne no_item nor =
+    run-misses end job (CellKey aim family) t tokens (key-step aim family t ∙ key_only aim family t t.word ne no_item nor) (key_whole aim family)
 
 pub run-bracket : (end : ℕ) (job : Declarations) (aim : Aim) (family : WrittenSpan) (tokens rest : List Token) (t : Token)
     → IsFirst (w.Mark m.OpenBracket) tokens t rest → run end job (CellKeys aim family) tokens ≡ run end job (CellKey aim family) rest
@@ -216,21 +254,37 @@ run-bracket end job aim family tokens rest t h = rw h.0 (run-takes end job (Cell
 
 -- ---- lines of cells, tags and dependencies
 
-pub cell_name : Expects CellName w.Name (λ t. CellForm (span_of t))
+pub cell_name : ExpectsName CellName (λ name. CellForm name)
 unfolding step whole
-cell_name = record { takes = λ t e. rw e refl; refuses = λ t ne. name_only t.word (CellForm (span_of t)) ne; none = refl }
+cell_name = record {
+  takes = λ t named. name_takes t.word (CellForm (span_of t)) named;
+  refuses = λ t other. name_only t.word (CellForm (span_of t)) other;
+  none = refl;
+}
 
-pub tag_name : Expects TagName w.Name (λ t. TagForm (span_of t))
+pub tag_name : ExpectsName TagName (λ name. TagForm name)
 unfolding step whole
-tag_name = record { takes = λ t e. rw e refl; refuses = λ t ne. name_only t.word (TagForm (span_of t)) ne; none = refl }
+tag_name = record {
+  takes = λ t named. name_takes t.word (TagForm (span_of t)) named;
+  refuses = λ t other. name_only t.word (TagForm (span_of t)) other;
+  none = refl;
+}
 
-pub depends_first : Expects DependsFirst w.Name (λ t. DependsSecond (span_of t))
+pub depends_first : ExpectsName DependsFirst (λ name. DependsSecond name)
 unfolding step whole
-depends_first = record { takes = λ t e. rw e refl; refuses = λ t ne. name_only t.word (DependsSecond (span_of t)) ne; none = refl }
+depends_first = record {
+  takes = λ t named. name_takes t.word (DependsSecond (span_of t)) named;
+  refuses = λ t other. name_only t.word (DependsSecond (span_of t)) other;
+  none = refl;
+}
 
-pub depends_second : (a : WrittenSpan) → Expects (DependsSecond a) w.Name (λ t. DependsHow a (span_of t))
+pub depends_second : (a : WrittenSpan) → ExpectsName (DependsSecond a) (λ name. DependsHow a name)
 unfolding step whole
-depends_second a = record { takes = λ t e. rw e refl; refuses = λ t ne. name_only t.word (DependsHow a (span_of t)) ne; none = refl }
+depends_second a = record {
+  takes = λ t named. name_takes t.word (DependsHow a (span_of t)) named;
+  refuses = λ t other. name_only t.word (DependsHow a (span_of t)) other;
+  none = refl;
+}
 
 pub cell_keyed : (name : WrittenSpan) (t : Token) → t.word ≡ w.Reserved r.Keyed → step (CellForm name) t ≡ Goes (CellSort name true)
 unfolding step
@@ -257,30 +311,45 @@ pub cell_sort_whole : (name : WrittenSpan) (keyed : Bool) → whole (CellSort na
 unfolding whole
 cell_sort_whole name keyed = refl
 
-pub tag_keyed : (name : WrittenSpan) (t : Token) → t.word ≡ w.Reserved r.Keyed → step (TagForm name) t ≡ Goes (TagValue name true)
+pub tag_keyed : (name : WrittenSpan) (t : Token) → t.word ≡ w.Reserved r.Keyed → step (TagForm name) t ≡ Goes (TagItem name true)
 unfolding step
 tag_keyed name t e = rw e refl
 
-tag_unkeyed : (name : WrittenSpan) (word : Word) → word ≢ w.Reserved r.Keyed → tag_step name word ≡ value_step name false (value_of word)
-tag_unkeyed name (w.Reserved r.Keyed) ne = absurd (ne refl)
-tag_unkeyed name _ ne = refl
+tag_unkeyed : (name : WrittenSpan) (t : Token) (word : Word) → word ≢ w.Reserved r.Keyed → tag_step name t word ≡ item_step name false t word
+tag_unkeyed name t (w.Reserved r.Keyed) ne = absurd (ne refl)
+tag_unkeyed name t _ ne = refl
 
-pub tag_plain : (name : WrittenSpan) → Passes (TagForm name) (w.Reserved r.Keyed) (TagValue name false)
+pub tag_plain : (name : WrittenSpan) → Passes (TagForm name) (w.Reserved r.Keyed) (TagItem name false)
 unfolding step whole
-tag_plain name = record { whole = refl; same = λ t ne. tag_unkeyed name t.word ne }
+tag_plain name = record { whole = refl; same = λ t ne. tag_unkeyed name t t.word ne }
 
-pub tag_value : (name : WrittenSpan) (keyed : Bool) (t : Token) (has_value : Bool) → value_of t.word ≡ Some has_value
-    → step (TagValue name keyed) t ≡ Goes (Declared (Tag name keyed has_value))
+pub tag_item : (name : WrittenSpan) (keyed : Bool) (t : Token) → t.word ≡ w.Name contextual.Item
+    → step (TagItem name keyed) t ≡ Goes (TagValue name keyed (Some t.from))
 unfolding step
-tag_value name keyed t has_value e = rw e refl
+tag_item name keyed t e = rw e refl
 
-pub tag_no_value : (name : WrittenSpan) (keyed : Bool) (t : Token) → value_of t.word ≡ None → step (TagValue name keyed) t ≡ Refused
+tag_no_item : (name : WrittenSpan) (keyed : Bool) (t : Token) (word : Word) → word ≢ w.Name contextual.Item
+    → item_step name keyed t word ≡ value_step name keyed None (value_of word)
+tag_no_item name keyed t (w.Name contextual.Item) ne = absurd (ne refl)
+tag_no_item name keyed t _ ne = refl
+
+pub tag_itemless : (name : WrittenSpan) (keyed : Bool) → Passes (TagItem name keyed) (w.Name contextual.Item) (TagValue name keyed None)
+unfolding step whole
+tag_itemless name keyed = record { whole = refl; same = λ t ne. tag_no_item name keyed t t.word ne }
+
+pub tag_value : (name : WrittenSpan) (keyed : Bool) (item : Option ℕ) (t : Token) (has_value : Bool) → value_of t.word ≡ Some has_value
+    → step (TagValue name keyed item) t ≡ Goes (Declared (Tag name keyed item has_value))
 unfolding step
-tag_no_value name keyed t e = rw e refl
+tag_value name keyed item t has_value e = rw e refl
 
-pub tag_value_whole : (name : WrittenSpan) (keyed : Bool) → whole (TagValue name keyed) ≡ None
+pub tag_no_value : (name : WrittenSpan) (keyed : Bool) (item : Option ℕ) (t : Token) → value_of t.word ≡ None
+    → step (TagValue name keyed item) t ≡ Refused
+unfolding step
+tag_no_value name keyed item t e = rw e refl
+
+pub tag_value_whole : (name : WrittenSpan) (keyed : Bool) (item : Option ℕ) → whole (TagValue name keyed item) ≡ None
 unfolding whole
-tag_value_whole name keyed = refl
+tag_value_whole name keyed item = refl
 
 pub depends_same : (a b : WrittenSpan) (t : Token) → t.word ≡ w.Reserved r.Same → step (DependsHow a b) t ≡ Goes (Declared (Depends a b (relation.Same t.from)))
 unfolding step
@@ -305,9 +374,13 @@ depends_whole a b = refl
 
 -- ---- sources
 
-pub source_name : Expects SourceName w.Name (λ t. SourceFile (span_of t))
+pub source_name : ExpectsName SourceName (λ name. SourceFile name)
 unfolding step whole
-source_name = record { takes = λ t e. rw e refl; refuses = λ t ne. name_only t.word (SourceFile (span_of t)) ne; none = refl }
+source_name = record {
+  takes = λ t named. name_takes t.word (SourceFile (span_of t)) named;
+  refuses = λ t other. name_only t.word (SourceFile (span_of t)) other;
+  none = refl;
+}
 
 pub source_file : (name : WrittenSpan) → Expects (SourceFile name) w.Text (λ t. SourceRate name (span_of t))
 unfolding step whole
@@ -360,9 +433,13 @@ unfolding step whole
 source_colon name file rate slack = record
     { takes = λ t e. rw e refl; refuses = λ t ne. colon_only t.word (TagKind (source_of name file rate slack)) ne; none = refl }
 
-pub tag_kind : (so_far : Tags) → Expects (TagKind so_far) w.Name (λ t. TagKeys so_far (span_of t))
+pub tag_kind : (so_far : Tags) → ExpectsName (TagKind so_far) (λ name. TagKeys so_far name)
 unfolding step whole
-tag_kind so_far = record { takes = λ t e. rw e refl; refuses = λ t ne. name_only t.word (TagKeys so_far (span_of t)) ne; none = refl }
+tag_kind so_far = record {
+  takes = λ t named. name_takes t.word (TagKeys so_far (span_of t)) named;
+  refuses = λ t other. name_only t.word (TagKeys so_far (span_of t)) other;
+  none = refl;
+}
 
 pub tag_bracket : (so_far : Tags) (kind : WrittenSpan) (t : Token) → t.word ≡ w.Mark m.OpenBracket → step (TagKeys so_far kind) t ≡ Goes (TagLow so_far kind)
 unfolding step
@@ -421,9 +498,13 @@ tags_end so_far = record { whole = refl; refuses = λ t ne. no_comma so_far t.wo
 
 -- ---- actions
 
-pub on_kind : Expects OnKind w.Name (λ t. OnColon (span_of t))
+pub on_kind : ExpectsName OnKind (λ name. OnColon name)
 unfolding step whole
-on_kind = record { takes = λ t e. rw e refl; refuses = λ t ne. name_only t.word (OnColon (span_of t)) ne; none = refl }
+on_kind = record {
+  takes = λ t named. name_takes t.word (OnColon (span_of t)) named;
+  refuses = λ t other. name_only t.word (OnColon (span_of t)) other;
+  none = refl;
+}
 
 pub on_mark : (kind : WrittenSpan) → Expects (OnColon kind) (w.Mark m.Colon) (λ t. ActionStart (no_actions kind))
 unfolding step whole
@@ -441,9 +522,13 @@ pub emit_text : (so_far : Actions) (at : ℕ) → Expects (EmitText so_far at) w
 unfolding step whole
 emit_text so_far at = record { takes = λ t e. rw e refl; refuses = λ t ne. text_only t.word (DeedEnd so_far at (Emits (span_of t))) ne; none = refl }
 
-pub flush_family : (so_far : Actions) (at : ℕ) → Expects (FlushFamily so_far at) w.Name (λ t. FlushText so_far at (span_of t))
+pub flush_family : (so_far : Actions) (at : ℕ) → ExpectsName (FlushFamily so_far at) (λ name. FlushText so_far at name)
 unfolding step whole
-flush_family so_far at = record { takes = λ t e. rw e refl; refuses = λ t ne. name_only t.word (FlushText so_far at (span_of t)) ne; none = refl }
+flush_family so_far at = record {
+  takes = λ t named. name_takes t.word (FlushText so_far at (span_of t)) named;
+  refuses = λ t other. name_only t.word (FlushText so_far at (span_of t)) other;
+  none = refl;
+}
 
 pub flush_text : (so_far : Actions) (at : ℕ) (family : WrittenSpan)
     → Expects (FlushText so_far at family) w.Text (λ t. DeedEnd so_far at (Flushes family (span_of t)))
@@ -493,9 +578,15 @@ run-keyed_cell end job name true tokens rest h =
 run-keyed_cell end job name false tokens rest h = rw h.0 (run-passed end job tokens (cell_plain name) h.1)
 
 pub run-keyed_tag : (end : ℕ) (job : Declarations) (name : WrittenSpan) (keyed : Bool) (tokens rest : List Token) → TakesKeyed tokens keyed rest
-    → run end job (TagForm name) tokens ≡ run end job (TagValue name keyed) rest
-run-keyed_tag end job name true tokens rest h = run-word end job (TagForm name) (TagValue name true) (w.Reserved r.Keyed) tokens rest h.0 (tag_keyed name) h.1
+    → run end job (TagForm name) tokens ≡ run end job (TagItem name keyed) rest
+run-keyed_tag end job name true tokens rest h = run-word end job (TagForm name) (TagItem name true) (w.Reserved r.Keyed) tokens rest h.0 (tag_keyed name) h.1
 run-keyed_tag end job name false tokens rest h = rw h.0 (run-passed end job tokens (tag_plain name) h.1)
+
+pub run-item : (end : ℕ) (job : Declarations) (name : WrittenSpan) (keyed : Bool) (item : Option ℕ) (tokens rest : List Token) → TakesItem tokens item rest
+    → run end job (TagItem name keyed) tokens ≡ run end job (TagValue name keyed item) rest
+run-item end job name keyed (Some at) tokens rest h =
+    rw (h.1.0, h.2) (run-takes end job (TagItem name keyed) (TagValue name keyed (Some h.0.from)) h.0 rest (tag_item name keyed h.0 h.1.1))
+run-item end job name keyed None tokens rest h = rw h.0 (run-passed end job tokens (tag_itemless name keyed) h.1)
 
 pub run-sort : (end : ℕ) (job : Declarations) (name : WrittenSpan) (keyed : Bool) (tokens rest : List Token) (t : Token) (s : Sort) → tokens ≡ t ∷ rest
     → Some s ≡ sort_of t.word
@@ -513,21 +604,21 @@ pub run-sort_end : (end : ℕ) (job : Declarations) (name : WrittenSpan) (keyed 
     → run end job (CellSort name keyed) tokens ≡ Unexpected (place_of end tokens)
 run-sort_end end job name keyed tokens e = rw e (run-ends end job (CellSort name keyed) (cell_sort_whole name keyed))
 
-pub run-value : (end : ℕ) (job : Declarations) (name : WrittenSpan) (keyed : Bool) (tokens rest : List Token) (t : Token) (has_value : Bool)
-    → tokens ≡ t ∷ rest → Some has_value ≡ value_of t.word
-    → run end job (TagValue name keyed) tokens ≡ run end (job ++ Tag name keyed has_value ∷ []) Start rest
-run-value end job name keyed tokens rest t has_value here e =
-    rw here (run-takes end job (TagValue name keyed) (Declared (Tag name keyed has_value)) t rest (tag_value name keyed t has_value (sym e))
-    ∙ run-declared end job (Tag name keyed has_value) rest)
+pub run-value : (end : ℕ) (job : Declarations) (name : WrittenSpan) (keyed : Bool) (item : Option ℕ) (tokens rest : List Token) (t : Token)
+    (has_value : Bool) → tokens ≡ t ∷ rest → Some has_value ≡ value_of t.word
+    → run end job (TagValue name keyed item) tokens ≡ run end (job ++ Tag name keyed item has_value ∷ []) Start rest
+run-value end job name keyed item tokens rest t has_value here e =
+    rw here (run-takes end job (TagValue name keyed item) (Declared (Tag name keyed item has_value)) t rest (tag_value name keyed item t has_value (sym e))
+    ∙ run-declared end job (Tag name keyed item has_value) rest)
 
-pub run-no_value : (end : ℕ) (job : Declarations) (name : WrittenSpan) (keyed : Bool) (tokens rest : List Token) (t : Token) → tokens ≡ t ∷ rest
-    → None ≡ value_of t.word → run end job (TagValue name keyed) tokens ≡ Unexpected (place_of end tokens)
-run-no_value end job name keyed tokens rest t here e =
-    rw here (run-misses end job (TagValue name keyed) t rest (tag_no_value name keyed t (sym e)) (tag_value_whole name keyed))
+pub run-no_value : (end : ℕ) (job : Declarations) (name : WrittenSpan) (keyed : Bool) (item : Option ℕ) (tokens rest : List Token) (t : Token)
+    → tokens ≡ t ∷ rest → None ≡ value_of t.word → run end job (TagValue name keyed item) tokens ≡ Unexpected (place_of end tokens)
+run-no_value end job name keyed item tokens rest t here e =
+    rw here (run-misses end job (TagValue name keyed item) t rest (tag_no_value name keyed item t (sym e)) (tag_value_whole name keyed item))
 
-pub run-value_end : (end : ℕ) (job : Declarations) (name : WrittenSpan) (keyed : Bool) (tokens : List Token) → tokens ≡ []
-    → run end job (TagValue name keyed) tokens ≡ Unexpected (place_of end tokens)
-run-value_end end job name keyed tokens e = rw e (run-ends end job (TagValue name keyed) (tag_value_whole name keyed))
+pub run-value_end : (end : ℕ) (job : Declarations) (name : WrittenSpan) (keyed : Bool) (item : Option ℕ) (tokens : List Token) → tokens ≡ []
+    → run end job (TagValue name keyed item) tokens ≡ Unexpected (place_of end tokens)
+run-value_end end job name keyed item tokens e = rw e (run-ends end job (TagValue name keyed item) (tag_value_whole name keyed item))
 
 pub run-same_relation : (end : ℕ) (job : Declarations) (a b : WrittenSpan) (tokens rest : List Token) (t : Token) → IsFirst (w.Reserved r.Same) tokens t rest
     → run end job (DependsHow a b) tokens ≡ run end (job ++ Depends a b (relation.Same t.from) ∷ []) Start rest

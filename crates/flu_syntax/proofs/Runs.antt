@@ -173,12 +173,12 @@ unfolding run step expression_step done_step whole done_whole
 run-not end level at job context t frames [] = refl
 run-not end level at job context t frames (x ∷ tokens) = refl
 
-pub run-right : (end level : ℕ) (job : Declarations) (context : Context) (o : Op) (left t : Tree) (frames : List Frame) (tokens : List Token)
-    → run end job (InExpression context (Done t) (RightFrame level o left ∷ frames)) tokens ≡ run end job
-    (InExpression context (Have level (level_behind (op_level o)) (TwoTree o left t)) frames) tokens
+pub run-right : (end level at : ℕ) (job : Declarations) (context : Context) (o : Op) (left t : Tree) (frames : List Frame) (tokens : List Token)
+    → run end job (InExpression context (Done t) (RightFrame level o at left ∷ frames)) tokens ≡ run end job
+    (InExpression context (Have level (level_behind (op_level o)) (TwoTree o at left t)) frames) tokens
 unfolding run step expression_step done_step whole done_whole
-run-right end level job context o left t frames [] = refl
-run-right end level job context o left t frames (x ∷ tokens) = refl
+run-right end level at job context o left t frames [] = refl
+run-right end level at job context o left t frames (x ∷ tokens) = refl
 
 -- an expression that is whole
 pub behind-whole : (context : Context) (t : Tree) → whole (InExpression context (Done t) []) ≡ whole (behind context t)
@@ -251,7 +251,7 @@ pass_level low high end job context t frames x tokens more o here e miss = rw (h
 
 operator_step : (low high : ℕ) (context : Context) (t : Tree) (frames : List Frame) (x : Token) (o : Op) → Some o ≡ operator_of x.word
     → is_within low (op_level o) high ≡ true
-    → step (InExpression context (Have low high t) frames) x ≡ Goes (InExpression context (Want (op_level o + 1)) (RightFrame low o t ∷ frames))
+    → step (InExpression context (Have low high t) frames) x ≡ Goes (InExpression context (Want (op_level o + 1)) (RightFrame low o x.from t ∷ frames))
 unfolding step expression_step
 operator_step low high context t frames x o e hit = rw (sym e, hit) refl
 
@@ -259,7 +259,7 @@ pub take_operator : (low high end : ℕ) (job : Declarations) (context : Context
     (o : Op) → tokens ≡ x ∷ more → Some o ≡ operator_of x.word
     → is_within low (op_level o) high ≡ true
     → run end job (InExpression context (Have low high t) frames) tokens ≡ run end job
-    (InExpression context (Want (op_level o + 1)) (RightFrame low o t ∷ frames)) more
+    (InExpression context (Want (op_level o + 1)) (RightFrame low o x.from t ∷ frames)) more
 take_operator low high end job context t frames x tokens more o here e hit =
-    rw here (run-takes end job (InExpression context (Have low high t) frames) (InExpression context (Want (op_level o + 1)) (RightFrame low o t ∷ frames)) x
-    more (operator_step low high context t frames x o e hit))
+    rw here (run-takes end job (InExpression context (Have low high t) frames)
+    (InExpression context (Want (op_level o + 1)) (RightFrame low o x.from t ∷ frames)) x more (operator_step low high context t frames x o e hit))

@@ -8,6 +8,7 @@ use Rattle.std.proofs.lemmas.Grind.{flat_map-append}
 use Rattle.flu_text.specs.declared.words.Token.{Token}
 use Rattle.flu_text.specs.declared.words.Word.{Word}
 use Rattle.flu_text.specs.declared.words.Word.TheVariants as w
+use Rattle.flu_text.specs.declared.words.Contextual.TheVariants as contextual
 use Rattle.flu_names.specs.declared.reserved.Reserved.TheVariants as r
 use Rattle.flu_text.specs.declared.words.Mark.TheVariants as m
 use Rattle.flu_model.specs.declared.jobs.Op.{Op}
@@ -25,18 +26,18 @@ use Rattle.flu_syntax.specs.Tree.{Writes, Clears, Emits, Flushes, Action, On, So
 use Rattle.flu_text.specs.Signs.{span_of, number_of}
 use Rattle.flu_syntax.specs.Machine.{cell_of, tag_of, Actions, Tags, Context, Amount, Guard, Frame, NegFrame, NotFrame, ParenFrame, RightFrame, Mode, Want}
 use Rattle.flu_syntax.specs.Machine.{Have, Done, Aim, ToWrite, ToClear, ToRead, ToTest, Now, Start, Declared, CellName, CellForm, CellSort, TagName, TagForm}
-use Rattle.flu_syntax.specs.Machine.{TagValue, DependsFirst, DependsSecond, DependsHow, SourceName, SourceFile, SourceRate, RateNumber, SourceSlack}
+use Rattle.flu_syntax.specs.Machine.{TagItem, TagValue, DependsFirst, DependsSecond, DependsHow, SourceName, SourceFile, SourceRate, RateNumber, SourceSlack}
 use Rattle.flu_syntax.specs.Machine.{SlackNumber, SourceColon, TagKind, TagKeys, TagLow, TagMore, TagHigh, TagClose, TagEnd, OnKind, OnColon, ActionStart}
 use Rattle.flu_syntax.specs.Machine.{DeedEnd, ActionEnd, EmitText, FlushFamily, FlushText, CellFamily, CellKeys, CellKey, CellClose, InExpression, Next}
 use Rattle.flu_syntax.specs.Machine.{Goes, Deep, Refused, begin, atom, take_or, done_step, expression_step, behind_step, deed_step, action_step, acted}
 use Rattle.flu_syntax.specs.Machine.{listed, source_of, named, named_step, keys_step, key_step, on_name, on_text, on_colon, on_bracket, on_number, sort_of}
-use Rattle.flu_syntax.specs.Machine.{sort_step, cell_step, value_of, value_step, tag_step, how_step, rate_step, slack_step, source_line, tags_step}
+use Rattle.flu_syntax.specs.Machine.{sort_step, cell_step, value_of, value_step, item_step, tag_step, how_step, rate_step, slack_step, source_line, tags_step}
 use Rattle.flu_syntax.specs.Machine.{tag_keys_step, range_step, doing_of, act_step, start_of, operator_of, is_within, is_close, level_behind, opens}
 use Rattle.flu_syntax.specs.Machine.{heading_of, opening, done_whole, behind_whole, named_whole, step, whole, Verdict, Found, goes_on, next_declaration}
 use Rattle.flu_syntax.specs.Machine.{ended, run}
-use Rattle.flu_text.specs.Signs.{Sign, Any, At, Spanned, IsSign, AreSigns, name, text, number, separated}
+use Rattle.flu_text.specs.Signs.{Sign, Any, At, Spanned, Named, IsSign, AreSigns, name, text, number, separated}
 use Rattle.flu_syntax.specs.Grammar.{op_level, op_word, verb_word, key_signs, cell_signs, spelled, deed_signs, guard_signs, action_signs}
-use Rattle.flu_syntax.specs.Grammar.{tag_signs, keyed_signs, rate_signs, slack_signs, declaration_signs, declarations_signs}
+use Rattle.flu_syntax.specs.Grammar.{tag_signs, keyed_signs, item_signs, rate_signs, slack_signs, declaration_signs, declarations_signs}
 
 -- ---- what a turn has said
 
@@ -44,17 +45,17 @@ abbrev mark_ended : {X : Type 0} → Word → (X → List Sign) → List X → L
 mark_ended mark item xs = flat_map (λ y. item y ++ Any mark ∷ []) xs
 
 abbrev on_head : WrittenSpan → List Sign
-on_head kind = Any (w.Reserved r.On) ∷ Spanned w.Name kind ∷ Any (w.Mark m.Colon) ∷ []
+on_head kind = Any (w.Reserved r.On) ∷ Named kind ∷ Any (w.Mark m.Colon) ∷ []
 
 abbrev said_actions : Actions → List Sign
 said_actions so_far = on_head so_far.kind ++ mark_ended (w.Mark m.Semicolon) action_signs so_far.all
 
 abbrev source_begun : WrittenSpan → WrittenSpan → List Sign → List Sign
-source_begun n file more = Any (w.Reserved r.Source) ∷ Spanned w.Name n ∷ Spanned w.Text file ∷ more
+source_begun n file more = Any (w.Reserved r.Source) ∷ Named n ∷ Spanned w.Text file ∷ more
 
 abbrev source_head : Tags → List Sign
 source_head so_far =
-    Any (w.Reserved r.Source) ∷ Spanned w.Name so_far.name ∷ Spanned w.Text so_far.file ∷
+    Any (w.Reserved r.Source) ∷ Named so_far.name ∷ Spanned w.Text so_far.file ∷
     (rate_signs so_far.rate ++ slack_signs so_far.slack ++ Any (w.Mark m.Colon) ∷ [])
 
 abbrev said_tags : Tags → List Sign
@@ -69,7 +70,7 @@ said_frames context [] = said_context context
 said_frames context (NegFrame level at ∷ frames) = said_frames context frames ++ At (w.Mark m.Minus) at ∷ []
 said_frames context (NotFrame level at ∷ frames) = said_frames context frames ++ At (w.Reserved r.Not) at ∷ []
 said_frames context (ParenFrame level at ∷ frames) = said_frames context frames ++ At (w.Mark m.OpenParen) at ∷ []
-said_frames context (RightFrame level o left ∷ frames) = said_frames context frames ++ (spelled left ++ Any (op_word o) ∷ [])
+said_frames context (RightFrame level o at left ∷ frames) = said_frames context frames ++ (spelled left ++ At (op_word o) at ∷ [])
 
 abbrev said_aim : Aim → List Sign
 said_aim (ToWrite so_far at v) = said_actions so_far ++ At (verb_word v) at ∷ []
@@ -81,6 +82,7 @@ said_aim (ToTest context level frames at) = said_frames context frames ++ At (w.
 abbrev key_open : WrittenKey → List Sign
 key_open key.Alone = []
 key_open (key.OwnKey at) = Any (w.Mark m.OpenBracket) ∷ At (w.Reserved r.Key) at ∷ []
+key_open (key.OwnItem at) = Any (w.Mark m.OpenBracket) ∷ At (w.Name contextual.Item) at ∷ []
 key_open (key.Fixed n) = Any (w.Mark m.OpenBracket) ∷ number n
 
 abbrev keys_open : WrittenKeys → List Sign
@@ -96,7 +98,8 @@ said (CellForm n) = Any (w.Reserved r.Cell) ∷ name n
 said (CellSort n keyed) = Any (w.Reserved r.Cell) ∷ (name n ++ keyed_signs keyed)
 said TagName = Any (w.Reserved r.Tag) ∷ []
 said (TagForm n) = Any (w.Reserved r.Tag) ∷ name n
-said (TagValue n keyed) = Any (w.Reserved r.Tag) ∷ (name n ++ keyed_signs keyed)
+said (TagItem n keyed) = Any (w.Reserved r.Tag) ∷ (name n ++ keyed_signs keyed)
+said (TagValue n keyed item) = Any (w.Reserved r.Tag) ∷ (name n ++ keyed_signs keyed ++ item_signs item)
 said DependsFirst = Any (w.Reserved r.Depends) ∷ []
 said (DependsSecond a) = Any (w.Reserved r.Depends) ∷ name a
 said (DependsHow a b) = Any (w.Reserved r.Depends) ∷ (name a ++ name b)
@@ -149,9 +152,9 @@ moved a b t next e h = rw e h
 
 -- ---- where one word alone may follow
 
-name_says : (before : List Sign) (t : Token) (word : Word) (next : Now) → t.word ≡ word → Sound next → said next ≡ before ++ Spanned w.Name (span_of t) ∷ []
+name_says : (before : List Sign) (t : Token) (word : Word) (next : Now) → t.word ≡ word → Sound next → said next ≡ before ++ Named (span_of t) ∷ []
     → Says before t (on_name word next)
-name_says before t w.Name next e sound h = (Spanned w.Name (span_of t), (e, refl, refl), sound, h)
+name_says before t (w.Name c) next e sound h = (Named (span_of t), (rw e refl, refl, refl), sound, h)
 name_says before t _ next e sound h = tt
 
 text_says : (before : List Sign) (t : Token) (word : Word) (next : Now) → t.word ≡ word → Sound next → said next ≡ before ++ Spanned w.Text (span_of t) ∷ []
@@ -179,7 +182,7 @@ number_says before t _ next e sound h = tt
 
 sort_says : (n : WrittenSpan) (keyed : Bool) (t : Token) (word : Word) → t.word ≡ word → Says (said (CellSort n keyed)) t (sort_step n keyed (sort_of word))
 unfolding sort_of
-sort_says n keyed t (w.Reserved r.Sum) e = (Any (w.Reserved r.Sum), e, tt, ap (λ (x : List Sign). Any (w.Reserved r.Cell) ∷ Spanned w.Name n ∷ x) refl)
+sort_says n keyed t (w.Reserved r.Sum) e = (Any (w.Reserved r.Sum), e, tt, ap (λ (x : List Sign). Any (w.Reserved r.Cell) ∷ Named n ∷ x) refl)
 sort_says n keyed t (w.Reserved r.Max) e = (Any (w.Reserved r.Max), e, tt, refl)
 sort_says n keyed t (w.Reserved r.Last) e = (Any (w.Reserved r.Last), e, tt, refl)
 sort_says n keyed t _ e = tt
@@ -188,15 +191,23 @@ cell_says : (n : WrittenSpan) (t : Token) (word : Word) → t.word ≡ word → 
 cell_says n t (w.Reserved r.Keyed) e = (Any (w.Reserved r.Keyed), e, tt, refl)
 cell_says n t word e = sort_says n false t word e
 
-value_says : (n : WrittenSpan) (keyed : Bool) (t : Token) (word : Word) → t.word ≡ word → Says (said (TagValue n keyed)) t (value_step n keyed (value_of word))
+value_says : (n : WrittenSpan) (keyed : Bool) (item : Option ℕ) (t : Token) (word : Word) → t.word ≡ word
+    → Says (said (TagValue n keyed item)) t (value_step n keyed item (value_of word))
 unfolding value_of
-value_says n keyed t (w.Reserved r.Int) e = (Any (w.Reserved r.Int), e, tt, refl)
-value_says n keyed t (w.Reserved r.None) e = (Any (w.Reserved r.None), e, tt, refl)
-value_says n keyed t _ e = tt
+value_says n keyed item t (w.Reserved r.Int) e = (Any (w.Reserved r.Int), e, tt, refl)
+value_says n keyed item t (w.Reserved r.None) e = (Any (w.Reserved r.None), e, tt, refl)
+value_says n keyed item t _ e = tt
 
-tag_says : (n : WrittenSpan) (t : Token) (word : Word) → t.word ≡ word → Says (said (TagForm n)) t (tag_step n word)
+no_item_said : (n : WrittenSpan) (keyed : Bool) → said (TagItem n keyed) ≡ said (TagValue n keyed None)
+no_item_said n keyed = ap (λ (z : List Sign). Any (w.Reserved r.Tag) ∷ Named n ∷ z) (sym (append-nil (keyed_signs keyed)))
+
+item_says : (n : WrittenSpan) (keyed : Bool) (t : Token) (word : Word) → t.word ≡ word → Says (said (TagItem n keyed)) t (item_step n keyed t word)
+item_says n keyed t (w.Name contextual.Item) e = (At (w.Name contextual.Item) t.from, (e, refl), tt, refl)
+item_says n keyed t word e = moved _ _ t (value_step n keyed None (value_of word)) (no_item_said n keyed) (value_says n keyed None t word e)
+
+tag_says : (n : WrittenSpan) (t : Token) (word : Word) → t.word ≡ word → Says (said (TagForm n)) t (tag_step n t word)
 tag_says n t (w.Reserved r.Keyed) e = (Any (w.Reserved r.Keyed), e, tt, refl)
-tag_says n t word e = value_says n false t word e
+tag_says n t word e = item_says n false t word e
 
 how_says : (a b : WrittenSpan) (t : Token) (word : Word) → t.word ≡ word → Says (said (DependsHow a b)) t (how_step a b t word)
 how_says a b t (w.Reserved r.Same) e = (At (w.Reserved r.Same) t.from, (e, refl), tt, refl)
@@ -345,6 +356,8 @@ unfolding operator_of
 operator_says (w.Mark m.Plus) = refl
 operator_says (w.Mark m.Minus) = refl
 operator_says (w.Mark m.Times) = refl
+operator_says (w.Mark m.Divide) = refl
+operator_says (w.Mark m.Remainder) = refl
 operator_says (w.Mark m.Less) = refl
 operator_says (w.Mark m.LessEq) = refl
 operator_says (w.Mark m.More) = refl
@@ -371,7 +384,7 @@ begin_says : (context : Context) (level : ℕ) (frames : List Frame) (t : Token)
     → Says (said_frames context frames) t (begin context level frames t (start_of word))
 unfolding start_of
 begin_says context level frames t (w.Number n) e = (At (w.Number n) t.from, (e, refl), tt, refl)
-begin_says context level frames t w.Name e = (Spanned w.Name (span_of t), (e, refl, refl), tt, refl)
+begin_says context level frames t (w.Name c) e = (Named (span_of t), (rw e refl, refl, refl), tt, refl)
 begin_says context level frames t (w.Reserved r.Value) e = (At (w.Reserved r.Value) t.from, (e, refl), tt, refl)
 begin_says context level frames t (w.Reserved r.Key) e = (At (w.Reserved r.Key) t.from, (e, refl), tt, refl)
 begin_says context level frames t (w.Reserved r.Time) e = (At (w.Reserved r.Time) t.from, (e, refl), tt, refl)
@@ -390,14 +403,15 @@ begin_says context level frames t _ e = tt
 
 within_says : (context : Context) (low : ℕ) (tree : Tree) (frames : List Frame) (t : Token) (o : Op) (others : Next) (b : Bool) → t.word ≡ op_word o
     → Says (said_frames context frames ++ spelled tree) t others
-    → Says (said_frames context frames ++ spelled tree) t (cond b (Goes (InExpression context (Want (op_level o + 1)) (RightFrame low o tree ∷ frames))) others)
+    → Says (said_frames context frames ++ spelled tree) t
+    (cond b (Goes (InExpression context (Want (op_level o + 1)) (RightFrame low o t.from tree ∷ frames))) others)
 within_says context low tree frames t o others true e h =
-    (Any (op_word o), e, tt, sym (append_assoc (said_frames context frames) (spelled tree) (Any (op_word o) ∷ [])))
+    (At (op_word o) t.from, (e, refl), tt, sym (append_assoc (said_frames context frames) (spelled tree) (At (op_word o) t.from ∷ [])))
 within_says context low tree frames t o others false e h = h
 
 take_says : (context : Context) (low high : ℕ) (tree : Tree) (frames : List Frame) (t : Token) (o : Option Op) (others : Next)
     → IfSome o (λ o. op_word o ≡ t.word) → Says (said_frames context frames ++ spelled tree) t others
-    → Says (said_frames context frames ++ spelled tree) t (take_or context low high tree frames o others)
+    → Says (said_frames context frames ++ spelled tree) t (take_or context low high tree frames t.from o others)
 take_says context low high tree frames t None others i h = h
 take_says context low high tree frames t (Some o) others i h = within_says context low tree frames t o others (is_within low (op_level o) high) (sym i) h
 
@@ -427,29 +441,29 @@ right_moves : (f l x : List Sign) (o : Sign) → (f ++ (l ++ o ∷ [])) ++ x ≡
 right_moves f l x o = append_assoc f (l ++ o ∷ []) x ∙ ap (λ (z : List Sign). f ++ z) (append_assoc l (o ∷ []) x)
 
 done_says : (context : Context) (tree : Tree) (frames : List Frame) (t : Token)
-    → Says (said_frames context frames ++ spelled tree) t (done_step context tree frames t.word)
+    → Says (said_frames context frames ++ spelled tree) t (done_step context tree frames t)
 unfolding done_step
 done_says context tree [] t = behind_says context tree t
 done_says context tree (NegFrame level at ∷ frames) t =
     moved _ _ t _ (append_assoc (said_frames context frames) (At (w.Mark m.Minus) at ∷ []) (spelled tree))
-    (take_says context level 6 (NegTree at tree) frames t (operator_of t.word) (done_step context (NegTree at tree) frames t.word) (operator_says t.word)
+    (take_says context level 6 (NegTree at tree) frames t (operator_of t.word) (done_step context (NegTree at tree) frames t) (operator_says t.word)
     (done_says context (NegTree at tree) frames t))
 done_says context tree (NotFrame level at ∷ frames) t =
     moved _ _ t _ (append_assoc (said_frames context frames) (At (w.Reserved r.Not) at ∷ []) (spelled tree))
-    (take_says context level 2 (NotTree at tree) frames t (operator_of t.word) (done_step context (NotTree at tree) frames t.word) (operator_says t.word)
+    (take_says context level 2 (NotTree at tree) frames t (operator_of t.word) (done_step context (NotTree at tree) frames t) (operator_says t.word)
     (done_says context (NotTree at tree) frames t))
 done_says context tree (ParenFrame level at ∷ frames) t = paren_says context level at tree frames t (is_close t.word) (close_is t.word)
-done_says context tree (RightFrame level o left ∷ frames) t =
-    moved _ _ t _ (right_moves (said_frames context frames) (spelled left) (spelled tree) (Any (op_word o)))
-    (take_says context level (level_behind (op_level o)) (TwoTree o left tree) frames t (operator_of t.word)
-    (done_step context (TwoTree o left tree) frames t.word) (operator_says t.word) (done_says context (TwoTree o left tree) frames t))
+done_says context tree (RightFrame level o at left ∷ frames) t =
+    moved _ _ t _ (right_moves (said_frames context frames) (spelled left) (spelled tree) (At (op_word o) at))
+    (take_says context level (level_behind (op_level o)) (TwoTree o at left tree) frames t (operator_of t.word)
+    (done_step context (TwoTree o at left tree) frames t) (operator_says t.word) (done_says context (TwoTree o at left tree) frames t))
 
 expression_says : (context : Context) (mode : Mode) (frames : List Frame) (t : Token)
     → Says (said (InExpression context mode frames)) t (expression_step context mode frames t)
 unfolding expression_step
 expression_says context (Want level) frames t = begin_says context level frames t t.word refl
 expression_says context (Have low high tree) frames t =
-    take_says context low high tree frames t (operator_of t.word) (done_step context tree frames t.word) (operator_says t.word)
+    take_says context low high tree frames t (operator_of t.word) (done_step context tree frames t) (operator_says t.word)
     (done_says context tree frames t)
 expression_says context (Done tree) frames t = done_says context tree frames t
 
@@ -488,6 +502,13 @@ key_says aim family t (w.Reserved r.Key) e = (
   sym
       (append_assoc (said_aim aim) (name family ++ Any (w.Mark m.OpenBracket) ∷ []) (At (w.Reserved r.Key) t.from ∷ [])),
 )
+key_says aim family t (w.Name contextual.Item) e = (
+  At (w.Name contextual.Item) t.from,
+  (e, refl),
+  (λ bad. cc),
+  sym
+      (append_assoc (said_aim aim) (name family ++ Any (w.Mark m.OpenBracket) ∷ []) (At (w.Name contextual.Item) t.from ∷ [])),
+)
 key_says aim family t (w.Number n) e = (
   At (w.Number n) t.from,
   (e, refl),
@@ -500,6 +521,7 @@ key_says aim family t _ e = tt
 key_closes : (k : WrittenKey) → k ≢ key.Alone → key_open k ++ Any (w.Mark m.CloseBracket) ∷ [] ≡ key_signs k
 key_closes key.Alone ne = absurd (ne refl)
 key_closes (key.OwnKey at) ne = refl
+key_closes (key.OwnItem at) ne = refl
 key_closes (key.Fixed n) ne = refl
 
 cell_close_says : (aim : Aim) (cell : WrittenRef) (t : Token) → cell.key ≢ key.Alone → Says (said (CellClose aim cell)) t (on_bracket t.word (named aim cell))
@@ -519,7 +541,8 @@ step_says (CellForm n) t sound = cell_says n t t.word refl
 step_says (CellSort n keyed) t sound = sort_says n keyed t t.word refl
 step_says TagName t sound = name_says (said TagName) t t.word (TagForm (span_of t)) refl tt refl
 step_says (TagForm n) t sound = tag_says n t t.word refl
-step_says (TagValue n keyed) t sound = value_says n keyed t t.word refl
+step_says (TagItem n keyed) t sound = item_says n keyed t t.word refl
+step_says (TagValue n keyed item) t sound = value_says n keyed item t t.word refl
 step_says DependsFirst t sound = name_says (said DependsFirst) t t.word (DependsSecond (span_of t)) refl tt refl
 step_says (DependsSecond a) t sound = name_says (said (DependsSecond a)) t t.word (DependsHow a (span_of t)) refl tt refl
 step_says (DependsHow a b) t sound = how_says a b t t.word refl
@@ -605,9 +628,9 @@ done_spelt context tree (NotFrame level at ∷ frames) =
     spelt_moved _ _ (done_whole context (NotTree at tree) frames) (append_assoc (said_frames context frames) (At (w.Reserved r.Not) at ∷ []) (spelled tree))
     (done_spelt context (NotTree at tree) frames)
 done_spelt context tree (ParenFrame level at ∷ frames) = tt
-done_spelt context tree (RightFrame level o left ∷ frames) =
-    spelt_moved _ _ (done_whole context (TwoTree o left tree) frames)
-    (right_moves (said_frames context frames) (spelled left) (spelled tree) (Any (op_word o))) (done_spelt context (TwoTree o left tree) frames)
+done_spelt context tree (RightFrame level o at left ∷ frames) =
+    spelt_moved _ _ (done_whole context (TwoTree o at left tree) frames)
+    (right_moves (said_frames context frames) (spelled left) (spelled tree) (At (op_word o) at)) (done_spelt context (TwoTree o at left tree) frames)
 
 keys_spelt : (aim : Aim) (family : WrittenSpan) → Spelt (said (CellKeys aim family)) (named_whole aim (cell_of family key.Alone))
 keys_spelt (ToWrite so_far at v) family = tt
@@ -645,7 +668,8 @@ whole_spelt (CellForm n) sound = tt
 whole_spelt (CellSort n keyed) sound = tt
 whole_spelt TagName sound = tt
 whole_spelt (TagForm n) sound = tt
-whole_spelt (TagValue n keyed) sound = tt
+whole_spelt (TagItem n keyed) sound = tt
+whole_spelt (TagValue n keyed item) sound = tt
 whole_spelt DependsFirst sound = tt
 whole_spelt (DependsSecond a) sound = tt
 whole_spelt SourceName sound = tt

@@ -131,7 +131,7 @@ is_job end (v ∷ tokens) job e =
 not_version : (d : Declaration) (more : List Sign) (t : Token) (tokens : List Token) → AreSigns (declaration_signs d ++ more) (t ∷ tokens)
     → t.word ≢ version_word
 not_version (Cell n keyed sort) more t tokens are = let first : t.word ≡ w.Reserved r.Cell = are.0 in λ e. cc
-not_version (Tag n keyed has_value) more t tokens are = let first : t.word ≡ w.Reserved r.Tag = are.0 in λ e. cc
+not_version (Tag n keyed item has_value) more t tokens are = let first : t.word ≡ w.Reserved r.Tag = are.0 in λ e. cc
 not_version (Depends a b how) more t tokens are = let first : t.word ≡ w.Reserved r.Depends = are.0 in λ e. cc
 not_version (On kind actions) more t tokens are = let first : t.word ≡ w.Reserved r.On = are.0 in λ e. cc
 not_version (Source n file rate slack tags) more t tokens are = let first : t.word ≡ w.Reserved r.Source = are.0 in λ e. cc

@@ -3,6 +3,7 @@ use Rattle.std.proofs.Common.{◌≡◌, ℕ, List, [], ◌∷◌, ◌++◌, Opt
 use Rattle.flu_text.specs.declared.words.Token.{Token}
 use Rattle.flu_text.specs.declared.words.Word.{Word}
 use Rattle.flu_text.specs.declared.words.Word.TheVariants as w
+use Rattle.flu_text.specs.declared.words.Contextual.TheVariants as contextual
 use Rattle.flu_names.specs.declared.reserved.Reserved.TheVariants as r
 use Rattle.flu_text.specs.declared.words.Mark.TheVariants as m
 use Rattle.flu_text.specs.declared.written.WrittenSpan.{WrittenSpan}
@@ -15,7 +16,7 @@ use Rattle.flu_syntax.specs.Tree.{Tree, NumberTree, ParenTree, NegTree, NotTree,
 use Rattle.flu_text.specs.Signs.{span_of, number_of}
 use Rattle.flu_syntax.specs.Machine.{cell_of, tag_of, Actions, Tags, Context, Amount, Guard, Frame, NegFrame, NotFrame, ParenFrame, RightFrame, Mode, Want}
 use Rattle.flu_syntax.specs.Machine.{Have, Done, Aim, ToWrite, ToClear, ToRead, ToTest, Now, Start, Declared, CellName, CellForm, CellSort, TagName, TagForm}
-use Rattle.flu_syntax.specs.Machine.{TagValue, DependsFirst, DependsSecond, DependsHow, SourceName, SourceFile, SourceRate, RateNumber, SourceSlack}
+use Rattle.flu_syntax.specs.Machine.{TagItem, TagValue, DependsFirst, DependsSecond, DependsHow, SourceName, SourceFile, SourceRate, RateNumber, SourceSlack}
 use Rattle.flu_syntax.specs.Machine.{SlackNumber, SourceColon, TagKind, TagKeys, TagLow, TagMore, TagHigh, TagClose, TagEnd, OnKind, OnColon, ActionStart}
 use Rattle.flu_syntax.specs.Machine.{DeedEnd, ActionEnd, EmitText, FlushFamily, FlushText, CellFamily, CellKeys, CellKey, CellClose, InExpression, Next, Goes}
 use Rattle.flu_syntax.specs.Machine.{Deep, Refused, operator_of, start_of, doing_of, sort_of, value_of, level_behind, behind, named, source_of, listed}
@@ -28,6 +29,9 @@ use Rattle.flu_syntax.proofs.Runs.{run-takes, run-neg, run-not, run-right, run-p
 
 abbrev token : Word → Token
 token word = record { word = word; from = 0; to = 0 }
+
+abbrev a_name : Token
+a_name = token (w.Name contextual.Other)
 
 -- what stands at this turn can be ended
 abbrev pub Can : ℕ → Declarations → Now → Type 0
@@ -48,7 +52,7 @@ closing [] = []
 closing (NegFrame level at ∷ frames) = closing frames
 closing (NotFrame level at ∷ frames) = closing frames
 closing (ParenFrame level at ∷ frames) = token (w.Mark m.CloseParen) ∷ closing frames
-closing (RightFrame level o left ∷ frames) = closing frames
+closing (RightFrame level o at left ∷ frames) = closing frames
 
 abbrev Ended : ℕ → Declarations → Now → List Token → Type 0
 Ended end job now tokens = (found : Declarations) × (run end job now tokens ≡ Found found)
@@ -61,7 +65,7 @@ quiet low high end job context t frames (NegFrame level at ∷ fs) = quiet low h
 quiet low high end job context t frames (NotFrame level at ∷ fs) = quiet low high end job context t frames fs
 quiet low high end job context t frames (ParenFrame level at ∷ fs) =
     pass_word low high end job context t frames (token (w.Mark m.CloseParen)) (closing (ParenFrame level at ∷ fs)) (closing fs) refl refl
-quiet low high end job context t frames (RightFrame level o left ∷ fs) = quiet low high end job context t frames fs
+quiet low high end job context t frames (RightFrame level o at left ∷ fs) = quiet low high end job context t frames fs
 
 so : (end : ℕ) (job : Declarations) (a b : Now) (xs ys : List Token) → run end job a xs ≡ run end job b ys → Ended end job b ys → Ended end job a xs
 so end job a b xs ys e h = (h.0, e ∙ h.1)
@@ -85,11 +89,11 @@ closed end job context t (ParenFrame level at ∷ frames) =
     (run-paren end level at job context t frames (token (w.Mark m.CloseParen)) (token (w.Mark m.CloseParen) ∷ closing frames) (closing frames) refl refl
     ∙ quiet level 6 end job context (ParenTree at t) frames frames)
     (closed end job context (ParenTree at t) frames)
-closed end job context t (RightFrame level o left ∷ frames) =
+closed end job context t (RightFrame level o at left ∷ frames) =
     so end job _ _ _ _
-    (run-right end level job context o left t frames (closing frames)
-    ∙ quiet level (level_behind (op_level o)) end job context (TwoTree o left t) frames frames)
-    (closed end job context (TwoTree o left t) frames)
+    (run-right end level at job context o left t frames (closing frames)
+    ∙ quiet level (level_behind (op_level o)) end job context (TwoTree o at left t) frames frames)
+    (closed end job context (TwoTree o at left t) frames)
 
 expression_can : (end : ℕ) (job : Declarations) (context : Context) (mode : Mode) (frames : List Frame) → Can end job (InExpression context mode frames)
 unfolding step expression_step start_of
@@ -132,7 +136,7 @@ keys_can end job aim family = via end job _ (CellKey aim family) (token (w.Mark 
 kind_can : (end : ℕ) (job : Declarations) (so_far : Tags) → Can end job (TagKind so_far)
 unfolding step whole
 kind_can end job so_far =
-    via end job _ (TagKeys so_far (span_of (token w.Name))) (token w.Name) refl (whole_can end job _ (TagKeys so_far (span_of (token w.Name))) refl)
+    via end job _ (TagKeys so_far (span_of a_name)) a_name refl (whole_can end job _ (TagKeys so_far (span_of a_name)) refl)
 
 tag_end_can : (end : ℕ) (job : Declarations) (so_far : Tags) → Can end job (TagEnd so_far)
 unfolding whole
@@ -194,7 +198,7 @@ how_can end job a b = whole_can end job _ (DependsHow a b) refl
 
 second_can : (end : ℕ) (job : Declarations) (a : WrittenSpan) → Can end job (DependsSecond a)
 unfolding step
-second_can end job a = via end job _ (DependsHow a (span_of (token w.Name))) (token w.Name) refl (how_can end job a _)
+second_can end job a = via end job _ (DependsHow a (span_of a_name)) a_name refl (how_can end job a _)
 
 -- ---- each turn
 
@@ -202,16 +206,17 @@ pub can : (end : ℕ) (job : Declarations) (now : Now) → Can end job now
 unfolding step whole sort_of value_of
 can end job Start = whole_can end job _ Start refl
 can end job (Declared d) = whole_can end job _ (Declared d) refl
-can end job CellName = via end job _ (CellForm (span_of (token w.Name))) (token w.Name) refl (form_can end job _)
+can end job CellName = via end job _ (CellForm (span_of a_name)) a_name refl (form_can end job _)
 can end job (CellForm name) = form_can end job name
 can end job (CellSort name keyed) = via end job _ (Declared _) (token (w.Reserved r.Sum)) refl (whole_can end job _ (Declared _) refl)
-can end job TagName = via end job _ (TagForm (span_of (token w.Name))) (token w.Name) refl (tag_form_can end job _)
+can end job TagName = via end job _ (TagForm (span_of a_name)) a_name refl (tag_form_can end job _)
 can end job (TagForm name) = tag_form_can end job name
-can end job (TagValue name keyed) = via end job _ (Declared _) (token (w.Reserved r.Int)) refl (whole_can end job _ (Declared _) refl)
-can end job DependsFirst = via end job _ (DependsSecond (span_of (token w.Name))) (token w.Name) refl (second_can end job _)
+can end job (TagItem name keyed) = via end job _ (Declared _) (token (w.Reserved r.Int)) refl (whole_can end job _ (Declared _) refl)
+can end job (TagValue name keyed item) = via end job _ (Declared _) (token (w.Reserved r.Int)) refl (whole_can end job _ (Declared _) refl)
+can end job DependsFirst = via end job _ (DependsSecond (span_of a_name)) a_name refl (second_can end job _)
 can end job (DependsSecond a) = second_can end job a
 can end job (DependsHow a b) = how_can end job a b
-can end job SourceName = via end job _ (SourceFile (span_of (token w.Name))) (token w.Name) refl (file_can end job _)
+can end job SourceName = via end job _ (SourceFile (span_of a_name)) a_name refl (file_can end job _)
 can end job (SourceFile name) = file_can end job name
 can end job (SourceRate name file) = rate_can end job name file
 can end job (RateNumber name file) =
@@ -230,15 +235,15 @@ can end job (TagHigh so_far kind low) =
     (tag_close_can end job _ _ _)
 can end job (TagClose so_far kind ks) = tag_close_can end job so_far kind ks
 can end job (TagEnd so_far) = tag_end_can end job so_far
-can end job OnKind = via end job _ (OnColon (span_of (token w.Name))) (token w.Name) refl (on_can end job _)
+can end job OnKind = via end job _ (OnColon (span_of a_name)) a_name refl (on_can end job _)
 can end job (OnColon kind) = on_can end job kind
 can end job (ActionStart so_far) = action_can end job so_far
 can end job (DeedEnd so_far at deed) = deed_can end job so_far at deed
 can end job (ActionEnd so_far) = whole_can end job _ (ActionEnd so_far) refl
 can end job (EmitText so_far at) = emit_can end job so_far at
-can end job (FlushFamily so_far at) = via end job _ (FlushText so_far at (span_of (token w.Name))) (token w.Name) refl (flush_can end job so_far at _)
+can end job (FlushFamily so_far at) = via end job _ (FlushText so_far at (span_of a_name)) a_name refl (flush_can end job so_far at _)
 can end job (FlushText so_far at family) = flush_can end job so_far at family
-can end job (CellFamily aim) = via end job _ (CellKeys aim (span_of (token w.Name))) (token w.Name) refl (keys_can end job aim _)
+can end job (CellFamily aim) = via end job _ (CellKeys aim (span_of a_name)) a_name refl (keys_can end job aim _)
 can end job (CellKeys aim family) = keys_can end job aim family
 can end job (CellKey aim family) = key_can end job aim family
 can end job (CellClose aim cell) = close_can end job aim cell

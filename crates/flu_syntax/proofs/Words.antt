@@ -45,6 +45,7 @@ module _ (P : Sign → Type 0) where
       of_key : (k : WrittenKey) → AllByRecursion P (key_signs k) → AllByRecursion P (key_words k)
       of_key key.Alone all = tt
       of_key (key.OwnKey at) all = tt
+      of_key (key.OwnItem at) all = tt
       of_key (key.Fixed n) all = (all.1.0, tt)
 
   tree_has : (e : Tree) → AllByRecursion P (spelled e) → AllByRecursion P (tree_words e)
@@ -57,7 +58,7 @@ module _ (P : Sign → Type 0) where
   tree_has (ParenTree at inner) all = tree_has inner (all_front P (spelled inner) (Any (w.Mark m.CloseParen) ∷ []) all.1)
   tree_has (NegTree at inner) all = tree_has inner all.1
   tree_has (NotTree at inner) all = tree_has inner all.1
-  tree_has (TwoTree o left right) all =
+  tree_has (TwoTree o at left right) all =
       all_append P (tree_words left) (tree_words right) (tree_has left (all_front P (spelled left) _ all)) (tree_has right (all_back P (spelled left) _ all).1)
 
   deed_has : (at : ℕ) (d : Deed) → AllByRecursion P (deed_signs at d) → AllByRecursion P (deed_words d)
@@ -100,7 +101,7 @@ module _ (P : Sign → Type 0) where
 
   declaration_has : (d : Declaration) → AllByRecursion P (declaration_signs d) → AllByRecursion P (declaration_words d)
   declaration_has (Cell n keyed sort) all = (all.1.0, tt)
-  declaration_has (Tag n keyed has_value) all = (all.1.0, tt)
+  declaration_has (Tag n keyed item has_value) all = (all.1.0, tt)
   declaration_has (Depends a b relation) all = (all.1.0, (all.1.1.0, tt))
   declaration_has (On kind actions) all = (all.1.0, separated_items (w.Mark m.Semicolon) action_signs action_words action_has actions all.1.1.1)
   declaration_has (Source n file rate slack tags) all =

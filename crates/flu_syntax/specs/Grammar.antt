@@ -4,6 +4,7 @@ use Rattle.std.specs.List.{flat_map}
 use Rattle.flu_text.specs.declared.words.Word.{Word}
 use Rattle.flu_text.specs.declared.words.Word.TheVariants as w
 use Rattle.flu_names.specs.declared.reserved.Reserved.TheVariants as r
+use Rattle.flu_text.specs.declared.words.Contextual.TheVariants as contextual
 use Rattle.flu_text.specs.declared.words.Mark.TheVariants as m
 use Rattle.flu_text.specs.declared.words.Token.{Token}
 use Rattle.flu_text.specs.Signs.{Sign, Any, At, AreSigns, name, text, number, separated, keys_signs}
@@ -37,6 +38,8 @@ op_word op.Differs = w.Mark m.Differs
 op_word op.Plus = w.Mark m.Plus
 op_word op.Minus = w.Mark m.Minus
 op_word op.Times = w.Mark m.Times
+op_word op.Divide = w.Mark m.Divide
+op_word op.Remainder = w.Mark m.Remainder
 
 abbrev pub sort_word : Sort → Word
 sort_word sort.Sum = w.Reserved r.Sum
@@ -54,10 +57,11 @@ verb_word verb.Set = w.Reserved r.Set
 
 -- ---- the grammar
 
--- NAME [ "[" ("key" | NUMBER) "]" ]
+-- NAME [ "[" ("key" | "item" | NUMBER) "]" ], where `item` is a name that spells it
 abbrev pub key_signs : WrittenKey → List Sign
 key_signs key.Alone = []
 key_signs (key.OwnKey at) = Any (w.Mark m.OpenBracket) ∷ At (w.Reserved r.Key) at ∷ Any (w.Mark m.CloseBracket) ∷ []
+key_signs (key.OwnItem at) = Any (w.Mark m.OpenBracket) ∷ At (w.Name contextual.Item) at ∷ Any (w.Mark m.CloseBracket) ∷ []
 key_signs (key.Fixed n) = Any (w.Mark m.OpenBracket) ∷ (number n ++ Any (w.Mark m.CloseBracket) ∷ [])
 
 abbrev pub cell_signs : WrittenRef → List Sign
@@ -75,7 +79,7 @@ spelled (HasTree at cell) = At (w.Reserved r.Has) at ∷ cell_signs cell
 spelled (ParenTree at inner) = At (w.Mark m.OpenParen) at ∷ (spelled inner ++ Any (w.Mark m.CloseParen) ∷ [])
 spelled (NegTree at inner) = At (w.Mark m.Minus) at ∷ spelled inner
 spelled (NotTree at inner) = At (w.Reserved r.Not) at ∷ spelled inner
-spelled (TwoTree o left right) = spelled left ++ Any (op_word o) ∷ spelled right
+spelled (TwoTree o at left right) = spelled left ++ At (op_word o) at ∷ spelled right
 
 -- the level of an operator: the greater, the closer it binds
 abbrev pub op_level : Op → ℕ
@@ -90,13 +94,15 @@ op_level op.Differs = 3
 op_level op.Plus = 4
 op_level op.Minus = 4
 op_level op.Times = 5
+op_level op.Divide = 5
+op_level op.Remainder = 5
 
 -- the level of a left operand: operators group to the left, and comparisons do not group
 abbrev pub left_level : ℕ → ℕ
 left_level level = if level == 3 then 4 else level
 
 -- The expression may occur where operators of this level and above are expected: from `or` as 0 over `and`, `not`, the
--- comparisons, `+` and `-`, `*`, to unary `-` and what is alone as 6.
+-- comparisons, `+` and `-`, `*`, `/` and `%`, to unary `-` and what is alone as 6.
 abbrev pub Fits : ℕ → Tree → Type 0
 Fits level (NumberTree n) = Unit {0}
 Fits level (ValueTree at) = Unit {0}
@@ -107,7 +113,7 @@ Fits level (HasTree at cell) = Unit {0}
 Fits level (ParenTree at inner) = Fits 0 inner
 Fits level (NegTree at inner) = Fits 6 inner
 Fits level (NotTree at inner) = (level ≤ 2) × Fits 2 inner
-Fits level (TwoTree o left right) = (level ≤ op_level o) × Fits (left_level (op_level o)) left × Fits (op_level o + 1) right
+Fits level (TwoTree o at left right) = (level ≤ op_level o) × Fits (left_level (op_level o)) left × Fits (op_level o + 1) right
 
 -- how many parentheses and unary operators are open at once in an expression
 abbrev pub nest : Tree → ℕ
@@ -120,7 +126,7 @@ nest (HasTree at cell) = 0
 nest (ParenTree at inner) = nest inner + 1
 nest (NegTree at inner) = nest inner + 1
 nest (NotTree at inner) = nest inner + 1
-nest (TwoTree o left right) = max (nest left) (nest right)
+nest (TwoTree o at left right) = max (nest left) (nest right)
 
 -- an expression by the levels, with at most this many open at once
 abbrev pub IsExpression : ℕ → Tree → Type 0
@@ -163,6 +169,11 @@ abbrev pub keyed_signs : Bool → List Sign
 keyed_signs true = Any (w.Reserved r.Keyed) ∷ []
 keyed_signs false = []
 
+-- ["item"], a name that spells it
+abbrev pub item_signs : Option ℕ → List Sign
+item_signs None = []
+item_signs (Some at) = At (w.Name contextual.Item) at ∷ []
+
 -- ["same" | "all"]
 abbrev pub relation_signs : WrittenRelation → List Sign
 relation_signs relation.None = []
@@ -179,12 +190,13 @@ abbrev pub slack_signs : Option WrittenNumber → List Sign
 slack_signs None = []
 slack_signs (Some n) = Any (w.Reserved r.Slack) ∷ number n
 
--- "cell" NAME ["keyed"] ("sum" | "max" | "last") | "tag" NAME ["keyed"] ("int" | "none") | "depends" NAME NAME ["same" | "all"]
+-- "cell" NAME ["keyed"] ("sum" | "max" | "last") | "tag" NAME ["keyed"] ["item"] ("int" | "none") | "depends" NAME NAME ["same" | "all"]
 --     | "on" NAME ":" action { ";" action }
 --     | "source" NAME TEXT ["rate" NUMBER] ["slack" NUMBER] ":" tagref { "," tagref }
 abbrev pub declaration_signs : Declaration → List Sign
 declaration_signs (Cell n keyed s) = Any (w.Reserved r.Cell) ∷ (name n ++ keyed_signs keyed ++ Any (sort_word s) ∷ [])
-declaration_signs (Tag n keyed has_value) = Any (w.Reserved r.Tag) ∷ (name n ++ keyed_signs keyed ++ Any (value_word has_value) ∷ [])
+declaration_signs (Tag n keyed item has_value) =
+    Any (w.Reserved r.Tag) ∷ (name n ++ keyed_signs keyed ++ item_signs item ++ Any (value_word has_value) ∷ [])
 declaration_signs (Depends a b how) = Any (w.Reserved r.Depends) ∷ (name a ++ name b ++ relation_signs how)
 declaration_signs (On kind actions) = Any (w.Reserved r.On) ∷ (name kind ++ Any (w.Mark m.Colon) ∷ separated (w.Mark m.Semicolon) action_signs actions)
 declaration_signs (Source n file rate slack tags) =
@@ -193,7 +205,7 @@ declaration_signs (Source n file rate slack tags) =
 
 abbrev pub IsDeclaration : ℕ → Declaration → Type 0
 IsDeclaration most (Cell n keyed s) = Unit {0}
-IsDeclaration most (Tag n keyed has_value) = Unit {0}
+IsDeclaration most (Tag n keyed item has_value) = Unit {0}
 IsDeclaration most (Depends a b how) = Unit {0}
 IsDeclaration most (On kind actions) = (actions ≢ []) × AreActions most actions
 IsDeclaration most (Source n file rate slack tags) = tags ≢ []

@@ -6,6 +6,7 @@ use Rattle.flu_text.specs.declared.words.Word.{Word}
 use Rattle.flu_text.specs.declared.words.Word.TheVariants as w
 use Rattle.flu_names.specs.declared.reserved.Reserved.{Reserved}
 use Rattle.flu_names.specs.declared.reserved.Reserved.TheVariants as r
+use Rattle.flu_text.specs.declared.words.Contextual.TheVariants as contextual
 use Rattle.flu_text.specs.declared.words.Mark.{Mark}
 use Rattle.flu_text.specs.declared.words.Mark.TheVariants as m
 use Rattle.flu_text.specs.declared.words.Token.{Token}
@@ -65,7 +66,7 @@ pub data Frame : Type 0 where
   NegFrame : (level at : ℕ) → Frame
   NotFrame : (level at : ℕ) → Frame
   ParenFrame : (level at : ℕ) → Frame
-  RightFrame : (level : ℕ) (o : Op) (left : Tree) → Frame
+  RightFrame : (level : ℕ) (o : Op) (at : ℕ) (left : Tree) → Frame
 
 -- how far an expression is
 pub data Mode : Type 0 where
@@ -93,10 +94,11 @@ pub data Now : Type 0 where
   CellName : Now
   CellForm : (name : WrittenSpan) → Now
   CellSort : (name : WrittenSpan) (keyed : Bool) → Now
-  -- after `tag`, after its name, after `keyed`
+  -- after `tag`, after its name, after `keyed`, after `item`
   TagName : Now
   TagForm : (name : WrittenSpan) → Now
-  TagValue : (name : WrittenSpan) (keyed : Bool) → Now
+  TagItem : (name : WrittenSpan) (keyed : Bool) → Now
+  TagValue : (name : WrittenSpan) (keyed : Bool) (item : Option ℕ) → Now
   -- after `depends`, after its first name, after its second name
   DependsFirst : Now
   DependsSecond : (a : WrittenSpan) → Now
@@ -147,6 +149,8 @@ abbrev pub mark_operator : Mark → Option Op
 mark_operator m.Plus = Some op.Plus
 mark_operator m.Minus = Some op.Minus
 mark_operator m.Times = Some op.Times
+mark_operator m.Divide = Some op.Divide
+mark_operator m.Remainder = Some op.Remainder
 mark_operator m.Less = Some op.Less
 mark_operator m.LessEq = Some op.LessEq
 mark_operator m.More = Some op.More
@@ -163,7 +167,7 @@ reserved_operator _ = None
 unfoldable pub operator_of : Word → Option Op
 operator_of (w.Mark mark) = mark_operator mark
 operator_of (w.Reserved word) = reserved_operator word
-operator_of w.Name = None
+operator_of (w.Name c) = None
 operator_of (w.Number n) = None
 operator_of w.Text = None
 
@@ -203,7 +207,7 @@ behind_step (Guard so_far at deed) t word = action_step (acted so_far at deed (S
 
 unfoldable pub start_of : Word → Front
 start_of (w.Number n) = start.Number n
-start_of w.Name = start.Family
+start_of (w.Name c) = start.Family
 start_of (w.Reserved r.Value) = start.Value
 start_of (w.Reserved r.Key) = start.Key
 start_of (w.Reserved r.Time) = start.Time
@@ -222,7 +226,7 @@ abbrev pub opens_of : Frame → ℕ
 opens_of (NegFrame level at) = 1
 opens_of (NotFrame level at) = 1
 opens_of (ParenFrame level at) = 1
-opens_of (RightFrame level o left) = 0
+opens_of (RightFrame level o at left) = 0
 
 unfoldable pub opens : List Frame → ℕ
 opens [] = 0
@@ -247,26 +251,28 @@ begin context level frames t start.Minus = deeper frames (InExpression context (
 begin context level frames t start.Open = deeper frames (InExpression context (Want 0) (ParenFrame level t.from ∷ frames))
 begin context level frames t start.Other = Refused
 
-abbrev pub take_or : Context → ℕ → ℕ → Tree → List Frame → Option Op → Next → Next
-take_or context low high t frames None others = others
-take_or context low high t frames (Some o) others =
-    if is_within low (op_level o) high then Goes (InExpression context (Want (op_level o + 1)) (RightFrame low o t ∷ frames)) else others
+-- an operator at a place takes it as its left operand, or others have their turn
+abbrev pub take_or : Context → ℕ → ℕ → Tree → List Frame → ℕ → Option Op → Next → Next
+take_or context low high t frames at None others = others
+take_or context low high t frames at (Some o) others =
+    if is_within low (op_level o) high then Goes (InExpression context (Want (op_level o + 1)) (RightFrame low o at t ∷ frames)) else others
 
 -- an expression that no operator takes is a part of what is open
-unfoldable pub done_step : Context → Tree → List Frame → Word → Next
-done_step context t [] word = behind_step context t word
-done_step context t (NegFrame level at ∷ frames) word =
-    take_or context level 6 (NegTree at t) frames (operator_of word) (done_step context (NegTree at t) frames word)
-done_step context t (NotFrame level at ∷ frames) word =
-    take_or context level 2 (NotTree at t) frames (operator_of word) (done_step context (NotTree at t) frames word)
-done_step context t (ParenFrame level at ∷ frames) word = if is_close word then atom context level frames (ParenTree at t) else Refused
-done_step context t (RightFrame level o left ∷ frames) word =
-    take_or context level (level_behind (op_level o)) (TwoTree o left t) frames (operator_of word) (done_step context (TwoTree o left t) frames word)
+unfoldable pub done_step : Context → Tree → List Frame → Token → Next
+done_step context t [] x = behind_step context t x.word
+done_step context t (NegFrame level at ∷ frames) x =
+    take_or context level 6 (NegTree at t) frames x.from (operator_of x.word) (done_step context (NegTree at t) frames x)
+done_step context t (NotFrame level at ∷ frames) x =
+    take_or context level 2 (NotTree at t) frames x.from (operator_of x.word) (done_step context (NotTree at t) frames x)
+done_step context t (ParenFrame level at ∷ frames) x = if is_close x.word then atom context level frames (ParenTree at t) else Refused
+done_step context t (RightFrame level o at left ∷ frames) x =
+    take_or context level (level_behind (op_level o)) (TwoTree o at left t) frames x.from (operator_of x.word)
+    (done_step context (TwoTree o at left t) frames x)
 
 unfoldable pub expression_step : Context → Mode → List Frame → Token → Next
 expression_step context (Want level) frames t = begin context level frames t (start_of t.word)
-expression_step context (Have low high e) frames t = take_or context low high e frames (operator_of t.word) (done_step context e frames t.word)
-expression_step context (Done e) frames t = done_step context e frames t.word
+expression_step context (Have low high e) frames t = take_or context low high e frames t.from (operator_of t.word) (done_step context e frames t)
+expression_step context (Done e) frames t = done_step context e frames t
 
 -- ---- cells
 
@@ -289,6 +295,7 @@ keys_step aim family t _ = named_step aim (cell_of family key.Alone) t
 
 abbrev pub key_step : Aim → WrittenSpan → Token → Word → Next
 key_step aim family t (w.Reserved r.Key) = Goes (CellClose aim (cell_of family (key.OwnKey t.from)))
+key_step aim family t (w.Name contextual.Item) = Goes (CellClose aim (cell_of family (key.OwnItem t.from)))
 key_step aim family t (w.Number n) = Goes (CellClose aim (cell_of family (key.Fixed (number_of n t))))
 key_step aim family t _ = Refused
 
@@ -296,7 +303,7 @@ key_step aim family t _ = Refused
 
 -- where only one word may follow
 abbrev pub on_name : Word → Now → Next
-on_name w.Name now = Goes now
+on_name (w.Name c) now = Goes now
 on_name _ now = Refused
 
 abbrev pub on_text : Word → Now → Next
@@ -334,13 +341,17 @@ value_of (w.Reserved r.Int) = Some true
 value_of (w.Reserved r.None) = Some false
 value_of _ = None
 
-abbrev pub value_step : WrittenSpan → Bool → Option Bool → Next
-value_step name keyed None = Refused
-value_step name keyed (Some has_value) = Goes (Declared (Tag name keyed has_value))
+abbrev pub value_step : WrittenSpan → Bool → Option ℕ → Option Bool → Next
+value_step name keyed item None = Refused
+value_step name keyed item (Some has_value) = Goes (Declared (Tag name keyed item has_value))
 
-abbrev pub tag_step : WrittenSpan → Word → Next
-tag_step name (w.Reserved r.Keyed) = Goes (TagValue name true)
-tag_step name word = value_step name false (value_of word)
+abbrev pub item_step : WrittenSpan → Bool → Token → Word → Next
+item_step name keyed t (w.Name contextual.Item) = Goes (TagValue name keyed (Some t.from))
+item_step name keyed t word = value_step name keyed None (value_of word)
+
+abbrev pub tag_step : WrittenSpan → Token → Word → Next
+tag_step name t (w.Reserved r.Keyed) = Goes (TagItem name true)
+tag_step name t word = item_step name false t word
 
 abbrev pub how_step : WrittenSpan → WrittenSpan → Token → Word → Next
 how_step a b t (w.Reserved r.Same) = Goes (Declared (Depends a b (relation.Same t.from)))
@@ -401,8 +412,9 @@ step CellName t = on_name t.word (CellForm (span_of t))
 step (CellForm name) t = cell_step name t.word
 step (CellSort name keyed) t = sort_step name keyed (sort_of t.word)
 step TagName t = on_name t.word (TagForm (span_of t))
-step (TagForm name) t = tag_step name t.word
-step (TagValue name keyed) t = value_step name keyed (value_of t.word)
+step (TagForm name) t = tag_step name t t.word
+step (TagItem name keyed) t = item_step name keyed t t.word
+step (TagValue name keyed item) t = value_step name keyed item (value_of t.word)
 step DependsFirst t = on_name t.word (DependsSecond (span_of t))
 step (DependsSecond a) t = on_name t.word (DependsHow a (span_of t))
 step (DependsHow a b) t = how_step a b t t.word
@@ -445,7 +457,7 @@ done_whole context t [] = behind_whole context t
 done_whole context t (NegFrame level at ∷ frames) = done_whole context (NegTree at t) frames
 done_whole context t (NotFrame level at ∷ frames) = done_whole context (NotTree at t) frames
 done_whole context t (ParenFrame level at ∷ frames) = None
-done_whole context t (RightFrame level o left ∷ frames) = done_whole context (TwoTree o left t) frames
+done_whole context t (RightFrame level o at left ∷ frames) = done_whole context (TwoTree o at left t) frames
 
 abbrev pub expression_whole : Context → Mode → List Frame → Option Declarations
 expression_whole context (Want level) frames = None

@@ -1,8 +1,9 @@
 -- What a reader of some part of the grammar does.
-use Rattle.std.specs.Prelude.{◌≡◌, ◌≢◌, ℕ, ℤ, Bool, true, false, List, [], ◌∷◌, ◌++◌, ◌+◌, Option, Result, Ok, Err}
+use Rattle.std.specs.Prelude.{◌≡◌, ◌≢◌, ℕ, ℤ, Bool, true, false, List, [], ◌∷◌, ◌++◌, ◌+◌, Option, Some, None, Result, Ok, Err}
 use Rattle.flu_text.specs.declared.words.Word.{Word}
 use Rattle.flu_text.specs.declared.words.Word.TheVariants as w
 use Rattle.flu_names.specs.declared.reserved.Reserved.TheVariants as r
+use Rattle.flu_text.specs.declared.words.Contextual.TheVariants as contextual
 use Rattle.flu_text.specs.declared.words.Token.{Token}
 use Rattle.flu_model.specs.declared.jobs.Op.{Op}
 use Rattle.flu_syntax.specs.declared.fault.SyntaxFault.{SyntaxFault}
@@ -18,7 +19,7 @@ use Rattle.flu_syntax.specs.declared.tree.WrittenRelation.{WrittenRelation}
 use Rattle.flu_syntax.specs.Tree.{Tree, ParenTree, Deed, Action, Declaration, Depends, On, Source, Declarations}
 use Rattle.flu_text.specs.Signs.{place_of}
 use Rattle.flu_syntax.specs.Grammar.{op_level}
-use Rattle.flu_text.specs.Signs.{number_of}
+use Rattle.flu_text.specs.Signs.{is_name_word, span_of, number_of}
 use Rattle.flu_syntax.specs.Machine.{Now, Start, CellFamily, CellKeys, CellKey, CellClose, InExpression, ActionStart, ActionEnd, DeedEnd, TagKind, TagKeys}
 use Rattle.flu_syntax.specs.Machine.{TagMore, TagClose, TagEnd, SourceRate, SourceSlack, SourceColon, DependsHow, Actions, Tags, Context, Aim, ToWrite, Frame}
 use Rattle.flu_syntax.specs.Machine.{ParenFrame, RightFrame, Mode, Want, Have, Done, opens, named, cell_of, tag_of, listed, source_of, acted, Verdict, Found}
@@ -47,6 +48,14 @@ IsNumber tokens n rest = (t : Token) × IsFirst (w.Number n.value) tokens t rest
 
 abbrev pub NotNumber : List Token → Type 0
 NotNumber tokens = (n : ℤ) → NotFirst (w.Number n) tokens
+
+-- the first token is a name, which takes these bytes
+abbrev pub IsNamed : List Token → WrittenSpan → List Token → Type 0
+IsNamed tokens name rest = (t : Token) × (tokens ≡ t ∷ rest) × (is_name_word t.word ≡ true) × (name ≡ span_of t)
+
+abbrev pub NotNamed : List Token → Type 0
+NotNamed [] = Unit {0}
+NotNamed (t ∷ tokens) = is_name_word t.word ≡ false
 
 -- ---- the parts of the grammar
 
@@ -109,12 +118,12 @@ IsPassed low high tokens =
     (end : ℕ) (before : Declarations) (context : Context) (t : Tree) (frames : List Frame) → run end before (InExpression context (Have low high t) frames)
     tokens ≡ run end before (InExpression context (Done t) frames) tokens
 
--- this one is here
-abbrev pub IsTaken : ℕ → ℕ → List Token → Op → List Token → Type 0
-IsTaken low high tokens o rest =
+-- this one is here, at this place
+abbrev pub IsTaken : ℕ → ℕ → List Token → Op → ℕ → List Token → Type 0
+IsTaken low high tokens o at rest =
     (end : ℕ) (before : Declarations) (context : Context) (t : Tree) (frames : List Frame)
     → run end before (InExpression context (Have low high t) frames) tokens ≡ run end before
-    (InExpression context (Want (op_level o + 1)) (RightFrame low o t ∷ frames)) rest
+    (InExpression context (Want (op_level o + 1)) (RightFrame low o at t ∷ frames)) rest
 
 -- what an action does; its first token is at a place
 abbrev pub ReadsWriting : {X : Type 0} → ℕ → Verb → List Token → (X → Deed) → (X → List Token) → Result X SyntaxFault → Type 0
@@ -198,6 +207,11 @@ ReadsDeclaration end now tokens declaration rest result =
 abbrev pub TakesKeyed : List Token → Bool → List Token → Type 0
 TakesKeyed tokens true rest = (t : Token) × IsFirst (w.Reserved r.Keyed) tokens t rest
 TakesKeyed tokens false rest = (rest ≡ tokens) × NotFirst (w.Reserved r.Keyed) tokens
+
+-- whether `item` is here, by its place, and what comes after it
+abbrev pub TakesItem : List Token → Option ℕ → List Token → Type 0
+TakesItem tokens (Some at) rest = (t : Token) × IsFirst (w.Name contextual.Item) tokens t rest × (at ≡ t.from)
+TakesItem tokens None rest = (rest ≡ tokens) × NotFirst (w.Name contextual.Item) tokens
 
 -- the relation of two kinds, to the end of their declaration
 abbrev pub ReadsRelation : List Token → WrittenRelation → List Token → Type 0

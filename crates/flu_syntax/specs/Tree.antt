@@ -29,7 +29,7 @@ pub data Tree : Type 0 where
   ParenTree : (at : ℕ) (inner : Tree) → Tree
   NegTree : (at : ℕ) (inner : Tree) → Tree
   NotTree : (at : ℕ) (inner : Tree) → Tree
-  TwoTree : (o : Op) (left right : Tree) → Tree
+  TwoTree : (o : Op) (at : ℕ) (left right : Tree) → Tree
 
 abbrev pub view : WrittenExpr → Tree
 view (Number n) = NumberTree n
@@ -41,7 +41,7 @@ view (Has at cell) = HasTree at cell
 view (Paren' at p inner) = ParenTree at (view inner)
 view (Neg' at p inner) = NegTree at (view inner)
 view (Not' at p inner) = NotTree at (view inner)
-view (Two' o p left q right) = TwoTree o (view left) (view right)
+view (Two' o at p left q right) = TwoTree o at (view left) (view right)
 
 -- what an action does
 pub data Deed : Type 0 where
@@ -69,14 +69,14 @@ action_of a = record { at = a.at; deed = deed_of a.act; guard = option_map view 
 -- a declaration
 pub data Declaration : Type 0 where
   Cell : (name : WrittenSpan) (keyed : Bool) (sort : Sort) → Declaration
-  Tag : (name : WrittenSpan) (keyed has_value : Bool) → Declaration
+  Tag : (name : WrittenSpan) (keyed : Bool) (item : Option ℕ) (has_value : Bool) → Declaration
   Depends : (a b : WrittenSpan) (relation : WrittenRelation) → Declaration
   On : (kind : WrittenSpan) (actions : List Action) → Declaration
   Source : (name file : WrittenSpan) (rate slack : Option WrittenNumber) (tags : List WrittenTag) → Declaration
 
 abbrev pub declaration_of : WrittenDeclaration → Declaration
 declaration_of (declaration.Cell name keyed sort) = Cell name keyed sort
-declaration_of (declaration.Tag name keyed has_value) = Tag name keyed has_value
+declaration_of (declaration.Tag name keyed item has_value) = Tag name keyed item has_value
 declaration_of (declaration.Depends a b relation) = Depends a b relation
 declaration_of (declaration.On kind actions) = On kind (map action_of actions)
 declaration_of (declaration.Source name file rate slack tags) = Source name file rate slack tags

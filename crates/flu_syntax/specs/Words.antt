@@ -18,6 +18,7 @@ use Rattle.flu_text.specs.Signs.{name, text, number}
 abbrev pub key_words : WrittenKey → List Sign
 key_words key.Alone = []
 key_words (key.OwnKey at) = []
+key_words (key.OwnItem at) = []
 key_words (key.Fixed n) = number n
 
 abbrev pub cell_words : WrittenRef → List Sign
@@ -34,7 +35,7 @@ tree_words (HasTree at cell) = cell_words cell
 tree_words (ParenTree at inner) = tree_words inner
 tree_words (NegTree at inner) = tree_words inner
 tree_words (NotTree at inner) = tree_words inner
-tree_words (TwoTree o left right) = tree_words left ++ tree_words right
+tree_words (TwoTree o at left right) = tree_words left ++ tree_words right
 
 -- those of an action: of what it does, and of its guard
 abbrev pub deed_words : Deed → List Sign
@@ -67,7 +68,7 @@ number_words (Some n) = number n
 -- those of a declaration, and of a whole job
 abbrev pub declaration_words : Declaration → List Sign
 declaration_words (Cell n keyed sort) = name n
-declaration_words (Tag n keyed has_value) = name n
+declaration_words (Tag n keyed item has_value) = name n
 declaration_words (Depends a b relation) = name a ++ name b
 declaration_words (On kind actions) = name kind ++ flat_map action_words actions
 declaration_words (Source n file rate slack tags) = name n ++ text file ++ number_words rate ++ number_words slack ++ flat_map tag_words tags

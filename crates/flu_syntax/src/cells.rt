@@ -4,17 +4,20 @@ ghost use Rattle.std.specs.Prelude.{◌≡◌, ◌≤◌, ◌<◌, length, IfOk}
 ghost use Rattle.flu_syntax.specs.Reading.{ReadsKey, ReadsInside, ReadsCell};
 
 use crate::fault::SyntaxFault;
-use crate::tokens::{expect, number, span_of, take};
+use crate::tokens::{expect, name, number, take};
 use crate::tree::{WrittenKey, WrittenRef};
-use flu_text::{Mark, Reserved, Token, Word};
+use flu_text::{Contextual, Mark, Reserved, Token, Word};
 
-/// What is between the brackets after a family: `key`, or a number.
+/// What is between the brackets after a family: `key`, `item`, or a number.
 fn inside(tokens: &[Token], end: usize) -> Result<(WrittenKey, &[Token]), SyntaxFault>
     ensures run { ReadsInside end tokens.now (λ x. x.0) (λ x. x.1.now) result }
     ensures shorter { IfOk result (λ x. length x.1.now < length tokens.now) }
 {
     if let Some((word, rest)) = take(tokens, Word::Reserved(Reserved::Key)) {
         return Ok((WrittenKey::OwnKey { at: word.from }, rest));
+    }
+    if let Some((word, rest)) = take(tokens, Word::Name(Contextual::Item)) {
+        return Ok((WrittenKey::OwnItem { at: word.from }, rest));
     }
     let (number, rest) = number(tokens, end)?;
     Ok((WrittenKey::Fixed(number), rest))
@@ -38,8 +41,7 @@ pub fn cell(tokens: &[Token], end: usize) -> Result<(WrittenRef, &[Token]), Synt
     ensures run { ReadsCell end tokens.now (λ x. x.0) (λ x. x.1.now) result }
     ensures shorter { IfOk result (λ x. length x.1.now < length tokens.now) }
 {
-    let (name, rest) = expect(tokens, end, Word::Name)?;
+    let (family, rest) = name(tokens, end)?;
     let (key, rest) = key(rest, end)?;
-    let family = span_of(name);
     Ok((WrittenRef { family, key }, rest))
 }

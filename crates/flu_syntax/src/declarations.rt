@@ -4,21 +4,21 @@ ghost use Rattle.std.specs.Prelude.{◌≡◌, ◌≤◌, ◌<◌, length, map, 
 ghost use Rattle.flu_syntax.specs.Tree.{view, deed_of, Writes, action_of, declaration_of};
 ghost use Rattle.flu_syntax.specs.Machine.{Start, CellName, TagName, DependsFirst, OnKind, SourceName};
 ghost use Rattle.flu_syntax.specs.Reading.{ReadsWriting, ReadsDeed, ReadsGuard, ReadsAction, ReadsActions, ReadsRange, ReadsKeys, ReadsTag, ReadsTags};
-ghost use Rattle.flu_syntax.specs.Reading.{ReadsRate, ReadsSlack, ReadsRelation, ReadsDeclaration, IsFirst, NotFirst, TakesKeyed};
+ghost use Rattle.flu_syntax.specs.Reading.{ReadsRate, ReadsSlack, ReadsRelation, ReadsDeclaration, IsFirst, NotFirst, TakesKeyed, TakesItem};
 
 use crate::cells::cell;
 use crate::expressions::expression;
 use crate::fault::SyntaxFault;
 use crate::tokens::{
-    Doing, Heading, Verb, doing_of, expect, heading_of, next, number, place_of, sort_of, span_of,
-    take, unexpected, value_of,
+    Doing, Heading, Verb, doing_of, expect, heading_of, name, next, number, place_of, sort_of,
+    span_of, take, unexpected, value_of,
 };
 use crate::tree::{
     WrittenAct, WrittenAction, WrittenDeclaration, WrittenExpr, WrittenKeys, WrittenNumber,
     WrittenRef, WrittenRelation, WrittenTag,
 };
 use flu_model::List;
-use flu_text::{Mark, Reserved, Token, Word};
+use flu_text::{Contextual, Mark, Reserved, Token, Word};
 use std::alloc::Global;
 
 /// Whether `keyed` is here, and what comes after it.
@@ -31,13 +31,23 @@ fn keyed(tokens: &[Token]) -> (bool, &[Token])
     }
 }
 
+/// Whether `item` is here, by its place, and what comes after it.
+fn item(tokens: &[Token]) -> (Option<usize>, &[Token])
+    ensures taken { TakesItem tokens.now result.0 result.1.now }
+    ensures shorter { length result.1.now ≤ length tokens.now }
+{
+    match take(tokens, Word::Name(Contextual::Item)) {
+        Some((word, rest)) => (Some(word.from), rest),
+        None => (None, tokens),
+    }
+}
+
 /// A line of cells, after its first word.
 fn cell_line(tokens: &[Token], end: usize) -> Result<(WrittenDeclaration, &[Token]), SyntaxFault>
     ensures run { ReadsDeclaration end CellName tokens.now (λ x. declaration_of x.0) (λ x. x.1.now) result }
     ensures shorter { IfOk result (λ x. length x.1.now < length tokens.now) }
 {
-    let (word, rest) = expect(tokens, end, Word::Name)?;
-    let name = span_of(word);
+    let (name, rest) = name(tokens, end)?;
     let (keyed, rest) = keyed(rest);
     let Some((word, behind)) = next(rest) else {
         return Err(unexpected(rest, end));
@@ -53,9 +63,9 @@ fn tag_line(tokens: &[Token], end: usize) -> Result<(WrittenDeclaration, &[Token
     ensures run { ReadsDeclaration end TagName tokens.now (λ x. declaration_of x.0) (λ x. x.1.now) result }
     ensures shorter { IfOk result (λ x. length x.1.now < length tokens.now) }
 {
-    let (word, rest) = expect(tokens, end, Word::Name)?;
-    let name = span_of(word);
+    let (name, rest) = name(tokens, end)?;
     let (keyed, rest) = keyed(rest);
+    let (item, rest) = item(rest);
     let Some((word, behind)) = next(rest) else {
         return Err(unexpected(rest, end));
     };
@@ -66,6 +76,7 @@ fn tag_line(tokens: &[Token], end: usize) -> Result<(WrittenDeclaration, &[Token
         WrittenDeclaration::Tag {
             name,
             keyed,
+            item,
             has_value,
         },
         behind,
@@ -91,11 +102,9 @@ fn depends_line(tokens: &[Token], end: usize) -> Result<(WrittenDeclaration, &[T
     ensures run { ReadsDeclaration end DependsFirst tokens.now (λ x. declaration_of x.0) (λ x. x.1.now) result }
     ensures shorter { IfOk result (λ x. length x.1.now < length tokens.now) }
 {
-    let (first, rest) = expect(tokens, end, Word::Name)?;
-    let (second, rest) = expect(rest, end, Word::Name)?;
+    let (a, rest) = name(tokens, end)?;
+    let (b, rest) = name(rest, end)?;
     let (relation, rest) = relation(rest);
-    let a = span_of(first);
-    let b = span_of(second);
     Ok((WrittenDeclaration::Depends { a, b, relation }, rest))
 }
 
@@ -143,9 +152,9 @@ fn act(alloc: Global, tokens: &[Token], end: usize) -> Result<(WrittenAct, &[Tok
             Ok((WrittenAct::Emit(span_of(text)), rest))
         }
         Doing::Flush => {
-            let (family, rest) = expect(rest, end, Word::Name)?;
+            let (family, rest) = name(rest, end)?;
             let (text, rest) = expect(rest, end, Word::Text)?;
-            Ok((WrittenAct::Flush(span_of(family), span_of(text)), rest))
+            Ok((WrittenAct::Flush(family, span_of(text)), rest))
         }
         Doing::Other => Err(unexpected(tokens, end)),
     }
@@ -212,10 +221,9 @@ fn on_line(
     ensures run { ReadsDeclaration end OnKind tokens.now (λ x. declaration_of x.0) (λ x. x.1.now) result }
     ensures shorter { IfOk result (λ x. length x.1.now < length tokens.now) }
 {
-    let (name, rest) = expect(tokens, end, Word::Name)?;
+    let (kind, rest) = name(tokens, end)?;
     let (_, rest) = expect(rest, end, Word::Mark(Mark::Colon))?;
     let (actions, rest) = actions(alloc, rest, end)?;
-    let kind = span_of(name);
     Ok((WrittenDeclaration::On { kind, actions }, rest))
 }
 
@@ -254,9 +262,8 @@ fn tag(tokens: &[Token], end: usize) -> Result<(WrittenTag, &[Token]), SyntaxFau
     ensures run { ReadsTag end tokens.now (λ x. x.0) (λ x. x.1.now) result }
     ensures shorter { IfOk result (λ x. length x.1.now < length tokens.now) }
 {
-    let (name, rest) = expect(tokens, end, Word::Name)?;
+    let (kind, rest) = name(tokens, end)?;
     let (keys, rest) = keys(rest, end)?;
-    let kind = span_of(name);
     Ok((WrittenTag { kind, keys }, rest))
 }
 
@@ -314,13 +321,12 @@ fn source_line(
     ensures run { ReadsDeclaration end SourceName tokens.now (λ x. declaration_of x.0) (λ x. x.1.now) result }
     ensures shorter { IfOk result (λ x. length x.1.now < length tokens.now) }
 {
-    let (word, rest) = expect(tokens, end, Word::Name)?;
+    let (name, rest) = name(tokens, end)?;
     let (text, rest) = expect(rest, end, Word::Text)?;
     let (rate, rest) = rate(rest, end)?;
     let (slack, rest) = slack(rest, end)?;
     let (_, rest) = expect(rest, end, Word::Mark(Mark::Colon))?;
     let (tags, rest) = tags(alloc, rest, end)?;
-    let name = span_of(word);
     let file = span_of(text);
     Ok((
         WrittenDeclaration::Source {

@@ -59,10 +59,10 @@ fn is_within(low: u32, level: u32, high: u32) -> bool
     low <= level && level <= high
 }
 
-/// A binary operator of one of these levels, and what comes after it.
-fn operator(tokens: &[Token], low: u32, high: u32) -> Option<(Op, &[Token])>
-    ensures run { MatchOption result (IsPassed low high tokens.now) (λ x. IsTaken low high tokens.now x.0 x.1.now) }
-    ensures shorter { IfSome result (λ x. length x.1.now < length tokens.now) }
+/// A binary operator of one of these levels, its place, and what comes after it.
+fn operator(tokens: &[Token], low: u32, high: u32) -> Option<(Op, usize, &[Token])>
+    ensures run { MatchOption result (IsPassed low high tokens.now) (λ x. IsTaken low high tokens.now x.0 x.1 x.2.now) }
+    ensures shorter { IfSome result (λ x. length x.2.now < length tokens.now) }
 {
     let Some((token, rest)) = next(tokens) else {
         return None;
@@ -71,7 +71,7 @@ fn operator(tokens: &[Token], low: u32, high: u32) -> Option<(Op, &[Token])>
         return None;
     };
     if is_within(low, level_of(op), high) {
-        Some((op, rest))
+        Some((op, token.from, rest))
     } else {
         None
     }
@@ -176,10 +176,15 @@ pub fn expression<'t>(
     ensures shorter { IfOk result (λ x. length x.1.now < length tokens.now) }
 {
     let (mut left, mut high, mut rest) = first(alloc, tokens, end, level, opened)?;
-    while let Some((op, after)) = operator(rest, level, high) {
+    while let Some((op, at, after)) = operator(rest, level, high) {
         let found = level_of(op);
         let (right, behind) = expression(alloc, after, end, found + 1, opened)?;
-        left = WrittenExpr::Two(op, boxed(alloc, left)?, boxed(alloc, right)?);
+        left = WrittenExpr::Two {
+            op,
+            at,
+            left: boxed(alloc, left)?,
+            right: boxed(alloc, right)?,
+        };
         high = level_behind(found);
         rest = behind;
     }

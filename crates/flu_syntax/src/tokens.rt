@@ -3,9 +3,9 @@
 ghost use Rattle.std.specs.Prelude.{◌≡◌, ◌<◌, ◌∷◌, length, MatchOption, MatchResult, IfOk, IfSome, []};
 ghost use Rattle.flu_text.specs.Signs.{place_of};
 ghost use Rattle.flu_syntax.specs.Grammar.{op_level};
-ghost use Rattle.flu_text.specs.Signs.{span_of};
+ghost use Rattle.flu_text.specs.Signs.{is_name_word, span_of};
 ghost use Rattle.flu_syntax.specs.Machine.{operator_of, start_of, doing_of, heading_of, sort_of, value_of};
-ghost use Rattle.flu_syntax.specs.Reading.{IsFirst, NotFirst, IsNumber, NotNumber};
+ghost use Rattle.flu_syntax.specs.Reading.{IsFirst, NotFirst, IsNumber, NotNumber, IsNamed, NotNamed};
 
 use crate::fault::SyntaxFault;
 use crate::tree::{WrittenNumber, WrittenSpan};
@@ -89,6 +89,28 @@ pub fn number(tokens: &[Token], end: usize) -> Result<(WrittenNumber, &[Token]),
     }
 }
 
+fn is_name(word: Word) -> bool
+    ensures { result ≡ is_name_word word }
+{
+    matches!(word, Word::Name(_))
+}
+
+/// The bytes of the first token, which has to be a name, and the tokens after it.
+pub fn name(tokens: &[Token], end: usize) -> Result<(WrittenSpan, &[Token]), SyntaxFault>
+    ensures front { MatchResult result (λ x. IsNamed tokens.now x.0 x.1.now)
+        (λ fault. (fault ≡ SyntaxFault.Unexpected (place_of end tokens.now)) × NotNamed tokens.now) }
+    ensures shorter { IfOk result (λ x. length x.1.now < length tokens.now) }
+{
+    let Some((first, rest)) = next(tokens) else {
+        return Err(unexpected(tokens, end));
+    };
+    if is_name(first.word) {
+        Ok((span_of(first), rest))
+    } else {
+        Err(unexpected(tokens, end))
+    }
+}
+
 /// The binary operator that a word is.
 #[tactic(auto, unfolding(crate::specs::Machine::operator_of))]
 pub fn operator_of(word: Word) -> Option<Op>
@@ -99,6 +121,8 @@ pub fn operator_of(word: Word) -> Option<Op>
             Mark::Plus => Some(Op::Plus),
             Mark::Minus => Some(Op::Minus),
             Mark::Times => Some(Op::Times),
+            Mark::Divide => Some(Op::Divide),
+            Mark::Remainder => Some(Op::Remainder),
             Mark::Less => Some(Op::Less),
             Mark::LessEq => Some(Op::LessEq),
             Mark::More => Some(Op::More),
@@ -126,7 +150,7 @@ pub fn level_of(op: Op) -> u32
         Op::Both => 1,
         Op::Less | Op::LessEq | Op::More | Op::MoreEq | Op::Same | Op::Differs => 3,
         Op::Plus | Op::Minus => 4,
-        Op::Times => 5,
+        Op::Times | Op::Divide | Op::Remainder => 5,
     }
 }
 
@@ -152,7 +176,7 @@ pub fn start_of(word: Word) -> Front
 {
     match word {
         Word::Number(number) => Front::Number(number),
-        Word::Name => Front::Family,
+        Word::Name(_) => Front::Family,
         Word::Reserved(word) => match word {
             Reserved::Value => Front::Value,
             Reserved::Key => Front::Key,

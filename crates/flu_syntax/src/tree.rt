@@ -3,11 +3,12 @@
 use flu_model::{List, Op, Sort};
 pub use flu_text::{WrittenKeys, WrittenNumber, WrittenSpan};
 
-/// What is in brackets after a family's name, if anything: `key`, by the place of that word, or a number.
+/// What is in brackets after a family's name, if anything: `key` or `item`, by the place of that word, or a number.
 #[derive(Clone, Copy, PartialEq, Eq)]
 pub enum WrittenKey {
     Alone,
     OwnKey { at: usize },
+    OwnItem { at: usize },
     Fixed(WrittenNumber),
 }
 
@@ -18,18 +19,42 @@ pub struct WrittenRef {
     pub key: WrittenKey,
 }
 
-/// An expression; `at` is the place of a word that is alone. Parentheses are kept, so that a tree has one spelling.
+/// An expression; `at` is the place of a word that is alone, of a parenthesis or of an operator. Parentheses are kept, so that a tree
+/// has one spelling.
 pub enum WrittenExpr {
     Number(WrittenNumber),
-    Value { at: usize },
-    Key { at: usize },
-    Time { at: usize },
+    Value {
+        at: usize,
+    },
+    Key {
+        at: usize,
+    },
+    Time {
+        at: usize,
+    },
     Read(WrittenRef),
-    Has { at: usize, cell: WrittenRef },
-    Paren { at: usize, inner: Box<WrittenExpr> },
-    Neg { at: usize, inner: Box<WrittenExpr> },
-    Not { at: usize, inner: Box<WrittenExpr> },
-    Two(Op, Box<WrittenExpr>, Box<WrittenExpr>),
+    Has {
+        at: usize,
+        cell: WrittenRef,
+    },
+    Paren {
+        at: usize,
+        inner: Box<WrittenExpr>,
+    },
+    Neg {
+        at: usize,
+        inner: Box<WrittenExpr>,
+    },
+    Not {
+        at: usize,
+        inner: Box<WrittenExpr>,
+    },
+    Two {
+        op: Op,
+        at: usize,
+        left: Box<WrittenExpr>,
+        right: Box<WrittenExpr>,
+    },
 }
 
 // Operators group to the left, so that a long sequence of them is a chain of left operands: the loop goes along it. What is to the
@@ -47,7 +72,12 @@ impl Drop for WrittenExpr {
                 WrittenExpr::Paren { at: _, inner } => self = Box::into_inner(inner),
                 WrittenExpr::Neg { at: _, inner } => self = Box::into_inner(inner),
                 WrittenExpr::Not { at: _, inner } => self = Box::into_inner(inner),
-                WrittenExpr::Two(_, left, _) => self = Box::into_inner(left),
+                WrittenExpr::Two {
+                    op: _,
+                    at: _,
+                    left,
+                    right: _,
+                } => self = Box::into_inner(left),
             }
         }
     }
@@ -79,8 +109,8 @@ pub struct WrittenTag {
     pub keys: WrittenKeys,
 }
 
-/// A declaration. The relation of a `depends` is `same` if that word is there, by its place; a written `all` means the
-/// same as none, so it is kept only as that word.
+/// A declaration. The events of a tag have an item if the word `item` is there, by its place. The relation of a `depends` is `same` if
+/// that word is there, by its place; a written `all` means the same as none, so it is kept only as that word.
 #[derive(Drop)]
 pub enum WrittenDeclaration {
     Cell {
@@ -91,6 +121,7 @@ pub enum WrittenDeclaration {
     Tag {
         name: WrittenSpan,
         keyed: bool,
+        item: Option<usize>,
         has_value: bool,
     },
     Depends {

@@ -14,7 +14,7 @@ use Rattle.flu_names.specs.declared.reserved.Reserved.{Reserved}
 use Rattle.flu_text.specs.declared.words.Mark.{Mark}
 use Rattle.flu_text.specs.declared.words.Word.{Word}
 use Rattle.flu_text.specs.declared.words.Word.TheVariants as w
-use Rattle.flu_text.specs.Spelling.{mark_spelling}
+use Rattle.flu_text.specs.Spelling.{mark_spelling, contextual_of}
 use Rattle.flu_names.specs.Names.{reserved_spelling, is_name_start, is_name_byte, is_text_byte, reserved_of}
 use Rattle.flu_text.specs.Grammar.{Starts, IsLexeme, Identifier, Digits, Quoted, Punctuation, Spells}
 use Rattle.flu_text.specs.Lexeme.{name_at, number_of, number_at, text_at, mark_of, mark_at, word_at}
@@ -100,13 +100,16 @@ starts-take p b bytes zero e some = absurd (omega arith)
 starts-take p b bytes (suc n) e some = e
 
 spells_identifier : (s : List ℕ) (o : Option Reserved) → Starts is_name_start s → list_all is_name_byte s ≡ true → length s ≤ 32 → reserved_of s ≡ o
-    → Spells (unwrap_or (option_map w.Reserved o) w.Name) s
-spells_identifier s None starts bytes short e = record {
-  starts = starts;
-  bytes = bytes;
-  short = short;
-  free = λ r spelled. let found : None ≡ Some r = sym e ∙ ap reserved_of spelled ∙ reserved_of-spelling r in cc;
-}
+    → Spells (unwrap_or (option_map w.Reserved o) (w.Name (contextual_of s))) s
+spells_identifier s None starts bytes short e = (
+  record {
+    starts = starts;
+    bytes = bytes;
+    short = short;
+    free = λ r spelled. let found : None ≡ Some r = sym e ∙ ap reserved_of spelled ∙ reserved_of-spelling r in cc;
+  },
+  refl,
+)
 spells_identifier s (Some r) starts bytes short e = reserved_is s r e
 
 name_longest : (b : ℕ) (bytes : List ℕ) → is_name_start b ≡ true → (n : ℕ) → n ≤ length (b ∷ bytes) → IsLexeme (take n (b ∷ bytes))
@@ -123,7 +126,7 @@ name_front b bytes p first e =
     let xs = b ∷ bytes in
     let n = prefix_len is_name_byte xs in
     let some : 0 < n = prefix_len_some is_name_byte b bytes (name_byte_from_start b first) in
-    let word = unwrap_or (option_map w.Reserved (reserved_of (take n xs))) w.Name in
+    let word = unwrap_or (option_map w.Reserved (reserved_of (take n xs))) (w.Name (contextual_of (take n xs))) in
     elim (chosen (ltb 32 n) None (Some (word, n)) (Some p) e) [
       | inl h ↦ absurd cc
       | inr h ↦
@@ -306,8 +309,8 @@ no_longer p bytes n longest longer =
 
 ends_here : (word : Word) (bytes : List ℕ) (n : ℕ) → Spells word (take n bytes) → ((k : ℕ) → k ≤ length bytes → IsLexeme (take k bytes) → k ≤ n)
     → Ends word (drop n bytes)
-ends_here w.Name bytes n is longest =
-    no_longer is_name_byte bytes n longest (λ (b : ℕ) (e : is_name_byte b ≡ true). identifier_longer (take n bytes) b is.starts is.bytes e)
+ends_here (w.Name c) bytes n is longest =
+    no_longer is_name_byte bytes n longest (λ (b : ℕ) (e : is_name_byte b ≡ true). identifier_longer (take n bytes) b is.0.starts is.0.bytes e)
 ends_here (w.Reserved r) bytes n is longest =
     no_longer is_name_byte bytes n longest (λ (b : ℕ) (e : is_name_byte b ≡ true).
     subst (λ (s : List ℕ). IsLexeme (s ++ b ∷ [])) (sym is)

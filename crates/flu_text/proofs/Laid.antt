@@ -48,7 +48,7 @@ plain_identifier [] rest starts = absurd starts
 plain_identifier (b ∷ s) rest starts = plain_name b starts
 
 plain_word : (word : Word) (s rest : List ℕ) → Spells word s → IsPlain (s ++ rest)
-plain_word w.Name s rest is = plain_identifier s rest is.starts
+plain_word (w.Name c) s rest is = plain_identifier s rest is.0.starts
 plain_word (w.Reserved word) s rest is =
     subst (λ (x : List ℕ). IsPlain (x ++ rest)) (sym is)
     (plain_identifier (reserved_spelling word) rest (starts_from_first (reserved_spelling word) (reserved_starts word)))

@@ -23,7 +23,7 @@ not_nil_some [] ne = absurd (ne refl)
 not_nil_some (b ∷ s) ne = omega arith
 
 pub spelled_some : (word : Word) (s : List ℕ) → Spells word s → 0 < length s
-spelled_some w.Name s is = starts_some s is.starts
+spelled_some (w.Name c) s is = starts_some s is.0.starts
 spelled_some (w.Reserved r) s is = rw is (reserved_len r).0
 spelled_some (w.Number n) s is = not_nil_some s is.some
 spelled_some w.Text s is = let lengths = ap length is.quoted in omega (arith, lengths, length-quoted is.inside)

@@ -1,5 +1,5 @@
 -- Signs stand for tokens.
-use Rattle.std.proofs.Common.{List, [], ◌∷◌}
+use Rattle.std.proofs.Common.{[], ◌∷◌}
 use Rattle.flu_lemmas.proofs.Containing.{contains_here, contains_later}
 use Rattle.flu_lemmas.proofs.Elements.{all_map}
 use Rattle.flu_text.specs.Signs.{Stands}

@@ -60,7 +60,7 @@ mark_ends : (mark : Mark) → EndsInAscii (mark_spelling mark)
 mark_ends mark = let test = mark_ends_test mark in record { first = grind (arith, nat_tests); last = grind (arith, nat_tests) }
 
 spelled_ends : (word : Word) (s : List ℕ) → Spells word s → EndsInAscii s
-spelled_ends w.Name s is = run_ends is_name_byte s name_byte_ascii is.bytes (spelled_some w.Name s is)
+spelled_ends (w.Name c) s is = run_ends is_name_byte s name_byte_ascii is.0.bytes (spelled_some (w.Name c) s is)
 spelled_ends (w.Reserved r) s is =
     rw is (run_ends is_name_byte (reserved_spelling r) name_byte_ascii (reserved_bytes r) (spelled_some (w.Reserved r) (reserved_spelling r) refl))
 spelled_ends (w.Number n) s is = run_ends is_ascii_digit s digit_ascii is.digits (spelled_some (w.Number n) s is)

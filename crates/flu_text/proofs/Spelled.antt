@@ -12,7 +12,7 @@ use Rattle.flu_names.specs.declared.reserved.Reserved.{Reserved}
 use Rattle.flu_text.specs.declared.words.Mark.{Mark}
 use Rattle.flu_text.specs.declared.words.Word.{Word}
 use Rattle.flu_text.specs.declared.words.Word.TheVariants as w
-use Rattle.flu_text.specs.Spelling.{mark_spelling}
+use Rattle.flu_text.specs.Spelling.{mark_spelling, contextual_of}
 use Rattle.flu_names.specs.Names.{reserved_spelling, is_name_start, is_name_byte, is_text_byte, reserved_of}
 use Rattle.flu_text.specs.Grammar.{quote, number_sign, is_blank, Starts, IsText, Spells}
 use Rattle.flu_text.specs.Lexeme.{name_at, number_of, number_at, text_at, mark_at, word_at}
@@ -78,12 +78,12 @@ unfolding word_at
 mark_begins b bytes is = rw (is.no_name, is.no_digit, is.no_quote) refl
 
 at_name : (s rest : List ℕ) (word : Word) → list_all is_name_byte s ≡ true → length s ≤ 32 → NotFirst is_name_byte rest
-    → unwrap_or (option_map w.Reserved (reserved_of s)) w.Name ≡ word → name_at (s ++ rest) ≡ Some (word, length s)
+    → unwrap_or (option_map w.Reserved (reserved_of s)) (w.Name (contextual_of s)) ≡ word → name_at (s ++ rest) ≡ Some (word, length s)
 unfolding name_at
 at_name s rest word all short none e = rw (run_len is_name_byte s rest all none, le-ltb 32 (length s) short, take_at s rest (length s) refl, e) refl
 
 reads_identifier : (s rest : List ℕ) (word : Word) → Starts is_name_start s → list_all is_name_byte s ≡ true → length s ≤ 32 → NotFirst is_name_byte rest
-    → unwrap_or (option_map w.Reserved (reserved_of s)) w.Name ≡ word → word_at (s ++ rest) ≡ Some (word, length s)
+    → unwrap_or (option_map w.Reserved (reserved_of s)) (w.Name (contextual_of s)) ≡ word → word_at (s ++ rest) ≡ Some (word, length s)
 reads_identifier [] rest word starts all short none e = absurd starts
 reads_identifier (b ∷ s) rest word starts all short none e = name_begins b (s ++ rest) starts ∙ at_name (b ∷ s) rest word all short none e
 
@@ -136,7 +136,8 @@ reads_mark mark rest none =
     ap word_at whole ∙ mark_begins (get_or s 0 0) (drop 1 s ++ rest) (mark_first mark) ∙ ap mark_at (sym whole) ∙ mark_found mark rest none
 
 pub spelled_is_read : (word : Word) (s rest : List ℕ) → Spells word s → Ends word rest → word_at (s ++ rest) ≡ Some (word, length s)
-spelled_is_read w.Name s rest is ends = reads_identifier s rest w.Name is.starts is.bytes is.short ends (rw (none_reserved s (reserved_of s) refl is.free) refl)
+spelled_is_read (w.Name c) s rest is ends =
+    reads_identifier s rest (w.Name c) is.0.starts is.0.bytes is.0.short ends (rw (none_reserved s (reserved_of s) refl is.0.free, is.1) refl)
 spelled_is_read (w.Reserved r) s rest is ends =
     rw is (reads_identifier (reserved_spelling r) rest (w.Reserved r) (starts_from_first (reserved_spelling r) (reserved_starts r)) (reserved_bytes r)
     (reserved_len r).1 ends (rw reserved_of-spelling refl))

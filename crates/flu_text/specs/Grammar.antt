@@ -10,7 +10,7 @@ use Rattle.flu_text.specs.declared.words.Mark.{Mark}
 use Rattle.flu_text.specs.declared.words.Word.{Word}
 use Rattle.flu_text.specs.declared.words.Word.TheVariants as w
 use Rattle.flu_text.specs.declared.words.Token.{Token}
-use Rattle.flu_text.specs.Spelling.{mark_spelling}
+use Rattle.flu_text.specs.Spelling.{mark_spelling, contextual_of}
 use Rattle.flu_names.specs.Names.{is_name_start, is_name_byte, is_text_byte, reserved_spelling}
 
 -- the bytes of `"`, of `#` and of a line feed
@@ -64,9 +64,9 @@ pub record IsText (s : List ℕ) : Type 0 where
   pub bytes : IsTrue (list_all is_text_byte inside)
   pub short : length inside ≤ 256
 
--- these bytes spell this word
+-- these bytes spell this word, and a name says which word it spells where the grammar has that word
 abbrev pub Spells : Word → List ℕ → Type 0
-Spells w.Name s = IsName s
+Spells (w.Name c) s = IsName s × (c ≡ contextual_of s)
 Spells (w.Reserved r) s = s ≡ reserved_spelling r
 Spells (w.Number n) s = IsNumber n s
 Spells w.Text s = IsText s

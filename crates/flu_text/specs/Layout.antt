@@ -24,7 +24,7 @@ makes_longer _ b = false
 
 -- what comes after does not make the word longer
 abbrev pub Ends : Word → List ℕ → Type 0
-Ends w.Name rest = NotFirst is_name_byte rest
+Ends (w.Name c) rest = NotFirst is_name_byte rest
 Ends (w.Reserved r) rest = NotFirst is_name_byte rest
 Ends (w.Number n) rest = NotFirst is_ascii_digit rest
 Ends w.Text rest = Unit {0}

@@ -8,7 +8,7 @@ use Rattle.std.specs.Str.Parse.{digits_value}
 use Rattle.flu_text.specs.declared.words.Mark.{Mark}
 use Rattle.flu_text.specs.declared.words.Word.{Word}
 use Rattle.flu_text.specs.declared.words.Word.TheVariants as w
-use Rattle.flu_text.specs.Spelling.{mark_spelling, marks}
+use Rattle.flu_text.specs.Spelling.{mark_spelling, marks, contextual_of}
 use Rattle.flu_text.specs.Grammar.{quote}
 use Rattle.flu_names.specs.Names.{is_name_start, is_name_byte, is_text_byte, reserved_of}
 
@@ -16,7 +16,7 @@ use Rattle.flu_names.specs.Names.{is_name_start, is_name_byte, is_text_byte, res
 unfoldable pub name_at : List ℕ → Option (Word × ℕ)
 name_at bytes =
     let n = prefix_len is_name_byte bytes in
-    if nat_lt 32 n then None else Some (unwrap_or (option_map w.Reserved (reserved_of (take n bytes))) w.Name, n)
+    if nat_lt 32 n then None else Some (unwrap_or (option_map w.Reserved (reserved_of (take n bytes))) (w.Name (contextual_of (take n bytes))), n)
 
 -- the number that the digits write, if it is small enough
 unfoldable pub number_of : List ℕ → Option ℕ

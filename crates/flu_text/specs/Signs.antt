@@ -1,5 +1,5 @@
 -- Signs, by which grammars over tokens say what is where, and what is written of a token.
-use Rattle.std.specs.Prelude.{◌≡◌, ℕ, ℤ, List, [], ◌∷◌, ◌++◌, Contains}
+use Rattle.std.specs.Prelude.{◌≡◌, ℕ, ℤ, Bool, true, false, List, [], ◌∷◌, ◌++◌, Contains}
 use Rattle.std.specs.List.{flat_map}
 use Rattle.flu_text.specs.declared.words.Word.{Word}
 use Rattle.flu_text.specs.declared.words.Word.TheVariants as w
@@ -10,16 +10,24 @@ use Rattle.flu_text.specs.declared.written.WrittenNumber.{WrittenNumber}
 use Rattle.flu_text.specs.declared.written.WrittenKeys.{WrittenKeys}
 use Rattle.flu_text.specs.declared.written.WrittenKeys.TheVariants as keys
 
--- A sign stands for a token: of a word, at any place; of a word that begins at a place; of a word that takes these bytes.
+-- a name, whichever word it may spell besides
+abbrev pub is_name_word : Word → Bool
+is_name_word (w.Name c) = true
+is_name_word _ = false
+
+-- A sign stands for a token: of a word, at any place; of a word that begins at a place; of a word that takes these bytes; of a
+-- name that takes these bytes.
 pub data Sign : Type 0 where
   Any : (word : Word) → Sign
   At : (word : Word) (from : ℕ) → Sign
   Spanned : (word : Word) (span : WrittenSpan) → Sign
+  Named : (span : WrittenSpan) → Sign
 
 abbrev pub IsSign : Sign → Token → Type 0
 IsSign (Any word) t = t.word ≡ word
 IsSign (At word from) t = (t.word ≡ word) × (t.from ≡ from)
 IsSign (Spanned word span) t = (t.word ≡ word) × (t.from ≡ span.from) × (t.to ≡ span.to)
+IsSign (Named span) t = (is_name_word t.word ≡ true) × (t.from ≡ span.from) × (t.to ≡ span.to)
 
 -- the tokens are these signs, one by one
 abbrev pub AreSigns : List Sign → List Token → Type 0
@@ -42,7 +50,7 @@ number_of n t = record { value = n; at = t.from }
 -- ---- what jobs and plans write alike
 
 abbrev pub name : WrittenSpan → List Sign
-name span = Spanned w.Name span ∷ []
+name span = Named span ∷ []
 
 abbrev pub text : WrittenSpan → List Sign
 text span = Spanned w.Text span ∷ []

@@ -1,5 +1,8 @@
--- How the marks are spelled.
-use Rattle.std.specs.Prelude.{ℕ, List, [], ◌∷◌, codes}
+-- How the marks are spelled, and which word a name spells where the grammar has that word.
+use Rattle.std.specs.Prelude.{ℕ, if◌then◌else◌, List, [], ◌∷◌, codes}
+use Rattle.std.specs.Str.{bytes_eq}
+use Rattle.flu_text.specs.declared.words.Contextual.{Contextual}
+use Rattle.flu_text.specs.declared.words.Contextual.TheVariants as c
 use Rattle.flu_text.specs.declared.words.Mark.{Mark}
 use Rattle.flu_text.specs.declared.words.Mark.TheVariants as m
 
@@ -15,6 +18,8 @@ mark_spelling m.Dots = codes ".."
 mark_spelling m.Plus = codes "+"
 mark_spelling m.Minus = codes "-"
 mark_spelling m.Times = codes "*"
+mark_spelling m.Divide = codes "/"
+mark_spelling m.Remainder = codes "%"
 mark_spelling m.Less = codes "<"
 mark_spelling m.LessEq = codes "<="
 mark_spelling m.More = codes ">"
@@ -28,4 +33,8 @@ mark_spelling m.Arrow = codes "->"
 abbrev pub marks : List Mark
 marks =
     m.Dots ∷ m.LessEq ∷ m.MoreEq ∷ m.Same ∷ m.Differs ∷ m.Arrow ∷ m.Colon ∷ m.Semicolon ∷ m.Comma ∷ m.OpenBracket ∷ m.CloseBracket ∷ m.OpenParen
-    ∷ m.CloseParen ∷ m.Plus ∷ m.Minus ∷ m.Times ∷ m.Less ∷ m.More ∷ m.At ∷ []
+    ∷ m.CloseParen ∷ m.Plus ∷ m.Minus ∷ m.Times ∷ m.Divide ∷ m.Remainder ∷ m.Less ∷ m.More ∷ m.At ∷ []
+
+-- the word that these bytes of a name spell where the grammar has that word
+unfoldable pub contextual_of : List ℕ → Contextual
+contextual_of name = if bytes_eq name (codes "item") then c.Item else c.Other

@@ -7,13 +7,13 @@ ghost use Rattle.flu_text.specs.Grammar.{is_blank};
 ghost use Rattle.flu_names.specs.Names.{is_name_start, is_name_byte, is_text_byte, reserved_of};
 ghost use Rattle.flu_text.specs.Lexeme.{name_at, number_of, number_at, text_at, mark_of, mark_at, word_at};
 
-use crate::words::{Mark, Word};
+use crate::words::{Mark, Word, contextual_of};
 use flu_names::{
     LONGEST_NAME, LONGEST_TEXT, is_name_byte, is_name_start, is_text_byte, reserved_of,
 };
 
 /// The marks, the longer ones first.
-const MARKS: [Mark; 19] = [
+const MARKS: [Mark; 21] = [
     Mark::Dots,
     Mark::LessEq,
     Mark::MoreEq,
@@ -30,6 +30,8 @@ const MARKS: [Mark; 19] = [
     Mark::Plus,
     Mark::Minus,
     Mark::Times,
+    Mark::Divide,
+    Mark::Remainder,
     Mark::Less,
     Mark::More,
     Mark::At,
@@ -56,7 +58,9 @@ fn name_at(bytes: &[u8]) -> Option<(Word, usize)>
     if len > LONGEST_NAME {
         return None;
     }
-    let word = reserved_of(&bytes[..len]).map_or(Word::Name, Word::Reserved);
+    let found = &bytes[..len];
+    let name = Word::Name(contextual_of(found));
+    let word = reserved_of(found).map_or(name, Word::Reserved);
     Some((word, len))
 }
 

@@ -10,5 +10,5 @@ mod written;
 
 pub use flu_names::Reserved;
 pub use reading::{TextFault, tokens};
-pub use words::{Mark, Token, Word};
+pub use words::{Contextual, Mark, Token, Word, contextual_of};
 pub use written::{WrittenKeys, WrittenNumber, WrittenSpan};

@@ -1,6 +1,7 @@
 //! What a token may be: the words, and how the marks are spelled.
 
 ghost use Rattle.std.specs.Prelude.{◌≡◌};
+ghost use Rattle.flu_text.specs.Spelling.{contextual_of};
 
 use flu_names::Reserved;
 
@@ -29,6 +30,10 @@ pub enum Mark {
     Minus,
     /// `*`
     Times,
+    /// `/`
+    Divide,
+    /// `%`
+    Remainder,
     /// `<`
     Less,
     /// `<=`
@@ -47,11 +52,33 @@ pub enum Mark {
     Arrow,
 }
 
+/// Which word of the language a name spells where the grammar has that word. Everywhere else it is a name as any other.
+#[derive(Clone, Copy, PartialEq, Eq)]
+pub enum Contextual {
+    /// `item`
+    Item,
+    /// None.
+    Other,
+}
+
+/// The word that the bytes of a name spell where the grammar has that word.
+#[tactic(auto, unfolding(crate::specs::Spelling::contextual_of))]
+pub fn contextual_of(name: &[u8]) -> Contextual
+    ensures { result ≡ contextual_of name.now }
+{
+    if name == b"item".as_slice() {
+        Contextual::Item
+    } else {
+        Contextual::Other
+    }
+}
+
 /// What a token is. The bytes of a name or a text are read at the token's place.
 #[derive(Clone, Copy, PartialEq, Eq)]
 pub enum Word {
-    /// An ASCII letter or `_`, then ASCII letters, digits and `_`: at most 32 bytes, and no reserved word.
-    Name,
+    /// An ASCII letter or `_`, then ASCII letters, digits and `_`: at most 32 bytes, and no reserved word. Which word it spells where
+    /// the grammar has that word is told beside it.
+    Name(Contextual),
     /// A reserved word.
     Reserved(Reserved),
     /// One or more ASCII digits, with their value, from 0 to 9223372036854775807. Leading zeros are allowed.
@@ -90,6 +117,8 @@ impl Mark {
             Mark::Plus => b"+",
             Mark::Minus => b"-",
             Mark::Times => b"*",
+            Mark::Divide => b"/",
+            Mark::Remainder => b"%",
             Mark::Less => b"<",
             Mark::LessEq => b"<=",
             Mark::More => b">",

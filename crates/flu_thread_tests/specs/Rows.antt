@@ -16,7 +16,7 @@ use Rattle.flu_fork.specs.Serving.{LotCounts, Served}
 use Rattle.flu_link.specs.Notes.{UpperNote, LowerNote}
 
 abbrev pub event : ℕ → ℕ → ℤ → Event
-event time i value = record { time = time; itag = itag i; value = value }
+event time i value = record { time = time; itag = itag i; item = 0; value = value }
 
 abbrev pub row : List (List Item)
 row =

@@ -52,11 +52,12 @@ pub fn valid(rt: &impl Abort, alloc: Global, checked: &Checked, plan: &str) -> V
 }
 
 pub fn event(time: u64, itag: u32, value: i64) -> Item
-    ensures { result ≡ ItemEvent (record { time = time; itag = record { 0 = itag }; value = value }) }
+    ensures { result ≡ ItemEvent (record { time = time; itag = record { 0 = itag }; item = 0; value = value }) }
 {
     Item::Event(Event {
         time,
         itag: Itag(itag),
+        item: 0,
         value,
     })
 }

@@ -17,6 +17,7 @@ use std::alloc::{AllocError, Global};
 pub const INC_5: Event = Event {
     time: 1,
     itag: Itag(0),
+    item: 0,
     value: 5,
 };
 

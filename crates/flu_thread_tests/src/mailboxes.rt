@@ -22,6 +22,7 @@ use std::process::Abort;
 const READ: Event = Event {
     time: 3,
     itag: Itag(2),
+    item: 0,
     value: 0,
 };
 

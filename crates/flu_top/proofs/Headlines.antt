@@ -13,6 +13,7 @@ use Rattle.flu_model.specs.declared.jobs.Program.{Program}
 use Rattle.flu_model.specs.Contents.{nothing_held}
 use Rattle.flu_model.specs.Erasure.{job_of}
 use Rattle.flu_model.specs.Modes.{IsAccepted}
+use Rattle.flu_rows.specs.Row.{form_of}
 use Rattle.flu_rows.specs.Reading.{read_file}
 use Rattle.flu_grammar.specs.Laws.{JobsAreGrammar}
 use Rattle.flu_rounds.specs.Written.{AreSound, lines_in}
@@ -132,7 +133,7 @@ given_in named first others name is =
 -- lines without a defect are sound
 sound : (p : Program) (left : Contents) → HaveNoDefect p left → AreSound p (lines_in p left)
 sound p left none = λ i s e.
-    ap (λ o. defect_in p.kinds s (option_map_or (λ (t : Source). read_file (bytes_left left t.file)) o [])) e ∙ none i s e
+    ap (λ o. defect_in p.kinds s (option_map_or (λ (t : Source). read_file (form_of p.version) (bytes_left left t.file)) o [])) e ∙ none i s e
 
 -- ---- fold
 fold_among : (job : List ℕ) (p : Program) → AreAmong (Fold job) job p (job ∷ files_of p.sources)

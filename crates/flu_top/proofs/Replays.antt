@@ -331,3 +331,8 @@ only_replayed job plan trace p (Some x) (Some y) (Some z) accepted ready only = 
       accepted = λ asked. accepted;
       good = good_at (Replay job plan trace) p x y refl (λ asked. accepted) (no_checkpoint job plan trace) ready found.1;
     }))))
+
+-- ---- the answer to a replay that is refused
+abbrev pub as_refused : {A B : Type 0} → Result A ReplayFault → Result B Refusal
+as_refused (Ok x) = Err refusals.NoMemory
+as_refused (Err fault) = Err (refusal_of_replay fault)

@@ -20,6 +20,7 @@ use Rattle.flu_deps.specs.Checking.{program_of}
 use Rattle.flu_model.specs.declared.events.Item.{Item}
 use Rattle.flu_model.specs.declared.jobs.Program.{Program}
 use Rattle.flu_model.specs.Contents.{Contents}
+use Rattle.flu_rows.specs.Row.{form_of}
 use Rattle.flu_rows.specs.declared.rows.Next.{Next}
 use Rattle.flu_streams.specs.declared.border.Border.{Border}
 use Rattle.flu_streams.specs.declared.border.Border.TheVariants.{At, Closed}
@@ -353,6 +354,7 @@ module _ (adapts : Bool) (p : Program) (note : AdaptiveNote) (o : Opening) (name
       sound = subst (λ (r : Program). defect_in r.kinds h.source (h.now h.at) ≡ None) go.came.program h.sound;
       few = λ n le. subst (λ (r : ℕ). is_enough r old.held.border h.source (go.came.before h.at ++ take n h.more) ≡ false) go.came.number (h.few n le);
       place = h.place;
+      form = h.form ∙ ap (λ (r : Program). form_of r.version) go.came.program;
       file = h.file;
       undecided = h.undecided;
     };

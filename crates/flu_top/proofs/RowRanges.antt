@@ -17,27 +17,38 @@ use Rattle.flu_model.specs.declared.jobs.Source.{Source}
 use Rattle.flu_model.specs.declared.jobs.Program.{Program}
 use Rattle.flu_model.specs.Merging.{events_of, all_events, merged, is_before}
 use Rattle.flu_lemmas.specs.Late.{is_less}
+use Rattle.flu_rows.specs.declared.row.RowForm.{RowForm}
+use Rattle.flu_rows.specs.declared.row.RowForm.TheVariants.{Older, WithItems}
+use Rattle.flu_rows.specs.declared.row.Fields.{Fields}
+use Rattle.flu_rows.specs.declared.row.Fields.TheVariants.{Nothing, One, Two, Other}
 use Rattle.flu_rows.specs.declared.row.Row.{Row}
 use Rattle.flu_rows.specs.declared.row.Row.TheVariants.{Event as EventRow, Beat as BeatRow, End as EndRow}
 use Rattle.flu_rows.specs.declared.rows.Next.{Next}
 use Rattle.flu_rows.specs.declared.rows.Next.TheVariants.{Row as RowNext, Bad, TooManyLines, Done}
-use Rattle.flu_rows.specs.Fields.{number_of, time_of, value_of, tag_of}
+use Rattle.flu_rows.specs.Fields.{number_of, time_of, item_of, value_of, tag_of}
 use Rattle.flu_rows.specs.Lines.{line_of, line_of_fields, line_of_row, line_of_one, line_of_records, begins_with_mark, lines_of}
 use Rattle.flu_rows.specs.Reading.{read_line, read_lines, read_file}
 use Rattle.flu_rows.specs.Records.{first_record, record_after}
-use Rattle.flu_rows.specs.Row.{row_of, row_of_two, row_of_three, filled_len}
+use Rattle.flu_rows.specs.Row.{number_field, one_field, number_fields, two_fields, row_of, row_of_two, row_of_three, row_of_four, filled_len}
 use Rattle.flu_streams.specs.declared.border.Border.{Border}
 use Rattle.flu_streams.specs.Before.{each_with_before, with_before}
-use Rattle.flu_streams.specs.Good.{item_in, items_at, in_time_order, time_at, lists_of_rows}
+use Rattle.flu_streams.specs.Good.{event_of, item_in, items_at, in_time_order, time_at, lists_of_rows}
 use Rattle.flu_streams.specs.Rounds.{lists_between, rows_between, is_between}
-use Rattle.flu_streams.specs.Tags.{width, place_named}
+use Rattle.flu_streams.specs.Tags.{width, place_named, given, given_by, given_to}
 use Rattle.flu_streams.specs.Tests.{rows_of, times_of, greatest}
 use Rattle.flu_top.proofs.Widths.{IsWord, all_in_order}
 
 -- ---- rows
+-- a value of 64 bits
+abbrev pub FieldsFit : Fields → Type 0
+FieldsFit Nothing = ⊤
+FieldsFit (One item value) = IsWord value
+FieldsFit (Two item value) = IsWord value
+FieldsFit Other = ⊤
+
 -- a time below 2^63, and a value of 64 bits
 abbrev pub RowFits : Row → Type 0
-RowFits (EventRow time name key value) = (time < 2 ^ 63) × IfSome value IsWord
+RowFits (EventRow time name key fields) = (time < 2 ^ 63) × FieldsFit fields
 RowFits (BeatRow time) = time < 2 ^ 63
 RowFits EndRow = ⊤
 
@@ -86,47 +97,90 @@ two_fit : (time tag : List ℕ) → IfSome (row_of_two time tag) RowFits
 unfolding row_of_two
 two_fit time tag = by_time (time_of time) (λ n e. number_within (2 ^ 63 - 1) time n e)
   where
-    by_tag : (t : ℕ) → t ≤ 2 ^ 63 - 1 → (o : Option (List ℕ × Option ℕ)) → IfSome (option_and_then (λ k. Some (EventRow t k.0 k.1 None)) o) RowFits
+    by_tag : (t : ℕ) → t ≤ 2 ^ 63 - 1 → (o : Option (List ℕ × Option ℕ)) → IfSome (option_and_then (λ k. Some (EventRow t k.0 k.1 Nothing)) o) RowFits
     by_tag t small None = tt
     by_tag t small (Some k) = (omega (arith, small), tt)
 
     by_beat : (t : ℕ) → t ≤ 2 ^ 63 - 1 → (b : Bool)
-        → IfSome (cond b (Some (BeatRow t)) (option_and_then (λ k. Some (EventRow t k.0 k.1 None)) (tag_of tag))) RowFits
+        → IfSome (cond b (Some (BeatRow t)) (option_and_then (λ k. Some (EventRow t k.0 k.1 Nothing)) (tag_of tag))) RowFits
     by_beat t small true = omega (arith, small)
     by_beat t small false = by_tag t small (tag_of tag)
 
     by_time : (o : Option ℕ) → ((n : ℕ) → o ≡ Some n → n ≤ 2 ^ 63 - 1)
         → IfSome (option_and_then (λ t. cond (bytes_eq tag (codes "beat")) (Some (BeatRow t))
-        (option_and_then (λ k. Some (EventRow t k.0 k.1 None)) (tag_of tag))) o) RowFits
+        (option_and_then (λ k. Some (EventRow t k.0 k.1 Nothing)) (tag_of tag))) o) RowFits
     by_time None small = tt
     by_time (Some t) small = by_beat t (small t refl) (bytes_eq tag (codes "beat"))
 
-three_fit : (time tag value : List ℕ) → IfSome (row_of_three time tag value) RowFits
-unfolding row_of_three
-three_fit time tag value = by_time (time_of time) (λ n e. number_within (2 ^ 63 - 1) time n e)
+-- the fields behind a tag
+number_fits : (item : Option ℕ) (o : Option ℤ) → IfSome o IsWord → FieldsFit (number_field item o)
+number_fits item None word = tt
+number_fits item (Some v) word = word
+
+value_fits : (text : List ℕ) → IfSome (value_of text) IsWord
+value_fits text = by (value_of text) (value_word text)
   where
-    by_value : (t : ℕ) (k : List ℕ × Option ℕ) → t ≤ 2 ^ 63 - 1 → (o : Option ℤ) → ((v : ℤ) → o ≡ Some v → IsWord v)
-        → IfSome (option_and_then (λ v. Some (EventRow t k.0 k.1 (Some v))) o) RowFits
-    by_value t k small None word = tt
-    by_value t k small (Some v) word = (omega (arith, small), word v refl)
+    by : (o : Option ℤ) → ((v : ℤ) → o ≡ Some v → IsWord v) → IfSome o IsWord
+    by None word = tt
+    by (Some v) word = word v refl
 
-    by_tag : (t : ℕ) → t ≤ 2 ^ 63 - 1 → (o : Option (List ℕ × Option ℕ))
-        → IfSome (option_and_then (λ k. option_and_then (λ v. Some (EventRow t k.0 k.1 (Some v))) (value_of value)) o) RowFits
-    by_tag t small None = tt
-    by_tag t small (Some k) = by_value t k small (value_of value) (value_word value)
+one_fits : (form : RowForm) (text : List ℕ) → IfSome (one_field form text) FieldsFit
+one_fits Older text = by (value_of text) (value_fits text)
+  where
+    by : (o : Option ℤ) → IfSome o IsWord → IfSome (option_map (λ v. One None v) o) FieldsFit
+    by None word = tt
+    by (Some v) word = word
+one_fits WithItems text = number_fits (item_of text) (value_of text) (value_fits text)
 
-    by_time : (o : Option ℕ) → ((n : ℕ) → o ≡ Some n → n ≤ 2 ^ 63 - 1)
-        → IfSome (option_and_then (λ t. option_and_then (λ k. option_and_then (λ v. Some (EventRow t k.0 k.1 (Some v))) (value_of value)) (tag_of tag)) o) RowFits
-    by_time None small = tt
-    by_time (Some t) small = by_tag t (small t refl) (tag_of tag)
+two_fits : (first second : List ℕ) → FieldsFit (two_fields first second)
+two_fits first second = by (item_of first) (value_of second) (value_fits second)
+  where
+    by : (item : Option ℕ) (o : Option ℤ) → IfSome o IsWord → FieldsFit (number_fields item o)
+    by None o word = tt
+    by (Some i) None word = tt
+    by (Some i) (Some v) word = word
 
-row_fits : (fields : List (List ℕ)) → IfSome (row_of fields) RowFits
+-- a row with fields
+module _ (time tag : List ℕ) (found : Option Fields) (fits : IfSome found FieldsFit) where
+  with_fields : Option Row
+  with_fields = option_and_then (λ t. option_and_then (λ k. option_and_then (λ f. Some (EventRow t k.0 k.1 f)) found) (tag_of tag)) (time_of time)
+
+  fields_row : IfSome with_fields RowFits
+  unfolding with_fields
+  fields_row = by_time (time_of time) (λ n e. number_within (2 ^ 63 - 1) time n e)
+    where
+      by_fields : (t : ℕ) (k : List ℕ × Option ℕ) → t ≤ 2 ^ 63 - 1 → (o : Option Fields) → IfSome o FieldsFit
+          → IfSome (option_and_then (λ f. Some (EventRow t k.0 k.1 f)) o) RowFits
+      by_fields t k small None fit = tt
+      by_fields t k small (Some f) fit = (omega (arith, small), fit)
+
+      by_tag : (t : ℕ) → t ≤ 2 ^ 63 - 1 → (o : Option (List ℕ × Option ℕ))
+          → IfSome (option_and_then (λ k. option_and_then (λ f. Some (EventRow t k.0 k.1 f)) found) o) RowFits
+      by_tag t small None = tt
+      by_tag t small (Some k) = by_fields t k small found fits
+
+      by_time : (o : Option ℕ) → ((n : ℕ) → o ≡ Some n → n ≤ 2 ^ 63 - 1)
+          → IfSome (option_and_then (λ t. option_and_then (λ k. option_and_then (λ f. Some (EventRow t k.0 k.1 f)) found) (tag_of tag)) o) RowFits
+      by_time None small = tt
+      by_time (Some t) small = by_tag t (small t refl) (tag_of tag)
+
+three_fit : (form : RowForm) (time tag third : List ℕ) → IfSome (row_of_three form time tag third) RowFits
+unfolding row_of_three with_fields
+three_fit form time tag third = fields_row time tag (one_field form third) (one_fits form third)
+
+four_fit : (form : RowForm) (time tag third fourth : List ℕ) → IfSome (row_of_four form time tag third fourth) RowFits
+unfolding row_of_four with_fields
+four_fit Older time tag third fourth = tt
+four_fit WithItems time tag third fourth = fields_row time tag (Some (two_fields third fourth)) (two_fits third fourth)
+
+row_fits : (form : RowForm) (fields : List (List ℕ)) → IfSome (row_of form fields) RowFits
 unfolding row_of
-row_fits [] = tt
-row_fits (a ∷ []) = elim (bytes_eq a (codes "end")) as (λ b. IfSome (cond b (Some EndRow) None) RowFits) [ true ↦ tt | false ↦ tt ]
-row_fits (a ∷ b ∷ []) = two_fit a b
-row_fits (a ∷ b ∷ c ∷ []) = three_fit a b c
-row_fits (a ∷ b ∷ c ∷ d ∷ more) = tt
+row_fits form [] = tt
+row_fits form (a ∷ []) = elim (bytes_eq a (codes "end")) as (λ b. IfSome (cond b (Some EndRow) None) RowFits) [ true ↦ tt | false ↦ tt ]
+row_fits form (a ∷ b ∷ []) = two_fit a b
+row_fits form (a ∷ b ∷ c ∷ []) = three_fit form a b c
+row_fits form (a ∷ b ∷ c ∷ d ∷ []) = four_fit form a b c d
+row_fits form (a ∷ b ∷ c ∷ d ∷ e ∷ more) = tt
 
 -- ---- lines
 abbrev pub NextFits : Next → Type 0
@@ -139,52 +193,53 @@ abbrev AllFit : List Next → Type 0
 AllFit lines = AllByRecursion NextFits lines
 
 -- a line before others
-module _ (number : ℕ) (behind : List Next) (all : AllByRecursion NextFits behind) where
+module _ (form : RowForm) (number : ℕ) (behind : List Next) (all : AllByRecursion NextFits behind) where
   row_read : (o : Option Row) → IfSome o RowFits → AllFit (read_line (line_of_row o) number behind)
   row_read None fits = (tt, tt)
   row_read (Some row) fits = (fits, all)
 
-  fields_read : (fs : List (List ℕ)) → AllFit (read_line (line_of_fields fs) number behind)
+  fields_read : (fs : List (List ℕ)) → AllFit (read_line (line_of_fields form fs) number behind)
   unfolding line_of_fields
   fields_read fs =
-      elim (filled_len fs == 0) as (λ b. AllFit (read_line (cond b (line_of_records None) (line_of_row (row_of (take (filled_len fs) fs)))) number behind)) [
+      elim (filled_len fs == 0) as (λ b. AllFit (read_line (cond b (line_of_records form None)
+      (line_of_row (row_of form (take (filled_len fs) fs)))) number behind)) [
         | true ↦ all
-        | false ↦ row_read (row_of (take (filled_len fs) fs)) (row_fits (take (filled_len fs) fs))
+        | false ↦ row_read (row_of form (take (filled_len fs) fs)) (row_fits form (take (filled_len fs) fs))
       ]
 
-  one_read : (fs : List (List ℕ)) (o : Option _) → AllFit (read_line (line_of_one fs o) number behind)
+  one_read : (fs : List (List ℕ)) (o : Option _) → AllFit (read_line (line_of_one form fs o) number behind)
   one_read fs None = fields_read fs
   one_read fs (Some more) = (tt, tt)
 
-  records_read : (o : Option _) → AllFit (read_line (line_of_records o) number behind)
+  records_read : (o : Option _) → AllFit (read_line (line_of_records form o) number behind)
   records_read None = all
   records_read (Some read) = one_read read.0 (record_after read)
 
-  line_read : (line : List ℕ) → AllFit (read_line (line_of number line) number behind)
+  line_read : (line : List ℕ) → AllFit (read_line (line_of form number line) number behind)
   unfolding line_of
   line_read line =
       elim (nat_lt 4096 (length line)) as (λ b. AllFit (read_line (cond b (line_of_row None) (cond (not (number == 1) && begins_with_mark line) (line_of_row None)
-      (line_of_records (first_record line)))) number behind)) [
+      (line_of_records form (first_record line)))) number behind)) [
         | true ↦ (tt, tt)
         | false ↦ elim (not (number == 1) && begins_with_mark line) as (λ b. AllFit (read_line (cond b (line_of_row None)
-            (line_of_records (first_record line))) number behind)) [
+            (line_of_records form (first_record line))) number behind)) [
               | true ↦ (tt, tt)
               | false ↦ records_read (first_record line)
             ]
       ]
 
-lines_read : (before : ℕ) (lines : List (List ℕ)) → AllFit (read_lines before lines)
+lines_read : (form : RowForm) (before : ℕ) (lines : List (List ℕ)) → AllFit (read_lines form before lines)
 unfolding read_lines
-lines_read before [] = (tt, tt)
-lines_read before (line ∷ lines) =
+lines_read form before [] = (tt, tt)
+lines_read form before (line ∷ lines) =
     elim (before + 1 == 2 ^ 32) as (λ b. AllFit
-    (cond b (TooManyLines ∷ []) (read_line (line_of (before + 1) line) (before + 1) (read_lines (before + 1) lines)))) [
+    (cond b (TooManyLines ∷ []) (read_line (line_of form (before + 1) line) (before + 1) (read_lines form (before + 1) lines)))) [
       | true ↦ (tt, tt)
-      | false ↦ line_read (before + 1) (read_lines (before + 1) lines) (lines_read (before + 1) lines) line
+      | false ↦ line_read form (before + 1) (read_lines form (before + 1) lines) (lines_read form (before + 1) lines) line
     ]
 
-pub file_read : (bytes : List ℕ) → AllByRecursion NextFits (read_file bytes)
-file_read bytes = lines_read 0 (lines_of bytes)
+pub file_read : (form : RowForm) (bytes : List ℕ) → AllByRecursion NextFits (read_file form bytes)
+file_read form bytes = lines_read form 0 (lines_of bytes)
 
 -- ---- the rows that were read
 rows_read : (lines : List Next) → AllByRecursion NextFits lines → AllByRecursion RowFits (rows_of lines)
@@ -197,7 +252,7 @@ rows_read (Done number ∷ lines) all = rows_read lines all.1
 -- their greatest time is below 2^63
 times_low : (rows : List Row) → AllByRecursion RowFits rows → AllByRecursion (λ t. t < 2 ^ 63) (times_of rows)
 times_low [] all = tt
-times_low (EventRow time name key value ∷ rows) all = (all.0.0, times_low rows all.1)
+times_low (EventRow time name key fields ∷ rows) all = (all.0.0, times_low rows all.1)
 times_low (BeatRow time ∷ rows) all = (all.0, times_low rows all.1)
 times_low (EndRow ∷ rows) all = times_low rows all.1
 
@@ -222,17 +277,32 @@ ItemFits (EventItem x) = EventFits x
 ItemFits (BeatItem t) = ⊤
 ItemFits EndItem = ⊤
 
+-- what a row gives its event
+given_fits : (has_item has_value : Bool) (fields : Fields) → FieldsFit fields → IsWord (unwrap_or (given has_item has_value fields) (0, pos 0)).1
+given_fits true has_value Nothing fits = omega arith
+given_fits false true Nothing fits = omega arith
+given_fits false false Nothing fits = omega arith
+given_fits false false (One item value) fits = omega arith
+given_fits false true (One item value) fits = fits
+given_fits true false (One None value) fits = omega arith
+given_fits true false (One (Some i) value) fits = omega arith
+given_fits true true (One item value) fits = omega arith
+given_fits false has_value (Two item value) fits = omega arith
+given_fits true false (Two item value) fits = omega arith
+given_fits true true (Two item value) fits = fits
+given_fits has_item has_value Other fits = omega arith
+
+value_given : (kind : Option Kind) (fields : Fields) → FieldsFit fields → IsWord (unwrap_or (given_by kind fields) (0, pos 0)).1
+value_given None fields fits = omega arith
+value_given (Some kind) fields fits = given_fits kind.has_item kind.has_value fields fits
+
 item_fits : (kinds : List Kind) (s : Source) (first place : ℕ) (row : Row) → RowFits row → IfSome (item_in kinds s first place row) ItemFits
-item_fits kinds s first place (EventRow time name key value) fits =
+item_fits kinds s first place (EventRow time name key fields) fits =
     elim (unwrap_or (option_map (λ n. n == place) (place_named kinds s name key)) false) as (λ b. IfSome (cond b
-    (Some (EventItem (record { time = time; itag = record { 0 = first + place }; value = unwrap_or value (pos 0) }))) None) ItemFits) [
-      | true ↦ (fits.0, by value fits.1)
+    (Some (EventItem (event_of time (first + place) (given_to kinds name fields)))) None) ItemFits) [
+      | true ↦ (fits.0, value_given _ fields fits.1)
       | false ↦ tt
     ]
-  where
-    by : (o : Option ℤ) → IfSome o IsWord → IsWord (unwrap_or o (pos 0))
-    by None word = omega arith
-    by (Some v) word = word
 item_fits kinds s first place (BeatRow time) fits = tt
 item_fits kinds s first place EndRow fits = tt
 

@@ -8,17 +8,18 @@ use Rattle.flu_lemmas.proofs.Searches.{list_any-map}
 use Rattle.flu_model.specs.declared.events.Cell.{Cell}
 use Rattle.flu_model.specs.declared.events.Tag.{Tag}
 use Rattle.flu_model.specs.declared.jobs.Act.{Act}
-use Rattle.flu_model.specs.declared.jobs.Act.TheVariants.{Add, Raise, Set, Clear, Emit, Flush}
+use Rattle.flu_model.specs.declared.jobs.Act.TheVariants.{Add, Raise, Set, Clear, ClearFamily, Emit, Flush}
 use Rattle.flu_model.specs.declared.jobs.Action.{Action}
 use Rattle.flu_model.specs.declared.jobs.Depend.{Depend}
 use Rattle.flu_model.specs.declared.jobs.Expr.{Expr}
-use Rattle.flu_model.specs.declared.jobs.Expr.TheVariants.{Lit, Value, Key, Time, Read, Has, Neg', Not', Two'}
+use Rattle.flu_model.specs.declared.jobs.Expr.TheVariants.{Lit, Value, Key, Item, Time, Read, Has, Neg', Not', Two'}
 use Rattle.flu_model.specs.declared.jobs.Kind.{Kind}
 use Rattle.flu_model.specs.declared.jobs.Program.{Program}
 use Rattle.flu_model.specs.declared.jobs.Source.{Source}
 use Rattle.flu_model.specs.declared.modes.Mode.{Mode}
-use Rattle.flu_model.specs.Erasure.{Term, Literal, EventValue, EventKey, EventTime, CellRead, CellHeld, Negative, Negation, Operation, term_of, PlainAct}
-use Rattle.flu_model.specs.Erasure.{Adding, Raising, Setting, Clearing, Emitting, Flushing, plain_act, PlainAction, plain_action, PlainKind, plain_kind, Job}
+use Rattle.flu_model.specs.Erasure.{Term, Literal, EventValue, EventKey, EventItem, EventTime, CellRead, CellHeld, Negative, Negation, Operation, term_of}
+use Rattle.flu_model.specs.Erasure.{PlainAct, Adding, Raising, Setting, Clearing, ClearingFamily, Emitting, Flushing, plain_act, PlainAction}
+use Rattle.flu_model.specs.Erasure.{plain_action, PlainKind, plain_kind, Job}
 use Rattle.flu_model.specs.Erasure.{IsSameJob}
 use Rattle.flu_model.specs.Itags.{ties_tags}
 use Rattle.flu_model.specs.Listing.{itags_of_sources}
@@ -31,6 +32,7 @@ term_reads : ℕ → Cell → Term → Bool
 term_reads key c (Literal n) = false
 term_reads key c EventValue = false
 term_reads key c EventKey = false
+term_reads key c EventItem = false
 term_reads key c EventTime = false
 term_reads key c (CellRead r) = means key c r
 term_reads key c (CellHeld r) = means key c r
@@ -43,6 +45,7 @@ unfolding term_reads
 reads-term key c (Lit n) = refl
 reads-term key c Value = refl
 reads-term key c Key = refl
+reads-term key c Item = refl
 reads-term key c Time = refl
 reads-term key c (Read r) = refl
 reads-term key c (Has r) = refl
@@ -64,6 +67,7 @@ plain_act_reads key c (Adding r e) = term_reads key c e
 plain_act_reads key c (Raising r e) = term_reads key c e
 plain_act_reads key c (Setting r e) = term_reads key c e
 plain_act_reads key c (Clearing r) = false
+plain_act_reads key c (ClearingFamily f) = false
 plain_act_reads key c (Emitting ps) = list_any (piece_reads key c) ps
 plain_act_reads key c (Flushing f ps) = list_any (piece_reads key c) ps
 
@@ -73,6 +77,7 @@ reads-act key c (Add r e) = reads-term key c e
 reads-act key c (Raise r e) = reads-term key c e
 reads-act key c (Set r e) = reads-term key c e
 reads-act key c (Clear r) = refl
+reads-act key c (ClearFamily f) = refl
 reads-act key c (Emit ps) = refl
 reads-act key c (Flush f ps) = refl
 
@@ -81,6 +86,7 @@ plain_act_overwrites key c (Adding r e) = false
 plain_act_overwrites key c (Raising r e) = false
 plain_act_overwrites key c (Setting r e) = means key c r
 plain_act_overwrites key c (Clearing r) = means key c r
+plain_act_overwrites key c (ClearingFamily f) = c.family == f
 plain_act_overwrites key c (Emitting ps) = false
 plain_act_overwrites key c (Flushing f ps) = c.family == f
 
@@ -90,6 +96,7 @@ overwrites-act key c (Add r e) = refl
 overwrites-act key c (Raise r e) = refl
 overwrites-act key c (Set r e) = refl
 overwrites-act key c (Clear r) = refl
+overwrites-act key c (ClearFamily f) = refl
 overwrites-act key c (Emit ps) = refl
 overwrites-act key c (Flush f ps) = refl
 
@@ -103,6 +110,7 @@ adds-act key c (Add r e) = refl
 adds-act key c (Raise r e) = refl
 adds-act key c (Set r e) = refl
 adds-act key c (Clear r) = refl
+adds-act key c (ClearFamily f) = refl
 adds-act key c (Emit ps) = refl
 adds-act key c (Flush f ps) = refl
 
@@ -116,6 +124,7 @@ raises-act key c (Add r e) = refl
 raises-act key c (Raise r e) = refl
 raises-act key c (Set r e) = refl
 raises-act key c (Clear r) = refl
+raises-act key c (ClearFamily f) = refl
 raises-act key c (Emit ps) = refl
 raises-act key c (Flush f ps) = refl
 

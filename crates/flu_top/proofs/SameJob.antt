@@ -1,6 +1,6 @@
 -- Programs that are the same job have the same faults of their sources.
-use Rattle.std.proofs.Common.{◌≡◌, refl, sym, ap, ◌∙◌, ℕ, ◌+◌, ℤ, List, [], ◌∷◌, length, Bool, false, map, Option, Some, None}
-use Rattle.std.specs.Prelude.{option_map, option_and_then, is_none, is_some, not, slice_get, if◌then◌else◌}
+use Rattle.std.proofs.Common.{◌≡◌, refl, sym, ap, ◌∙◌, ℕ, ◌+◌, ℤ, List, [], ◌∷◌, length, Bool, map, Option, Some, None}
+use Rattle.std.specs.Prelude.{option_map, option_and_then, is_none, is_some, not, slice_get}
 use Rattle.std.specs.List.{position}
 use Rattle.std.specs.Option.{option_map_or}
 use Rattle.std.proofs.Math.Path.{fun_ext}
@@ -9,21 +9,24 @@ use Rattle.flu_model.specs.declared.jobs.Kind.{Kind}
 use Rattle.flu_model.specs.declared.jobs.Source.{Source}
 use Rattle.flu_model.specs.declared.jobs.Program.{Program}
 use Rattle.flu_model.specs.declared.events.Tag.{Tag}
-use Rattle.flu_model.specs.Erasure.{PlainKind, plain_kind, IsSameJob}
+use Rattle.flu_model.specs.Erasure.{PlainKind, plain_kind, Job, IsSameJob}
 use Rattle.flu_model.specs.Listing.{tag, tags_of_source}
 use Rattle.flu_model.specs.Rules.{is_same_text, is_same_tag}
 use Rattle.flu_outside.specs.Outside.{Contents}
+use Rattle.flu_rows.specs.declared.row.RowForm.{RowForm}
+use Rattle.flu_rows.specs.declared.row.Fields.{Fields}
 use Rattle.flu_rows.specs.declared.row.Row.{Row}
 use Rattle.flu_rows.specs.declared.row.Row.TheVariants.{Event, Beat, End}
 use Rattle.flu_rows.specs.declared.rows.Next.{Next}
 use Rattle.flu_rows.specs.declared.rows.Next.TheVariants.{Row as RowNext, Bad, TooManyLines, Done}
+use Rattle.flu_rows.specs.Row.{form_of}
 use Rattle.flu_rows.specs.Reading.{read_file}
 use Rattle.flu_outside.specs.Taking.{bytes_left}
 use Rattle.flu_streams.specs.declared.faults.Why.{Why}
 use Rattle.flu_streams.specs.declared.faults.Why.TheVariants.{BadRow, UnknownTag, AfterEnd}
 use Rattle.flu_streams.specs.Before.{each_with_before, first_some}
-use Rattle.flu_streams.specs.Tags.{kind_named, key_named, tag_named, place_named, has_its_value, value_fits, width}
-use Rattle.flu_streams.specs.Tests.{where_true, test_tag, test_value, test_time, test_items, tests, defect_of, first_defect, has_ended, times_of, items_of}
+use Rattle.flu_streams.specs.Tags.{kind_named, key_named, tag_named, place_named, given, given_by, given_to, fields_fit, width}
+use Rattle.flu_streams.specs.Tests.{where_true, test_tag, test_fields, test_time, test_items, tests, defect_of, first_defect, has_ended, times_of, items_of}
 use Rattle.flu_streams.specs.Tests.{rows_of}
 use Rattle.flu_streams.specs.Good.{fault_of_source, items_held, first_fault}
 use Rattle.flu_lemmas.proofs.Places.{position-map}
@@ -33,7 +36,7 @@ use Rattle.flu_top.specs.Behind.{emptied_each, fault_behind}
 use Rattle.flu_top.specs.Mended.{AreMended}
 use Rattle.flu_top.specs.Reading.{Reading, Unread, Whole, InRounds, AreSourcesGood, lines_behind}
 
--- ---- what a row's tag and value are tested by depends on the kinds without their actions
+-- ---- what a row's tag and fields are tested by depends on the kinds without their actions
 kind_of_plain : List PlainKind → List ℕ → Option ℕ
 kind_of_plain kinds name = position (λ (k : PlainKind). is_same_text k.name name) kinds
 
@@ -61,22 +64,22 @@ tag_plain kinds name key =
     at number None = refl
     at number (Some kind) = refl
 
-fits_at : Option ℤ → Option PlainKind → Bool
-fits_at value None = false
-fits_at value (Some kind) = if kind.has_value then is_some value else is_none value
+given_at : Fields → Option PlainKind → Option (ℕ × ℤ)
+given_at fields None = None
+given_at fields (Some kind) = given kind.has_item kind.has_value fields
 
-fits_plain : (kinds : List Kind) (name : List ℕ) (value : Option ℤ) → value_fits kinds name value
-    ≡ fits_at value (option_and_then (λ number. slice_get (map plain_kind kinds) number) (kind_of_plain (map plain_kind kinds) name))
-unfolding fits_at
-fits_plain kinds name value =
-    ap (λ o. has_its_value (option_and_then (λ number. slice_get kinds number) o) value) (kind_plain kinds name)
+given_plain : (kinds : List Kind) (name : List ℕ) (fields : Fields) → given_to kinds name fields
+    ≡ given_at fields (option_and_then (λ number. slice_get (map plain_kind kinds) number) (kind_of_plain (map plain_kind kinds) name))
+unfolding given_at
+given_plain kinds name fields =
+    ap (λ o. given_by (option_and_then (λ number. slice_get kinds number) o) fields) (kind_plain kinds name)
     ∙ (at (option_and_then (λ number. slice_get kinds number) named)
-    ∙ ap (fits_at value) (inside named ∙ ap (λ f. option_and_then f named) (fun_ext (λ number. sym (slice_get-map plain_kind kinds number)))))
+    ∙ ap (given_at fields) (inside named ∙ ap (λ f. option_and_then f named) (fun_ext (λ number. sym (slice_get-map plain_kind kinds number)))))
   where
     named : Option ℕ
     named = kind_of_plain (map plain_kind kinds) name
 
-    at : (o : Option Kind) → has_its_value o value ≡ fits_at value (option_map plain_kind o)
+    at : (o : Option Kind) → given_by o fields ≡ given_at fields (option_map plain_kind o)
     at None = refl
     at (Some kind) = refl
 
@@ -92,20 +95,24 @@ same_place kinds others s name key alike =
     ap (λ o. option_and_then (λ t. position (is_same_tag t) (tags_of_source s)) o)
     (tag_plain kinds name key ∙ (ap (λ ks. tag_of_plain ks name key) alike ∙ sym (tag_plain others name key)))
 
-same_fits : (kinds others : List Kind) (name : List ℕ) (value : Option ℤ) → map plain_kind kinds ≡ map plain_kind others
-    → value_fits kinds name value ≡ value_fits others name value
-same_fits kinds others name value alike =
-    fits_plain kinds name value
-    ∙ (ap (λ (ks : List PlainKind). fits_at value (option_and_then (λ number. slice_get ks number) (kind_of_plain ks name))) alike
-    ∙ sym (fits_plain others name value))
+pub same_given : (kinds others : List Kind) (name : List ℕ) (fields : Fields) → map plain_kind kinds ≡ map plain_kind others
+    → given_to kinds name fields ≡ given_to others name fields
+same_given kinds others name fields alike =
+    given_plain kinds name fields
+    ∙ (ap (λ (ks : List PlainKind). given_at fields (option_and_then (λ number. slice_get ks number) (kind_of_plain ks name))) alike
+    ∙ sym (given_plain others name fields))
+
+same_fits : (kinds others : List Kind) (name : List ℕ) (fields : Fields) → map plain_kind kinds ≡ map plain_kind others
+    → fields_fit kinds name fields ≡ fields_fit others name fields
+same_fits kinds others name fields alike = ap (λ (o : Option (ℕ × ℤ)). is_some o) (same_given kinds others name fields alike)
 
 same_tests : (kinds others : List Kind) (s : Source) (ended : Bool) (earlier : List ℕ) (held : ℕ) (row : Row) → map plain_kind kinds ≡ map plain_kind others
     → tests kinds s ended earlier held row ≡ tests others s ended earlier held row
-same_tests kinds others s ended earlier held (Event time name key value) alike =
-    ap (λ o. where_true ended AfterEnd ∷ where_true (is_none o) UnknownTag ∷ test_value kinds (Event time name key value) ∷ test_time s.slack earlier
-    (Event time name key value) ∷ test_items (width s) held (Event time name key value) ∷ []) (same_place kinds others s name key alike)
-    ∙ ap (λ b. where_true ended AfterEnd ∷ test_tag others s (Event time name key value) ∷ where_true (not b) BadRow ∷ test_time s.slack earlier
-    (Event time name key value) ∷ test_items (width s) held (Event time name key value) ∷ []) (same_fits kinds others name value alike)
+same_tests kinds others s ended earlier held (Event time name key fields) alike =
+    ap (λ o. where_true ended AfterEnd ∷ where_true (is_none o) UnknownTag ∷ test_fields kinds (Event time name key fields) ∷ test_time s.slack earlier
+    (Event time name key fields) ∷ test_items (width s) held (Event time name key fields) ∷ []) (same_place kinds others s name key alike)
+    ∙ ap (λ b. where_true ended AfterEnd ∷ test_tag others s (Event time name key fields) ∷ where_true (not b) BadRow ∷ test_time s.slack earlier
+    (Event time name key fields) ∷ test_items (width s) held (Event time name key fields) ∷ []) (same_fits kinds others name fields alike)
 same_tests kinds others s ended earlier held (Beat time) alike = refl
 same_tests kinds others s ended earlier held End alike = refl
 
@@ -118,22 +125,22 @@ same_defect kinds others s held read (Bad line) alike = refl
 same_defect kinds others s held read TooManyLines alike = refl
 same_defect kinds others s held read (Done lines) alike = refl
 
-same_first_defect : (kinds others : List Kind) (s : Source) (held : ℕ) (bytes : List ℕ) → map plain_kind kinds ≡ map plain_kind others
-    → first_defect kinds s held bytes ≡ first_defect others s held bytes
-same_first_defect kinds others s held bytes alike =
-    ap (λ f. first_some f (each_with_before (read_file bytes))) (fun_ext (λ (e : List Next × Next). same_defect kinds others s held e.0 e.1 alike))
+same_first_defect : (form : RowForm) (kinds others : List Kind) (s : Source) (held : ℕ) (bytes : List ℕ) → map plain_kind kinds ≡ map plain_kind others
+    → first_defect form kinds s held bytes ≡ first_defect form others s held bytes
+same_first_defect form kinds others s held bytes alike =
+    ap (λ f. first_some f (each_with_before (read_file form bytes))) (fun_ext (λ (e : List Next × Next). same_defect kinds others s held e.0 e.1 alike))
 
-same_source_fault : (kinds others : List Kind) (left : Contents) (earlier : List Source) (s : Source) → map plain_kind kinds ≡ map plain_kind others
-    → fault_of_source kinds left earlier s ≡ fault_of_source others left earlier s
-same_source_fault kinds others left earlier s alike =
+same_source_fault : (form : RowForm) (kinds others : List Kind) (left : Contents) (earlier : List Source) (s : Source)
+    → map plain_kind kinds ≡ map plain_kind others → fault_of_source form kinds left earlier s ≡ fault_of_source form others left earlier s
+same_source_fault form kinds others left earlier s alike =
     ap (option_map (λ (d : ℕ × Why). record { source = length earlier; row = d.0; why = d.1 }))
-    (same_first_defect kinds others s (items_held left earlier) (bytes_left left s.file) alike)
+    (same_first_defect form kinds others s (items_held form left earlier) (bytes_left left s.file) alike)
 
 same_first_fault : (p q : Program) (left : Contents) → IsSameJob p q → first_fault p left ≡ first_fault q left
 same_first_fault p q left same =
-    ap (λ (ss : List Source). first_some (λ e. fault_of_source p.kinds left e.0 e.1) (each_with_before ss)) (ap (λ j. j.sources) same)
-    ∙ ap (λ f. first_some f (each_with_before q.sources)) (fun_ext (λ (e : List Source × Source). same_source_fault p.kinds q.kinds left e.0 e.1
-    (ap (λ j. j.kinds) same)))
+    ap (λ (j : Job). first_some (λ e. fault_of_source (form_of j.version) p.kinds left e.0 e.1) (each_with_before j.sources)) same
+    ∙ ap (λ f. first_some f (each_with_before q.sources)) (fun_ext (λ (e : List Source × Source). same_source_fault (form_of q.version)
+    p.kinds q.kinds left e.0 e.1 (ap (λ j. j.kinds) same)))
 
 same_fault : (texts : List (List ℕ)) (left : Contents) (p q : Program) → IsSameJob p q → fault_behind texts left p ≡ fault_behind texts left q
 unfolding fault_behind
@@ -142,11 +149,11 @@ same_fault texts left p q same = same_first_fault p q (emptied_each texts left) 
 -- ---- and the same defects in rounds
 same_row_fault : (kinds others : List Kind) (s : Source) (ended : Bool) (earlier : List ℕ) (row : Row) → map plain_kind kinds ≡ map plain_kind others
     → row_fault kinds s ended earlier row ≡ row_fault others s ended earlier row
-same_row_fault kinds others s ended earlier (Event time name key value) alike =
-    ap (λ o. first_some (λ (test : Option Why). test) (where_true ended AfterEnd ∷ where_true (is_none o) UnknownTag ∷ test_value kinds
-    (Event time name key value) ∷ test_time s.slack earlier (Event time name key value) ∷ [])) (same_place kinds others s name key alike)
-    ∙ ap (λ b. first_some (λ (test : Option Why). test) (where_true ended AfterEnd ∷ test_tag others s (Event time name key value) ∷ where_true
-    (not b) BadRow ∷ test_time s.slack earlier (Event time name key value) ∷ [])) (same_fits kinds others name value alike)
+same_row_fault kinds others s ended earlier (Event time name key fields) alike =
+    ap (λ o. first_some (λ (test : Option Why). test) (where_true ended AfterEnd ∷ where_true (is_none o) UnknownTag ∷ test_fields kinds
+    (Event time name key fields) ∷ test_time s.slack earlier (Event time name key fields) ∷ [])) (same_place kinds others s name key alike)
+    ∙ ap (λ b. first_some (λ (test : Option Why). test) (where_true ended AfterEnd ∷ test_tag others s (Event time name key fields) ∷ where_true
+    (not b) BadRow ∷ test_time s.slack earlier (Event time name key fields) ∷ [])) (same_fits kinds others name fields alike)
 same_row_fault kinds others s ended earlier (Beat time) alike = refl
 same_row_fault kinds others s ended earlier End alike = refl
 
@@ -165,8 +172,8 @@ same_defect_in kinds others s lines alike = ap (λ f. first_some f (each_with_be
 
 pub same_lines : (texts : List (List ℕ)) (left : Contents) (p q : Program) (i : ℕ) → IsSameJob p q → lines_behind texts left q i ≡ lines_behind texts left p i
 same_lines texts left p q i same =
-    ap (λ (ss : List Source). option_map_or (λ (s : Source). read_file (bytes_left (emptied_each texts left) s.file)) (slice_get ss i) [])
-    (sym (ap (λ j. j.sources) same))
+    ap (λ (j : Job). option_map_or (λ (s : Source). read_file (form_of j.version) (bytes_left (emptied_each texts left) s.file)) (slice_get j.sources i) [])
+    (sym same)
 
 pub same_sound : (texts : List (List ℕ)) (left : Contents) (p q : Program) → IsSameJob p q → AreSound p (lines_behind texts left p)
     → AreSound q (lines_behind texts left q)

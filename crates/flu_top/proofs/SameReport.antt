@@ -1,32 +1,32 @@
 -- Programs that are the same job have the same report of the same sources.
 use Rattle.std.proofs.Common.{◌≡◌, refl, sym, ap, ◌∙◌, ℕ, ◌+◌, ◌==◌, ℤ, pos, List, [], ◌∷◌, ◌++◌, Bool, false, true, map, Option, Some, None}
-use Rattle.std.specs.Prelude.{option_map, slice_get, slice_index_or, unwrap_or, not, neg_ℤ, is_some, codes, sum_by, if◌then◌else◌}
+use Rattle.std.specs.Prelude.{option_map, slice_get, slice_index_or, unwrap_or, not, neg_ℤ, is_some, sum_by, if◌then◌else◌}
 use Rattle.std.specs.List.{filter_map, flat_map, range_with_len}
 use Rattle.std.specs.Ordering.{is_lt}
 use Rattle.std.proofs.Math.Path.{fun_ext}
 use Rattle.std.proofs.lemmas.Option.{slice_get-map}
 use Rattle.flu_lemmas.specs.Sorting.{in_order}
 use Rattle.flu_model.specs.declared.events.Event.{Event}
-use Rattle.flu_model.specs.declared.events.Item.{Item}
-use Rattle.flu_model.specs.declared.events.Item.TheVariants.{Event as EventItem, Beat as BeatItem, End as EndItem}
+use Rattle.flu_model.specs.declared.events.Item.TheVariants.{Event as EventItem, End as EndItem}
 use Rattle.flu_model.specs.declared.events.Itag.{Itag}
 use Rattle.flu_model.specs.declared.events.Out.{Out}
 use Rattle.flu_model.specs.declared.events.Tag.{Tag}
 use Rattle.flu_model.specs.declared.events.Worth.TheVariants.{Last}
 use Rattle.flu_model.specs.declared.jobs.Act.{Act}
-use Rattle.flu_model.specs.declared.jobs.Act.TheVariants.{Add, Raise, Set, Clear, Emit, Flush}
+use Rattle.flu_model.specs.declared.jobs.Act.TheVariants.{Add, Raise, Set, Clear, ClearFamily, Emit, Flush}
 use Rattle.flu_model.specs.declared.jobs.Action.{Action}
 use Rattle.flu_model.specs.declared.jobs.Expr.{Expr}
-use Rattle.flu_model.specs.declared.jobs.Expr.TheVariants.{Lit, Value, Key, Time, Read, Has, Neg', Not', Two'}
+use Rattle.flu_model.specs.declared.jobs.Expr.TheVariants.{Lit, Value, Key, Item as EventsItem, Time, Read, Has, Neg', Not', Two'}
 use Rattle.flu_model.specs.declared.jobs.Family.{Family}
 use Rattle.flu_model.specs.declared.jobs.Kind.{Kind}
 use Rattle.flu_model.specs.declared.jobs.Program.{Program}
 use Rattle.flu_model.specs.declared.jobs.Source.{Source}
 use Rattle.flu_model.specs.Contents.{Contents, cell, with_worth, added, raised, number_in, held_keys, without_family}
-use Rattle.flu_model.specs.Erasure.{Term, Literal, EventValue, EventKey, EventTime, CellRead, CellHeld, Negative, Negation, Operation, term_of, PlainAct}
-use Rattle.flu_model.specs.Erasure.{Adding, Raising, Setting, Clearing, Emitting, Flushing, plain_act, PlainAction, plain_action, PlainKind, plain_kind, Job}
+use Rattle.flu_model.specs.Erasure.{Term, Literal, EventValue, EventKey, EventItem as ItemTerm, EventTime, CellRead, CellHeld, Negative, Negation, Operation}
+use Rattle.flu_model.specs.Erasure.{term_of, PlainAct, Adding, Raising, Setting, Clearing, ClearingFamily, Emitting, Flushing, plain_act, PlainAction}
+use Rattle.flu_model.specs.Erasure.{plain_action, PlainKind, plain_kind, Job}
 use Rattle.flu_model.specs.Erasure.{job_of, IsSameJob}
-use Rattle.flu_model.specs.Expressions.{cell_of, clamped, as_number, is_true, result_of, value_of_expr}
+use Rattle.flu_model.specs.Expressions.{cell_of, item_of, clamped, as_number, is_true, result_of, value_of_expr}
 use Rattle.flu_model.specs.Folding.{outputs_at, outputs_with, outputs_of, final_outputs}
 use Rattle.flu_model.specs.Listing.{tag, itags_of_sources}
 use Rattle.flu_model.specs.Merging.{merged}
@@ -34,21 +34,23 @@ use Rattle.flu_model.specs.Reports.{name_with_key, kind_text, line_of, line_cmp,
 use Rattle.flu_model.specs.Texts.{pieces_text}
 use Rattle.flu_model.specs.Updates.{Effect, changes_to, effect_of_act, passes_guard, effect_of_action, effect_of_actions, actions_of, effect_of}
 use Rattle.flu_outside.specs.Outside.{Contents as Files}
+use Rattle.flu_rows.specs.Row.{form_of}
 use Rattle.flu_rows.specs.declared.row.Row.{Row}
 use Rattle.flu_rows.specs.declared.row.Row.TheVariants.{Event as EventRow, Beat, End}
 use Rattle.flu_streams.specs.Before.{each_with_before}
-use Rattle.flu_streams.specs.Good.{rows_in, item_in, in_time_order, items_at, lists_of_rows, lists_of}
-use Rattle.flu_streams.specs.Tags.{width}
-use Rattle.flu_top.proofs.SameJob.{same_place}
+use Rattle.flu_streams.specs.Good.{event_of, rows_in, item_in, in_time_order, items_at, lists_of_rows, lists_of}
+use Rattle.flu_streams.specs.Tags.{place_named, given_to, width}
+use Rattle.flu_top.proofs.SameJob.{same_place, same_given}
 
 -- ---- the update depends on the actions as plain data
 value_of_term : Term → Contents → Event → ℕ → ℤ
 value_of_term (Literal n) s x key = n
 value_of_term EventValue s x key = x.value
 value_of_term EventKey s x key = pos key
+value_of_term ItemTerm s x key = pos (item_of x)
 value_of_term EventTime s x key = clamped (pos x.time)
-value_of_term (CellRead r) s x key = number_in (s (cell_of r key))
-value_of_term (CellHeld r) s x key = as_number (is_some (s (cell_of r key)))
+value_of_term (CellRead r) s x key = number_in (s (cell_of r key (item_of x)))
+value_of_term (CellHeld r) s x key = as_number (is_some (s (cell_of r key (item_of x))))
 value_of_term (Negative e) s x key = clamped (neg_ℤ (value_of_term e s x key))
 value_of_term (Negation e) s x key = as_number (not (is_true (value_of_term e s x key)))
 value_of_term (Operation op a b) s x key = result_of op (value_of_term a s x key) (value_of_term b s x key)
@@ -58,6 +60,7 @@ unfolding value_of_term
 value-term (Lit n) s x key = refl
 value-term Value s x key = refl
 value-term Key s x key = refl
+value-term EventsItem s x key = refl
 value-term Time s x key = refl
 value-term (Read r) s x key = refl
 value-term (Has r) s x key = refl
@@ -67,11 +70,12 @@ value-term (Two' op p a q b) s x key = λ i. result_of op (value-term a s x key 
 
 effect_of_plain_act : List Family → PlainAct → Contents → Event → ℕ → Effect
 effect_of_plain_act families (Adding r e) s x key =
-    changes_to (with_worth s (cell_of r key) (added (s (cell_of r key)) (value_of_term e s x key)))
+    changes_to (with_worth s (cell_of r key (item_of x)) (added (s (cell_of r key (item_of x))) (value_of_term e s x key)))
 effect_of_plain_act families (Raising r e) s x key =
-    changes_to (with_worth s (cell_of r key) (raised (s (cell_of r key)) (value_of_term e s x key)))
-effect_of_plain_act families (Setting r e) s x key = changes_to (with_worth s (cell_of r key) (Some (Last (value_of_term e s x key))))
-effect_of_plain_act families (Clearing r) s x key = changes_to (with_worth s (cell_of r key) None)
+    changes_to (with_worth s (cell_of r key (item_of x)) (raised (s (cell_of r key (item_of x))) (value_of_term e s x key)))
+effect_of_plain_act families (Setting r e) s x key = changes_to (with_worth s (cell_of r key (item_of x)) (Some (Last (value_of_term e s x key))))
+effect_of_plain_act families (Clearing r) s x key = changes_to (with_worth s (cell_of r key (item_of x)) None)
+effect_of_plain_act families (ClearingFamily f) s x key = changes_to (without_family s f)
 effect_of_plain_act families (Emitting ps) s x key = record { cells = s; texts = pieces_text families ps s x key None ∷ [] }
 effect_of_plain_act families (Flushing f ps) s x key =
     record { cells = without_family s f; texts = map (λ k. pieces_text families ps s x k (s (cell f k))) (held_keys s f) }
@@ -79,10 +83,13 @@ effect_of_plain_act families (Flushing f ps) s x key =
 act-plain : (families : List Family) (act : Act) (s : Contents) (x : Event) (key : ℕ)
     → effect_of_act families act s x key ≡ effect_of_plain_act families (plain_act act) s x key
 unfolding effect_of_plain_act
-act-plain families (Add r e) s x key = ap (λ z. changes_to (with_worth s (cell_of r key) (added (s (cell_of r key)) z))) (value-term e s x key)
-act-plain families (Raise r e) s x key = ap (λ z. changes_to (with_worth s (cell_of r key) (raised (s (cell_of r key)) z))) (value-term e s x key)
-act-plain families (Set r e) s x key = ap (λ z. changes_to (with_worth s (cell_of r key) (Some (Last z)))) (value-term e s x key)
+act-plain families (Add r e) s x key =
+    ap (λ z. changes_to (with_worth s (cell_of r key (item_of x)) (added (s (cell_of r key (item_of x))) z))) (value-term e s x key)
+act-plain families (Raise r e) s x key =
+    ap (λ z. changes_to (with_worth s (cell_of r key (item_of x)) (raised (s (cell_of r key (item_of x))) z))) (value-term e s x key)
+act-plain families (Set r e) s x key = ap (λ z. changes_to (with_worth s (cell_of r key (item_of x)) (Some (Last z)))) (value-term e s x key)
 act-plain families (Clear r) s x key = refl
+act-plain families (ClearFamily f) s x key = refl
 act-plain families (Emit ps) s x key = refl
 act-plain families (Flush f ps) s x key = refl
 
@@ -152,7 +159,7 @@ same_effect : (p q : Program) (s : Contents) (x : Event) → IsSameJob p q → e
 same_effect p q s x same = effect-plain p s x ∙ (ap (λ (j : Job). plain_effect j s x) same ∙ sym (effect-plain q s x))
 
 -- ---- so do the outputs
-same_outputs : (p q : Program) (s : Contents) (xs : List Event) → IsSameJob p q → outputs_of p s xs ≡ outputs_of q s xs
+pub same_outputs : (p q : Program) (s : Contents) (xs : List Event) → IsSameJob p q → outputs_of p s xs ≡ outputs_of q s xs
 same_outputs p q s [] same = refl
 same_outputs p q s (x ∷ xs) same =
     let e = effect_of q s x in
@@ -163,10 +170,13 @@ same_outputs p q s (x ∷ xs) same =
 -- ---- the lists of items
 same_item : (kinds others : List Kind) (s : Source) (first place : ℕ) (row : Row) → map plain_kind kinds ≡ map plain_kind others
     → item_in kinds s first place row ≡ item_in others s first place row
-same_item kinds others s first place (EventRow time name key value) alike =
+same_item kinds others s first place (EventRow time name key fields) alike =
     ap (λ o. if unwrap_or (option_map (λ n. n == place) o) false
-    then Some (EventItem (record { time = time; itag = record { 0 = first + place }; value = unwrap_or value (pos 0) }))
+    then Some (EventItem (event_of time (first + place) (given_to kinds name fields)))
     else None) (same_place kinds others s name key alike)
+    ∙ ap (λ (g : Option (ℕ × ℤ)). if unwrap_or (option_map (λ n. n == place) (place_named others s name key)) false
+    then Some (EventItem (event_of time (first + place) g))
+    else None) (same_given kinds others name fields alike)
 same_item kinds others s first place (Beat time) alike = refl
 same_item kinds others s first place End alike = refl
 
@@ -183,9 +193,9 @@ same_rows kinds others s first rows alike =
 pub same_lists : (p q : Program) (left : Files) → IsSameJob p q → lists_of p left ≡ lists_of q left
 same_lists p q left same =
     ap (λ f. flat_map f (each_with_before p.sources)) (fun_ext (λ (e : List Source × Source). same_rows p.kinds q.kinds e.1 (sum_by width e.0)
-    (rows_in left e.1) (ap (λ j. j.kinds) same)))
-    ∙ ap (λ (ss : List Source). flat_map (λ (e : List Source × Source). lists_of_rows q.kinds e.1 (sum_by width e.0) (rows_in left e.1))
-    (each_with_before ss)) (ap (λ j. j.sources) same)
+    (rows_in (form_of p.version) left e.1) (ap (λ j. j.kinds) same)))
+    ∙ ap (λ (j : Job). flat_map (λ (e : List Source × Source). lists_of_rows q.kinds e.1 (sum_by width e.0) (rows_in (form_of j.version) left e.1))
+    (each_with_before j.sources)) same
 
 -- ---- and the report
 plain_text : Option PlainKind → ℕ → List ℕ
@@ -206,7 +216,7 @@ same_text p q t same =
 same_line : (p q : Program) (o : Out) → IsSameJob p q → line_of p o ≡ line_of q o
 same_line p q o same = ap (λ text. record { time = o.time; tag = text; text = o.text }) (same_text p q o.tag same)
 
-same_lines_of : (p q : Program) (outs : List Out) → IsSameJob p q → report p outs ≡ report q outs
+pub same_lines_of : (p q : Program) (outs : List Out) → IsSameJob p q → report p outs ≡ report q outs
 same_lines_of p q outs same =
     ap (λ f. flat_map line_bytes (in_order (λ a b. is_lt (line_cmp a b)) (map f outs))) (fun_ext (λ (o : Out). same_line p q o same))
 

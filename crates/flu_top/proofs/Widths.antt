@@ -1,8 +1,9 @@
 -- The fold of events with values of 64 bits leaves maxima and last values that have 64 bits.
 use Rattle.std.proofs.Common.{◌≡◌, ℕ, zero, suc, ◌<◌, ◌≤◌, ◌^◌, ℤ, pos, negsuc, Bool, true, false, cond, Option, Some, None, List, [], ◌∷◌, length}
 use Rattle.std.proofs.Common.{refl, arith, get_or}
-use lib.Signed.{mag}
-use Rattle.std.specs.Prelude.{nat_lt, nat_le, ◌==◌, ◌&&◌, ◌||◌, not, slice_get, int_lt, int_le, ◌+ℤ◌, ◌-ℤ◌, ◌*ℤ◌, neg_ℤ, is_some, FitsSigned, IsTrue}
+use lib.Signed.{mag, mag_rem}
+use Rattle.std.specs.Prelude.{nat_lt, nat_le, ◌==◌, ◌&&◌, ◌||◌, not, slice_get, int_lt, int_le, ◌+ℤ◌, ◌-ℤ◌, ◌*ℤ◌, neg_ℤ, is_some}
+use Rattle.std.specs.Prelude.{int_div, int_rem, FitsSigned, IsTrue}
 use Rattle.std.specs.Int.{w64, w128, int_wrap}
 use Rattle.std.specs.Ordering.{int_eq}
 use Rattle.std.specs.List.{list_all, AllByRecursion}
@@ -16,17 +17,17 @@ use Rattle.flu_model.specs.declared.events.Tag.{Tag}
 use Rattle.flu_model.specs.declared.events.Worth.{Worth}
 use Rattle.flu_model.specs.declared.events.Worth.TheVariants.{Sum, Max, Last}
 use Rattle.flu_model.specs.declared.jobs.Act.{Act}
-use Rattle.flu_model.specs.declared.jobs.Act.TheVariants.{Add, Raise, Set, Clear, Emit, Flush}
+use Rattle.flu_model.specs.declared.jobs.Act.TheVariants.{Add, Raise, Set, Clear, ClearFamily, Emit, Flush}
 use Rattle.flu_model.specs.declared.jobs.Action.{Action}
 use Rattle.flu_model.specs.declared.jobs.Expr.{Expr}
-use Rattle.flu_model.specs.declared.jobs.Expr.TheVariants.{Lit, Value, Key, Time, Read, Has, Neg', Not', Two'}
+use Rattle.flu_model.specs.declared.jobs.Expr.TheVariants.{Lit, Value, Key, Item, Time, Read, Has, Neg', Not', Two'}
 use Rattle.flu_model.specs.declared.jobs.Family.{Family}
 use Rattle.flu_model.specs.declared.jobs.Kind.{Kind}
 use Rattle.flu_model.specs.declared.jobs.Op.{Op}
-use Rattle.flu_model.specs.declared.jobs.Op.TheVariants.{Plus, Minus, Times, Less, LessEq, More, MoreEq, Same, Differs, Both, Either}
+use Rattle.flu_model.specs.declared.jobs.Op.TheVariants.{Plus, Minus, Times, Divide, Remainder, Less, LessEq, More, MoreEq, Same, Differs, Both, Either}
 use Rattle.flu_model.specs.declared.jobs.Program.{Program}
-use Rattle.flu_model.specs.Contents.{Contents, is_same_cell, with_worth, added, raised, sum_in, number_in, key_count}
-use Rattle.flu_model.specs.Expressions.{cell_of, as_number, clamped, is_true, result_of, value_of_expr}
+use Rattle.flu_model.specs.Contents.{Contents, is_same_cell, with_worth, added, raised, sum_in, number_in, key_count, without_family}
+use Rattle.flu_model.specs.Expressions.{item_of, cell_of, quotient_of, remainder_of, as_number, clamped, is_true, result_of, value_of_expr}
 use Rattle.flu_model.specs.Folding.{state_after}
 use Rattle.flu_model.specs.Itags.{itags, count_of_itags, tag_of_itag}
 use Rattle.flu_model.specs.Listing.{tag}
@@ -46,18 +47,36 @@ truth_word : (b : Bool) → IsWord (as_number b)
 truth_word true = omega arith
 truth_word false = omega arith
 
-result_word : (op : Op) (a b : ℤ) → IsWord (result_of op a b)
-result_word Plus a b = clamped_word (a +ℤ b)
-result_word Minus a b = clamped_word (a -ℤ b)
-result_word Times a b = clamped_word (a *ℤ b)
-result_word Less a b = truth_word (int_lt a b)
-result_word LessEq a b = truth_word (int_le a b)
-result_word More a b = truth_word (int_lt b a)
-result_word MoreEq a b = truth_word (int_le b a)
-result_word Same a b = truth_word (int_eq a b)
-result_word Differs a b = truth_word (not (int_eq a b))
-result_word Both a b = truth_word (is_true a && is_true b)
-result_word Either a b = truth_word (is_true a || is_true b)
+quotient_word : (a b : ℤ) → IsWord (quotient_of a b)
+quotient_word a b =
+    elim (int_eq b (pos 0)) as (λ t. IsWord (cond t (pos 0) (clamped (int_div a b)))) [
+      | true ↦ omega arith
+      | false ↦ clamped_word (int_div a b)
+    ]
+
+-- a remainder is no farther from 0 than the left operand
+remainder_word : (a b : ℤ) → IsWord a → IsWord (remainder_of a b)
+remainder_word a b low =
+    let near = mag_rem a b in
+    elim (int_eq b (pos 0)) as (λ t. IsWord (cond t (pos 0) (int_rem a b))) [
+      | true ↦ omega arith
+      | false ↦ omega (arith, low, near)
+    ]
+
+result_word : (op : Op) (a b : ℤ) → IsWord a → IsWord (result_of op a b)
+result_word Plus a b low = clamped_word (a +ℤ b)
+result_word Minus a b low = clamped_word (a -ℤ b)
+result_word Times a b low = clamped_word (a *ℤ b)
+result_word Divide a b low = quotient_word a b
+result_word Remainder a b low = remainder_word a b low
+result_word Less a b low = truth_word (int_lt a b)
+result_word LessEq a b low = truth_word (int_le a b)
+result_word More a b low = truth_word (int_lt b a)
+result_word MoreEq a b low = truth_word (int_le b a)
+result_word Same a b low = truth_word (int_eq a b)
+result_word Differs a b low = truth_word (not (int_eq a b))
+result_word Both a b low = truth_word (is_true a && is_true b)
+result_word Either a b low = truth_word (is_true a || is_true b)
 
 literal_word : (n : ℤ) → is_literal n ≡ true → IsWord n
 literal_word (pos n) e = true_lt n (2 ^ 63) e
@@ -97,37 +116,52 @@ raised_width (Some (Max m)) v h word =
     ]
 raised_width (Some (Last n)) v h word = record { sfits = word }
 
+without_words : (s : Contents) (f : ℕ) → AreWords s → AreWords (without_family s f)
+without_words s f words d =
+    elim (d.family == f) as (λ b. HasWordWidth (cond b None (s d))) [
+      | true ↦ tt
+      | false ↦ words d
+    ]
+
 -- ---- an event
+item_word : (x : Event) → IsWord (pos (item_of x))
+item_word x =
+    elim (nat_lt x.item key_count) as (λ b. nat_lt x.item key_count ≡ b → IsWord (pos (cond b x.item 0))) [
+      | true ↦ λ e. let low : x.item < key_count = true_lt x.item key_count e in omega (arith, low)
+      | false ↦ λ e. omega arith
+    ] refl
+
 module _ (families : List Family) (keyed has_value : Bool) (x : Event) (key : ℕ) (value : IsWord x.value) (low : key < key_count) where
   expr_word : (e : Expr) (s : Contents) → expr_fits families keyed has_value e ≡ true → AreWords s → IsWord (value_of_expr e s x key)
   expr_word (Lit n) s fits words = literal_word n fits
   expr_word Value s fits words = value
   expr_word Key s fits words = omega (arith, low)
+  expr_word Item s fits words = item_word x
   expr_word Time s fits words = clamped_word (pos x.time)
-  expr_word (Read r) s fits words = number_word (s (cell_of r key)) (words (cell_of r key))
-  expr_word (Has r) s fits words = truth_word (is_some (s (cell_of r key)))
+  expr_word (Read r) s fits words = number_word (s (cell_of r key (item_of x))) (words (cell_of r key (item_of x)))
+  expr_word (Has r) s fits words = truth_word (is_some (s (cell_of r key (item_of x))))
   expr_word (Neg' p e) s fits words = clamped_word (neg_ℤ (value_of_expr e s x key))
   expr_word (Not' p e) s fits words = truth_word (not (is_true (value_of_expr e s x key)))
   expr_word (Two' op p a q b) s fits words = result_word op (value_of_expr a s x key) (value_of_expr b s x key)
+      (expr_word a s (and_left (expr_fits families keyed has_value a) _ fits) words)
 
   act_words : (a : Act) (s : Contents) → act_fits families keyed has_value a ≡ true → AreWords s → AreWords (effect_of_act families a s x key).cells
-  act_words (Add r e) s fits words = changed_words s (cell_of r key) (added (s (cell_of r key)) (value_of_expr e s x key)) words (sum_width (s (cell_of r key)) (value_of_expr e s x key))
+  act_words (Add r e) s fits words =
+      changed_words s (cell_of r key (item_of x)) (added (s (cell_of r key (item_of x))) (value_of_expr e s x key)) words
+      (sum_width (s (cell_of r key (item_of x))) (value_of_expr e s x key))
   act_words (Raise r e) s fits words =
-      changed_words s (cell_of r key) (raised (s (cell_of r key)) (value_of_expr e s x key)) words
-      (raised_width (s (cell_of r key)) (value_of_expr e s x key) (words (cell_of r key))
+      changed_words s (cell_of r key (item_of x)) (raised (s (cell_of r key (item_of x))) (value_of_expr e s x key)) words
+      (raised_width (s (cell_of r key (item_of x))) (value_of_expr e s x key) (words (cell_of r key (item_of x)))
       (expr_word e s (and_left (expr_fits families keyed has_value e) (nat_le (height e) 32) (and_right _ (is_good_expr families keyed has_value e) fits)) words))
   act_words (Set r e) s fits words =
-      changed_words s (cell_of r key) (Some (Last (value_of_expr e s x key))) words (record {
+      changed_words s (cell_of r key (item_of x)) (Some (Last (value_of_expr e s x key))) words (record {
         sfits = expr_word e s (and_left (expr_fits families keyed has_value e) (nat_le (height e) 32) (and_right _ (is_good_expr families keyed has_value e) fits))
             words;
       })
-  act_words (Clear r) s fits words = changed_words s (cell_of r key) None words tt
+  act_words (Clear r) s fits words = changed_words s (cell_of r key (item_of x)) None words tt
+  act_words (ClearFamily f) s fits words = without_words s f words
   act_words (Emit ps) s fits words = words
-  act_words (Flush f ps) s fits words =
-      λ d. elim (d.family == f) as (λ b. HasWordWidth (cond b None (s d))) [
-        | true ↦ tt
-        | false ↦ words d
-      ]
+  act_words (Flush f ps) s fits words = without_words s f words
 
   actions_words : (all : List Action) (s : Contents) → list_all (action_fits families keyed has_value) all ≡ true → AreWords s
       → AreWords (effect_of_actions families all s x key).cells

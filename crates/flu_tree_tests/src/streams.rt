@@ -36,6 +36,7 @@ fn event(itag: u32, time: u64, value: i64) -> Item {
     Item::Event(Event {
         time,
         itag: Itag(itag),
+        item: 0,
         value,
     })
 }

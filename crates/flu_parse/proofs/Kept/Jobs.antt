@@ -1,9 +1,9 @@
 -- What is read keeps the rules of the language, all of them.
 use Rattle.std.proofs.Common.{◌≡◌, ℕ, zero, suc, ◌+◌, ◌≤◌, Bool, true, false, List, [], ◌∷◌, ◌++◌, map, length, Option, Some, None, Ok, Err, refl, sym, ap}
 use Rattle.std.proofs.Common.{subst, ◌∙◌, add-zero, arith}
-use Rattle.std.specs.Prelude.{◌&&◌, ◌||◌, ◌==◌, not, nat_lt, nat_le, slice_get, option_map}
+use Rattle.std.specs.Prelude.{◌&&◌, ◌||◌, ◌==◌, not, nat_lt, nat_le, is_some, slice_get, option_map, codes}
 use Rattle.std.specs.List.{list_all, list_any, flat_map, AllByRecursion}
-use Rattle.std.specs.Str.{IsUtf8, is_utf8}
+use Rattle.std.specs.Str.{IsUtf8, is_utf8, bytes_eq}
 use Rattle.std.specs.Str.Lossy.{utf8_valid_len}
 use Rattle.std.proofs.lemmas.Cmp.{nat_list_eq_equiv}
 use Rattle.std.proofs.lemmas.Str.{IsUtf8-from_is_utf8}
@@ -22,6 +22,7 @@ use Rattle.flu_model.specs.declared.jobs.Kind.{Kind}
 use Rattle.flu_model.specs.declared.jobs.Source.{Source}
 use Rattle.flu_model.specs.Listing.{tags_of_source, itags_of_sources}
 use Rattle.flu_model.specs.Rules.{is_same_text, are_distinct, is_version}
+use Rattle.flu_model.specs.Versions.{is_named_item}
 use Rattle.flu_names.specs.Names.{is_name}
 use Rattle.flu_model.specs.Erasure.{PlainAction, PlainKind, Job, plain_kind}
 use Rattle.flu_rules.specs.Kept.{KeepsRules}
@@ -46,31 +47,34 @@ use Rattle.flu_layout.specs.Stands.{AreRead}
 use Rattle.flu_layout.specs.Laws.{ReadMayBePrinted}
 use Rattle.flu_parse.specs.declared.faults.JobFault.TheVariants as f
 use Rattle.flu_parse.specs.declared.names.KindHead.{KindHead}
-use Rattle.flu_parse.specs.Naming.{Naming, naming_of, look_up, known}
+use Rattle.flu_parse.specs.Faults.{◌>>◌, unless, each}
+use Rattle.flu_parse.specs.Naming.{Naming, in_version, is_version_3, family, naming_of, look_up, known}
 use Rattle.flu_parse.specs.Actions.{resolved_actions}
 use Rattle.flu_parse.specs.Listings.{Listed, tags_of, rate_of, slack_of, file_of}
-use Rattle.flu_parse.specs.Resolving.{Drafted, same_of, with_depend, with_actions, with_on, with_source, with_declaration, family, idle_kind, first_draft}
-use Rattle.flu_parse.specs.Resolving.{draft_of, version_of, job_with, resolved}
+use Rattle.flu_parse.specs.Resolving.{Drafted, same_of, with_depend, with_actions, with_on, with_source, cell_name_fits, item_word_fits, with_declaration}
+use Rattle.flu_parse.specs.Resolving.{idle_kind, first_draft, draft_of, version_of, job_with, resolved}
 use Rattle.flu_parse.specs.Reading.{text_in, found_tokens, tokens_in, found_job, written_in, job_in}
 use Rattle.flu_parse.specs.Laws.{JobsKeepRules}
 use Rattle.flu_parse.proofs.Distinct.{distinct_with}
 use Rattle.flu_parse.proofs.Looks.{passed}
 use Rattle.flu_parse.proofs.Kept.Plain.{plain_action_fits, plain_kind_fits, kinds-plain, keyed_at, ties_kinds, is_source, keyed_kinds, depends-plain}
 use Rattle.flu_parse.proofs.Kept.Plain.{sources-plain}
-use Rattle.flu_parse.proofs.Kept.Names.{NamesKeep, kind_number, at_number, names_in, depends_in, sources_in, naming_counts, naming_lists, names_kept}
+use Rattle.flu_parse.proofs.Kept.Versions.{action_suits, actions_suit, items_suit, passes_any, version-plain, plain_fit_version}
+use Rattle.flu_parse.proofs.Kept.Names.{NamesKeep, kind_number, at_number, names_in, item_heads, depends_in, sources_in, families_in, items_in}
+use Rattle.flu_parse.proofs.Kept.Names.{naming_counts, naming_lists, naming_families, naming_items, names_kept}
 use Rattle.flu_parse.proofs.Kept.Terms.{was_known, families_of}
 use Rattle.flu_parse.proofs.Kept.Actions.{actions_kept}
 use Rattle.flu_parse.proofs.Kept.Listings.{keyed_heads, kind_at, source_kept}
 
 -- what a kind's declaration says
 abbrev Head : Type 0
-Head = List ℕ × Bool × Bool
+Head = List ℕ × Bool × Bool × Bool
 
 abbrev head : PlainKind → Head
-head k = (k.name, k.keyed, k.has_value)
+head k = (k.name, k.keyed, k.has_value, k.has_item)
 
 abbrev declared_head : List ℕ × KindHead → Head
-declared_head h = (h.0, h.1.keyed, h.1.has_value)
+declared_head h = (h.0, h.1.keyed, h.1.has_value, h.1.has_item)
 
 -- ---- a kind is given its actions
 acted_heads : (ks : List PlainKind) (i : ℕ) (done : List PlainAction) → map head (with_actions ks i done) ≡ map head ks
@@ -97,6 +101,19 @@ acted_fit families (q ∷ ks) (suc i) h done all e few fit =
     both (plain_kind_fits families q) (list_all (plain_kind_fits families) (with_actions ks i done))
     (and_left (plain_kind_fits families q) (list_all (plain_kind_fits families) ks) all)
     (acted_fit families ks i h done (and_right (plain_kind_fits families q) (list_all (plain_kind_fits families) ks) all) e few fit)
+
+acted_suit : (newer : Bool) (ks : List PlainKind) (i : ℕ) (h : Head) (done : List PlainAction) → list_all (actions_suit newer) ks ≡ true
+    → slice_get (map head ks) i ≡ Some h → list_all (action_suits h.3 newer) done ≡ true → list_all (actions_suit newer) (with_actions ks i done) ≡ true
+acted_suit newer [] i h done all e suit = absurd cc
+acted_suit newer (q ∷ ks) zero h done all e suit =
+    let same : head q ≡ h = cc in
+    both (list_all (action_suits q.has_item newer) done) (list_all (actions_suit newer) ks)
+    (ap (λ (g : Head). list_all (action_suits g.3 newer) done) same ∙ suit)
+    (and_right (actions_suit newer q) (list_all (actions_suit newer) ks) all)
+acted_suit newer (q ∷ ks) (suc i) h done all e suit =
+    both (actions_suit newer q) (list_all (actions_suit newer) (with_actions ks i done))
+    (and_left (actions_suit newer q) (list_all (actions_suit newer) ks) all)
+    (acted_suit newer ks i h done (and_right (actions_suit newer q) (list_all (actions_suit newer) ks) all) e suit)
 
 -- ---- one source more
 more_itags : (place : ℕ) (sources : List Source) (s : Source)
@@ -197,13 +214,78 @@ module _ (text : List ℕ) (n : Naming) where
         is = cc;
       }
 
+  -- a cell and a tag are only tested
+  cell_tested : (d : Drafted) (s : WrittenSpan) (next : Drafted) → (unless (cell_name_fits text n s) (f.WrongShape s.from) >> Ok d) ≡ Ok next
+      → (cell_name_fits text n s ≡ true) × (d ≡ next)
+  cell_tested d s next e = let h = passed (cell_name_fits text n s) (f.WrongShape s.from) (Ok d) next e in (h.0, cc)
+
+  tag_tested : (d : Drafted) (item : Option ℕ) (next : Drafted) → (item_word_fits n item >> Ok d) ≡ Ok next
+      → ((is_version_3 n || not (is_some item)) ≡ true) × (d ≡ next)
+  tag_tested d None next e = (sym (passes_any (is_version_3 n)), cc)
+  tag_tested d (Some at) next e =
+      let h = passed (is_version_3 n) (f.WrongShape at) (Ok d) next e in (ap (λ b. b || false) h.0, cc)
+
+  abbrev Passes : Declaration → Type 0
+  Passes (tree.Cell s keyed sort) = cell_name_fits text n s ≡ true
+  Passes (tree.Tag s keyed item has_value) = (is_version_3 n || not (is_some item)) ≡ true
+  Passes (tree.Depends a b relation) = Unit {0}
+  Passes (tree.On s actions) = Unit {0}
+  Passes (tree.Source s file rate slack tags) = Unit {0}
+
+  one_passes : (d : Drafted) (w : Declaration) (next : Drafted) → with_declaration text n d w ≡ Ok next → Passes w
+  unfolding with_declaration
+  one_passes d (tree.Cell s keyed sort) next e = (cell_tested d s next e).0
+  one_passes d (tree.Tag s keyed item has_value) next e = (tag_tested d item next e).0
+  one_passes d (tree.Depends a b relation) next e = tt
+  one_passes d (tree.On s actions) next e = tt
+  one_passes d (tree.Source s file rate slack tags) next e = tt
+
+  all_pass : (ds : List Declaration) (d next : Drafted) → each (with_declaration text n) d ds ≡ Ok next → AllByRecursion Passes ds
+  unfolding each
+  all_pass [] d next e = tt
+  all_pass (w ∷ ds) d next e =
+      let h = bind_ok (with_declaration text n d w) (λ s. each (with_declaration text n) s ds) next e in (one_passes d w h.0 h.1, all_pass ds h.0 next h.2)
+
+  -- so no family is called `item` in version 3, and no kind has items before it
+  abbrev is_item_name : List ℕ → Bool
+  is_item_name name = bytes_eq name (codes "item")
+
+  one_more_name : (newer here others : Bool) → not (newer && here) ≡ true → (newer && others) ≡ false → (newer && (here || others)) ≡ false
+  one_more_name false here others e rest = refl
+  one_more_name true true others e rest = absurd cc
+  one_more_name true false others e rest = rest
+
+  none_called_item : (ds : List Declaration) → AllByRecursion Passes ds
+      → (is_version_3 n && list_any is_item_name (flat_map (families_in text) ds)) ≡ false
+  none_called_item [] all = by (is_version_3 n)
+    where
+      by : (newer : Bool) → (newer && false) ≡ false
+      by true = refl
+      by false = refl
+  none_called_item (tree.Cell s keyed sort ∷ ds) all =
+      one_more_name (is_version_3 n) (is_item_name (name_of text s)) (list_any is_item_name (flat_map (families_in text) ds)) all.0 (none_called_item ds all.1)
+  none_called_item (tree.Tag s keyed item has_value ∷ ds) all = none_called_item ds all.1
+  none_called_item (tree.Depends a b relation ∷ ds) all = none_called_item ds all.1
+  none_called_item (tree.On s actions ∷ ds) all = none_called_item ds all.1
+  none_called_item (tree.Source s file rate slack tags ∷ ds) all = none_called_item ds all.1
+
+  items_in_version : (ds : List Declaration) → AllByRecursion Passes ds
+      → list_all (λ h. is_version_3 n || not h) (flat_map (items_in text) ds) ≡ true
+  items_in_version [] all = refl
+  items_in_version (tree.Cell s keyed sort ∷ ds) all = items_in_version ds all.1
+  items_in_version (tree.Tag s keyed item has_value ∷ ds) all =
+      both (is_version_3 n || not (is_some item)) (list_all (λ h. is_version_3 n || not h) (flat_map (items_in text) ds)) all.0 (items_in_version ds all.1)
+  items_in_version (tree.Depends a b relation ∷ ds) all = items_in_version ds all.1
+  items_in_version (tree.On s actions ∷ ds) all = items_in_version ds all.1
+  items_in_version (tree.Source s file rate slack tags ∷ ds) all = items_in_version ds all.1
+
   -- the dependencies are counted and the sources listed as the names are
   counted : (d : Drafted) (w : Declaration) (next : Drafted) → with_declaration text n d w ≡ Ok next
       → length next.depends ≡ length d.depends + depends_in text w
   unfolding with_declaration
-  counted d (tree.Cell s keyed sort) next e = let same : d ≡ next = cc in ap (λ (x : Drafted). length x.depends) (sym same) ∙ sym (add-zero (length d.depends))
-  counted d (tree.Tag s keyed has_value) next e =
-      let same : d ≡ next = cc in ap (λ (x : Drafted). length x.depends) (sym same) ∙ sym (add-zero (length d.depends))
+  counted d (tree.Cell s keyed sort) next e = ap (λ (x : Drafted). length x.depends) (sym (cell_tested d s next e).1) ∙ sym (add-zero (length d.depends))
+  counted d (tree.Tag s keyed item has_value) next e =
+      ap (λ (x : Drafted). length x.depends) (sym (tag_tested d item next e).1) ∙ sym (add-zero (length d.depends))
   counted d (tree.Depends a b relation) next e =
       let h = added_depend d a b relation next e in
       ap (λ (x : Drafted). length x.depends) (sym h.6) ∙ length-append d.depends (record { a = h.0.number; b = h.1.number; same = h.2 } ∷ [])
@@ -219,9 +301,9 @@ module _ (text : List ℕ) (n : Naming) where
       → source_names next.sources ≡ source_names d.sources ++ sources_in text w
   unfolding with_declaration
   listed d (tree.Cell s keyed sort) next e =
-      let same : d ≡ next = cc in ap (λ (x : Drafted). source_names x.sources) (sym same) ∙ sym (append-nil (source_names d.sources))
-  listed d (tree.Tag s keyed has_value) next e =
-      let same : d ≡ next = cc in ap (λ (x : Drafted). source_names x.sources) (sym same) ∙ sym (append-nil (source_names d.sources))
+      ap (λ (x : Drafted). source_names x.sources) (sym (cell_tested d s next e).1) ∙ sym (append-nil (source_names d.sources))
+  listed d (tree.Tag s keyed item has_value) next e =
+      ap (λ (x : Drafted). source_names x.sources) (sym (tag_tested d item next e).1) ∙ sym (append-nil (source_names d.sources))
   listed d (tree.Depends a b relation) next e =
       let h = added_depend d a b relation next e in ap (λ (x : Drafted). source_names x.sources) (sym h.6) ∙ sym (append-nil (source_names d.sources))
   listed d (tree.On s actions) next e =
@@ -241,6 +323,7 @@ module _ (text : List ℕ) (n : Naming) where
     record Keeps (d : Drafted) : Type 0 where
       heads : map head d.kinds ≡ map declared_head n.kinds
       kinds : list_all (plain_kind_fits declared_families) d.kinds ≡ true
+      suits : list_all (actions_suit (is_version_3 n)) d.kinds ≡ true
       depends : list_all (ties_kinds declared_kinds) d.depends ≡ true
       sources : list_all (is_source declared_kinds) d.sources ≡ true
       files : are_distinct is_same_text (files_in d.sources) ≡ true
@@ -267,14 +350,15 @@ module _ (text : List ℕ) (n : Naming) where
 
     stays : (d : Drafted) (w : Declaration) (next : Drafted) → Keeps d → IsWell w → with_declaration text n d w ≡ Ok next → Keeps next
     unfolding with_declaration
-    stays d (tree.Cell s keyed sort) next kept well e = let same : d ≡ next = cc in subst Keeps same kept
-    stays d (tree.Tag s keyed has_value) next kept well e = let same : d ≡ next = cc in subst Keeps same kept
+    stays d (tree.Cell s keyed sort) next kept well e = subst Keeps (cell_tested d s next e).1 kept
+    stays d (tree.Tag s keyed item has_value) next kept well e = subst Keeps (tag_tested d item next e).1 kept
     stays d (tree.Depends a b relation) next kept well e =
         let h = added_depend d a b relation next e in
         subst Keeps h.6 (
         record {
           heads = kept.heads;
           kinds = kept.kinds;
+          suits = kept.suits;
           depends =
               list_all_push (ties_kinds declared_kinds) d.depends (record { a = h.0.number; b = h.1.number; same = h.2 }) kept.depends
               (tied a b h.0 h.1 h.2 h.3 h.4 (same_kept relation h.0 h.1 h.2 h.5));
@@ -293,10 +377,13 @@ module _ (text : List ℕ) (n : Naming) where
         ∙ slice_get-map declared_head n.kinds h.0.number ∙ ap (option_map declared_head) there.1 in
         let fits : list_all (plain_action_fits declared_families there.0.1.keyed there.0.1.has_value) h.1 ≡ true =
         ap (λ (k : KindHead). list_all (plain_action_fits declared_families k.keyed k.has_value) h.1) there.2 ∙ done.1 in
+        let suits : list_all (action_suits there.0.1.has_item (is_version_3 n)) h.1 ≡ true =
+        ap (λ (k : KindHead). list_all (action_suits k.has_item (is_version_3 n)) h.1) there.2 ∙ done.2 in
         subst Keeps h.4 (
         record {
           heads = acted_heads d.kinds h.0.number h.1 ∙ kept.heads;
           kinds = acted_fit declared_families d.kinds h.0.number (declared_head there.0) h.1 kept.kinds place done.0 fits;
+          suits = acted_suit (is_version_3 n) d.kinds h.0.number (declared_head there.0) h.1 kept.suits place suits;
           depends = kept.depends;
           sources = kept.sources;
           files = kept.files;
@@ -316,6 +403,7 @@ module _ (text : List ℕ) (n : Naming) where
         record {
           heads = kept.heads;
           kinds = kept.kinds;
+          suits = kept.suits;
           depends = kept.depends;
           sources = list_all_push (is_source declared_kinds) d.sources source kept.sources is.fits;
           files = one_more_file d.sources source kept.files is.fresh;
@@ -335,6 +423,10 @@ module _ (text : List ℕ) (n : Naming) where
         let named = and_left (is_name h.0) (list_all is_name (names_in hs)) all in
         both (plain_kind_fits declared_families (idle_kind h)) (list_all (plain_kind_fits declared_families) (map idle_kind hs))
         (both (is_name h.0 && true) true (both (is_name h.0) true named refl) refl) (idle_fit hs (and_right (is_name h.0) (list_all is_name (names_in hs)) all))
+
+    idle_suit : (hs : List (List ℕ × KindHead)) → list_all (actions_suit (is_version_3 n)) (map idle_kind hs) ≡ true
+    idle_suit [] = refl
+    idle_suit (h ∷ hs) = idle_suit hs
 
     kind_names : list_all is_name (names_in n.kinds) ≡ true
     kind_names =
@@ -356,6 +448,7 @@ module _ (text : List ℕ) (n : Naming) where
         record {
           heads = idle_heads n.kinds;
           kinds = idle_fit n.kinds kind_names;
+          suits = idle_suit n.kinds;
           depends = refl;
           sources = refl;
           files = refl;
@@ -364,11 +457,36 @@ module _ (text : List ℕ) (n : Naming) where
         }
         ) well e
 
+    -- the names are those of the declarations
+    record Names (ds : List Declaration) : Type 0 where
+      depends : n.depends ≡ total (depends_in text) ds
+      sources : n.sources ≡ flat_map (sources_in text) ds
+      families : names_in n.families ≡ flat_map (families_in text) ds
+      items : item_heads n ≡ flat_map (items_in text) ds
+
+    -- what the versions of the language have
+    version_kept : (ds : List Declaration) (d : Drafted) → Names ds → Keeps d → draft_of text n ds ≡ Ok d
+        → plain_fit_version n.version (map family n.families) d.kinds ≡ true
+    version_kept ds d named kept e =
+        let newer : Bool = is_version_3 n in
+        let families : List Family = map family n.families in
+        let all = all_pass ds (first_draft n) d e in
+        let items_are : map (λ (k : PlainKind). k.has_item) d.kinds ≡ item_heads n = sym (map-map (λ (h : Head). h.3) head d.kinds)
+        ∙ ap (map (λ (h : Head). h.3)) kept.heads ∙ map-map (λ (h : Head). h.3) declared_head n.kinds in
+        let items : list_all (items_suit newer) d.kinds ≡ true =
+        sym (list_all-map (λ b. newer || not b) (λ (k : PlainKind). k.has_item) d.kinds)
+        ∙ ap (list_all (λ b. newer || not b)) (items_are ∙ named.items) ∙ items_in_version ds all in
+        let names : list_any is_named_item families ≡ list_any is_item_name (flat_map (families_in text) ds) =
+        list_any-map is_named_item family n.families ∙ sym (list_any-map is_item_name (λ h. h.0) n.families) ∙ ap (list_any is_item_name) named.families in
+        both (list_all (items_suit newer) d.kinds && list_all (actions_suit newer) d.kinds) (not (newer && list_any is_named_item families))
+        (both (list_all (items_suit newer) d.kinds) (list_all (actions_suit newer) d.kinds) items kept.suits)
+        (ap (λ b. not (newer && b)) names ∙ ap not (none_called_item ds all))
+
     -- the whole job
-    rules_kept : (version : ℕ) (ds : List Declaration) (d : Drafted) (kinds : List Kind) → is_version version ≡ true → naming_of text ds ≡ Ok n
+    rules_kept : (ds : List Declaration) (d : Drafted) (kinds : List Kind) → is_version n.version ≡ true → Names ds
         → AllByRecursion IsWell ds
-        → draft_of text n ds ≡ Ok d → map plain_kind kinds ≡ d.kinds → KeepsRules version (map family n.families) kinds d.depends d.sources
-    rules_kept version ds d kinds known named well e same =
+        → draft_of text n ds ≡ Ok d → map plain_kind kinds ≡ d.kinds → KeepsRules n.version (map family n.families) kinds d.depends d.sources
+    rules_kept ds d kinds known named well e same =
         let kept = draft_kept ds d well e in
         let heads : map (λ (k : Kind). head (plain_kind k)) kinds ≡ map declared_head n.kinds = sym (map-map head plain_kind kinds) ∙ ap (map head) same
         ∙ kept.heads in
@@ -381,9 +499,9 @@ module _ (text : List ℕ) (n : Naming) where
         map-map (λ (f : Family). f.name) family n.families in
         let depends_count : length d.depends ≡ 0 + total (depends_in text) ds =
         each-counts (with_declaration text n) (λ (x : Drafted). length x.depends) (depends_in text) counted (first_draft n) ds d e in
-        let names_count = naming_counts text ds n named in
+        let names_count = named.depends in
         let source_names_are : source_names d.sources ≡ n.sources = each-lists (with_declaration text n) (λ (x : Drafted). source_names x.sources)
-        (sources_in text) listed (first_draft n) ds d e ∙ sym (naming_lists text ds n named) in
+        (sources_in text) listed (first_draft n) ds d e ∙ sym named.sources in
         let sources_count = ap length source_names_are in
         record {
           known_version = known;
@@ -394,6 +512,8 @@ module _ (text : List ℕ) (n : Naming) where
           few_itags = omega (arith, kept.count, kept.few);
           families_fit = list_all-map (λ (f : Family). is_name f.name) family n.families ∙ sym (list_all-map is_name (λ h. h.0) n.families) ∙ family_names;
           kinds_fit = kinds-plain (map family n.families) kinds ∙ ap (list_all (plain_kind_fits (map family n.families))) same ∙ kept.kinds;
+          version_fits = version-plain n.version (map family n.families) kinds ∙ ap (plain_fit_version n.version (map family n.families)) same
+              ∙ version_kept ds d named kept e;
           depends_fit = depends-plain kinds d.depends ∙ ap (λ ks. list_all (ties_kinds ks) d.depends) keyed ∙ kept.depends;
           sources_fit = sources-plain kinds d.sources ∙ ap (λ ks. list_all (is_source ks) d.sources) keyed ∙ kept.sources;
           own_names = (λ i. are_distinct is_same_text (family_names_are i ++ kind_names_are i ++ source_names_are i)) ∙ keep.distinct;
@@ -416,12 +536,25 @@ job_found (IsFound ds) written e = cc
 job_found (Unexpected at) written e = absurd cc
 job_found TooDeep written e = absurd cc
 
-version_kept : (written : Option WrittenNumber) (version : ℕ) → version_of written ≡ Ok version → is_version version ≡ true
-version_kept None version e = let same : 1 ≡ version = cc in ap is_version (sym same)
-version_kept (Some v) version e =
+number_kept : (written : Option WrittenNumber) (version : ℕ) → version_of written ≡ Ok version → is_version version ≡ true
+number_kept None version e = let same : 1 ≡ version = cc in ap is_version (sym same)
+number_kept (Some v) version e =
     let h = passed (is_version (written_value v.value)) (f.WrongShape v.at) (Ok (written_value v.value)) version e in
     let same : written_value v.value ≡ version = cc in
     ap is_version (sym same) ∙ h.0
+
+-- names are names in each version
+keep_in_version : (n : Naming) (version : ℕ) → NamesKeep n → NamesKeep (in_version n version)
+keep_in_version n version keep = record {
+  few_families = keep.few_families;
+  few_kinds = keep.few_kinds;
+  few_sources = keep.few_sources;
+  few_depends = keep.few_depends;
+  are_names = keep.are_names;
+  distinct = keep.distinct;
+  families = keep.families;
+  kinds = keep.kinds;
+}
 
 module _ (text : List ℕ) (ts : List Token) (read : AreRead text ts) (meet : TagsMeet) (differ : TagsDiffer) where
   each_well : (n : Naming) (keep : NamesKeep n) (ds : List Declaration) → AllByRecursion (λ w. AllByRecursion (Stands ts) (declaration_words w)) ds
@@ -437,15 +570,20 @@ module _ (text : List ℕ) (ts : List Token) (read : AreRead text ts) (meet : Ta
   resolved_kept written job words are e kinds same =
       let ds = written.declarations in
       let one = bind_ok (naming_of text ds) _ job e in
-      let n = one.0 in
       let two = bind_ok (version_of written.version) _ job one.2 in
-      let three = bind_ok (draft_of text n ds) (λ d. Ok (job_with two.0 n d)) job two.2 in
-      let is : job_with two.0 n three.0 ≡ job = cc in
-      let keep = names_kept text ts read ds n words one.1 in
+      let n : Naming = in_version one.0 two.0 in
+      let three = bind_ok (draft_of text n ds) (λ d. Ok (job_with n d)) job two.2 in
+      let is : job_with n three.0 ≡ job = cc in
+      let keep = keep_in_version one.0 two.0 (names_kept text ts read ds one.0 words one.1) in
       let there : map plain_kind kinds ≡ three.0.kinds = same ∙ ap (λ (j : Job). j.kinds) (sym is) in
-      let known = version_kept written.version two.0 two.1 in
+      let known = number_kept written.version two.0 two.1 in
       subst (λ (j : Job). KeepsRules j.version j.families kinds j.depends j.sources) is
-      (rules_kept text n ts read keep meet differ two.0 ds three.0 kinds known one.1 (each_well n keep ds words are) three.1 there)
+      (rules_kept text n ts read keep meet differ ds three.0 kinds known (record {
+        depends = naming_counts text ds one.0 one.1;
+        sources = naming_lists text ds one.0 one.1;
+        families = naming_families text ds one.0 one.1;
+        items = naming_items text ds one.0 one.1;
+      }) (each_well n keep ds words are) three.1 there)
 
 pub jobs_kept : ReadMayBePrinted → FoundIsJob → WordsStand → TagsMeet → TagsDiffer → JobsKeepRules
 unfolding job_in

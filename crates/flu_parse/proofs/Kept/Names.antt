@@ -1,7 +1,7 @@
 -- The names of a job that is read keep the rules: they are names, no two are the same, and they are not too many.
 use Rattle.std.proofs.Common.{◌≡◌, ℕ, suc, ◌+◌, ◌<◌, ◌≤◌, Bool, true, false, List, [], ◌∷◌, ◌++◌, map, length, Some, None, Ok, refl, sym, ap, subst, ◌∙◌}
 use Rattle.std.proofs.Common.{append_assoc, add-zero, arith}
-use Rattle.std.specs.Prelude.{◌||◌, not, slice_get, if◌then◌else◌}
+use Rattle.std.specs.Prelude.{◌||◌, not, slice_get, is_some, if◌then◌else◌}
 use Rattle.std.specs.List.{list_any, list_all, flat_map, AllByRecursion}
 use Rattle.std.specs.Str.{bytes_eq}
 use Rattle.std.proofs.lemmas.Cmp.{nat_list_eq_equiv}
@@ -47,6 +47,10 @@ family_number h = h.number
 
 abbrev pub kind_number : KindHead → ℕ
 kind_number h = h.number
+
+-- which kinds have items
+abbrev pub item_heads : Naming → List Bool
+item_heads n = map (λ h. h.1.has_item) n.kinds
 
 -- What names that are read keep.
 pub record NamesKeep (n : Naming) : Type 0 where
@@ -168,18 +172,22 @@ module _ (text : List ℕ) where
             ∙ cc,
       )
 
-  added_kind : (n : Naming) (s : WrittenSpan) (keyed has_value : Bool) (m : Naming) → with_kind text n s keyed has_value ≡ Ok m
+  added_kind : (n : Naming) (s : WrittenSpan) (keyed has_item has_value : Bool) (m : Naming) → with_kind text n s keyed has_item has_value ≡ Ok m
       → (is_declared n (name_of text s) ≡ false) × (length n.kinds < 64)
-      × (record n { kinds = n.kinds ++ (name_of text s, record { number = length n.kinds; keyed = keyed; has_value = has_value }) ∷ [] } ≡ m)
+      × (record n {
+        kinds = n.kinds ++ (name_of text s, record { number = length n.kinds; keyed = keyed; has_item = has_item; has_value = has_value }) ∷ [];
+      } ≡ m)
   unfolding with_kind
-  added_kind n s keyed has_value m e =
+  added_kind n s keyed has_item has_value m e =
       let b = bind_ok (fresh_name text n s) _ m e in
       let free = was_free text n s b.0 b.1 in
       let r = had_room Kinds 64 (length n.kinds) _ m b.2 in (
         free.0,
         r.0,
         ap
-            (λ (name : List ℕ). record n { kinds = n.kinds ++ (name, record { number = length n.kinds; keyed = keyed; has_value = has_value }) ∷ [] }) free.1
+            (λ (name : List ℕ). record n {
+              kinds = n.kinds ++ (name, record { number = length n.kinds; keyed = keyed; has_item = has_item; has_value = has_value }) ∷ [];
+            }) free.1
             ∙ cc,
       )
 
@@ -196,25 +204,40 @@ module _ (text : List ℕ) where
       → (n.depends < 4096) × (record n { depends = n.depends + 1 } ≡ m)
   added_depend n m e = let r = had_room Depends 4096 n.depends _ m e in (r.0, cc)
 
-  -- how many dependencies a declaration is, and the sources' names that it declares
+  -- how many dependencies a declaration is, and what it declares: names of families, whether kinds have items, and names of sources
   abbrev pub depends_in : Declaration → ℕ
   depends_in (d.Cell s keyed sort) = 0
-  depends_in (d.Tag s keyed has_value) = 0
+  depends_in (d.Tag s keyed item has_value) = 0
   depends_in (d.Depends a b relation) = 1
   depends_in (d.On kind actions) = 0
   depends_in (d.Source s file rate slack tags) = 0
 
   abbrev pub sources_in : Declaration → List (List ℕ)
   sources_in (d.Cell s keyed sort) = []
-  sources_in (d.Tag s keyed has_value) = []
+  sources_in (d.Tag s keyed item has_value) = []
   sources_in (d.Depends a b relation) = []
   sources_in (d.On kind actions) = []
   sources_in (d.Source s file rate slack tags) = name_of text s ∷ []
 
+  abbrev pub families_in : Declaration → List (List ℕ)
+  families_in (d.Cell s keyed sort) = name_of text s ∷ []
+  families_in (d.Tag s keyed item has_value) = []
+  families_in (d.Depends a b relation) = []
+  families_in (d.On kind actions) = []
+  families_in (d.Source s file rate slack tags) = []
+
+  abbrev pub items_in : Declaration → List Bool
+  items_in (d.Cell s keyed sort) = []
+  items_in (d.Tag s keyed item has_value) = is_some item ∷ []
+  items_in (d.Depends a b relation) = []
+  items_in (d.On kind actions) = []
+  items_in (d.Source s file rate slack tags) = []
+
   counted : (n : Naming) (w : Declaration) (m : Naming) → declare text n w ≡ Ok m → m.depends ≡ n.depends + depends_in w
   unfolding declare
   counted n (d.Cell s keyed sort) m e = ap (λ (k : Naming). k.depends) (sym (added_family n s keyed sort m e).2) ∙ sym (add-zero n.depends)
-  counted n (d.Tag s keyed has_value) m e = ap (λ (k : Naming). k.depends) (sym (added_kind n s keyed has_value m e).2) ∙ sym (add-zero n.depends)
+  counted n (d.Tag s keyed item has_value) m e =
+      ap (λ (k : Naming). k.depends) (sym (added_kind n s keyed (is_some item) has_value m e).2) ∙ sym (add-zero n.depends)
   counted n (d.Depends a b relation) m e = ap (λ (k : Naming). k.depends) (sym (added_depend n m e).1)
   counted n (d.On kind actions) m e = let same : n ≡ m = cc in ap (λ (k : Naming). k.depends) (sym same) ∙ sym (add-zero n.depends)
   counted n (d.Source s file rate slack tags) m e = ap (λ (k : Naming). k.depends) (sym (added_source n s m e).2) ∙ sym (add-zero n.depends)
@@ -222,10 +245,35 @@ module _ (text : List ℕ) where
   listed : (n : Naming) (w : Declaration) (m : Naming) → declare text n w ≡ Ok m → m.sources ≡ n.sources ++ sources_in w
   unfolding declare
   listed n (d.Cell s keyed sort) m e = ap (λ (k : Naming). k.sources) (sym (added_family n s keyed sort m e).2) ∙ sym (append-nil n.sources)
-  listed n (d.Tag s keyed has_value) m e = ap (λ (k : Naming). k.sources) (sym (added_kind n s keyed has_value m e).2) ∙ sym (append-nil n.sources)
+  listed n (d.Tag s keyed item has_value) m e =
+      ap (λ (k : Naming). k.sources) (sym (added_kind n s keyed (is_some item) has_value m e).2) ∙ sym (append-nil n.sources)
   listed n (d.Depends a b relation) m e = ap (λ (k : Naming). k.sources) (sym (added_depend n m e).1) ∙ sym (append-nil n.sources)
   listed n (d.On kind actions) m e = let same : n ≡ m = cc in ap (λ (k : Naming). k.sources) (sym same) ∙ sym (append-nil n.sources)
   listed n (d.Source s file rate slack tags) m e = ap (λ (k : Naming). k.sources) (sym (added_source n s m e).2)
+
+  families_listed : (n : Naming) (w : Declaration) (m : Naming) → declare text n w ≡ Ok m → names_in m.families ≡ names_in n.families ++ families_in w
+  unfolding declare
+  families_listed n (d.Cell s keyed sort) m e =
+      let head : FamilyHead = record { number = length n.families; keyed = keyed; sort = sort } in
+      ap (λ (k : Naming). names_in k.families) (sym (added_family n s keyed sort m e).2) ∙ map-append (λ h. h.0) n.families ((name_of text s, head) ∷ [])
+  families_listed n (d.Tag s keyed item has_value) m e =
+      ap (λ (k : Naming). names_in k.families) (sym (added_kind n s keyed (is_some item) has_value m e).2) ∙ sym (append-nil (names_in n.families))
+  families_listed n (d.Depends a b relation) m e =
+      ap (λ (k : Naming). names_in k.families) (sym (added_depend n m e).1) ∙ sym (append-nil (names_in n.families))
+  families_listed n (d.On kind actions) m e =
+      let same : n ≡ m = cc in ap (λ (k : Naming). names_in k.families) (sym same) ∙ sym (append-nil (names_in n.families))
+  families_listed n (d.Source s file rate slack tags) m e =
+      ap (λ (k : Naming). names_in k.families) (sym (added_source n s m e).2) ∙ sym (append-nil (names_in n.families))
+
+  items_listed : (n : Naming) (w : Declaration) (m : Naming) → declare text n w ≡ Ok m → item_heads m ≡ item_heads n ++ items_in w
+  unfolding declare
+  items_listed n (d.Cell s keyed sort) m e = ap item_heads (sym (added_family n s keyed sort m e).2) ∙ sym (append-nil (item_heads n))
+  items_listed n (d.Tag s keyed item has_value) m e =
+      let head : KindHead = record { number = length n.kinds; keyed = keyed; has_item = is_some item; has_value = has_value } in
+      ap item_heads (sym (added_kind n s keyed (is_some item) has_value m e).2) ∙ map-append (λ h. h.1.has_item) n.kinds ((name_of text s, head) ∷ [])
+  items_listed n (d.Depends a b relation) m e = ap item_heads (sym (added_depend n m e).1) ∙ sym (append-nil (item_heads n))
+  items_listed n (d.On kind actions) m e = let same : n ≡ m = cc in ap item_heads (sym same) ∙ sym (append-nil (item_heads n))
+  items_listed n (d.Source s file rate slack tags) m e = ap item_heads (sym (added_source n s m e).2) ∙ sym (append-nil (item_heads n))
 
   pub naming_counts : (ds : List Declaration) (n : Naming) → naming_of text ds ≡ Ok n → n.depends ≡ total depends_in ds
   naming_counts ds n e =
@@ -234,6 +282,12 @@ module _ (text : List ℕ) where
 
   pub naming_lists : (ds : List Declaration) (n : Naming) → naming_of text ds ≡ Ok n → n.sources ≡ flat_map sources_in ds
   naming_lists ds n e = each-lists (declare text) (λ (k : Naming). k.sources) sources_in listed no_names ds n e
+
+  pub naming_families : (ds : List Declaration) (n : Naming) → naming_of text ds ≡ Ok n → names_in n.families ≡ flat_map families_in ds
+  naming_families ds n e = each-lists (declare text) (λ (k : Naming). names_in k.families) families_in families_listed no_names ds n e
+
+  pub naming_items : (ds : List Declaration) (n : Naming) → naming_of text ds ≡ Ok n → item_heads n ≡ flat_map items_in ds
+  naming_items ds n e = each-lists (declare text) item_heads items_in items_listed no_names ds n e
 
   module _ (ts : List Token) (read : AreRead text ts) where
     stays : (n : Naming) (w : Declaration) (m : Naming) → NamesKeep n → AllByRecursion (Stands ts) (declaration_words w) → declare text n w ≡ Ok m → NamesKeep m
@@ -254,9 +308,9 @@ module _ (text : List ℕ) where
           kinds = keep.kinds;
         }
         )
-    stays n (d.Tag s keyed has_value) m keep words e =
-        let head : KindHead = record { number = length n.kinds; keyed = keyed; has_value = has_value } in
-        let a = added_kind n s keyed has_value m e in
+    stays n (d.Tag s keyed item has_value) m keep words e =
+        let head : KindHead = record { number = length n.kinds; keyed = keyed; has_item = is_some item; has_value = has_value } in
+        let a = added_kind n s keyed (is_some item) has_value m e in
         let p = kind_put n (name_of text s) keep a.0 (read.names s words.0) head in
         subst NamesKeep a.2 (
         record {

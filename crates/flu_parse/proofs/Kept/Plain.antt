@@ -8,9 +8,9 @@ use Rattle.std.proofs.lemmas.Option.{slice_get-map}
 use Rattle.flu_lemmas.proofs.Elements.{list_all_same}
 use Rattle.flu_model.specs.declared.jobs.Family.{Family}
 use Rattle.flu_model.specs.declared.jobs.Expr.{Expr}
-use Rattle.flu_model.specs.declared.jobs.Expr.TheVariants.{Lit, Value, Key, Time, Read, Has, Neg', Not', Two'}
+use Rattle.flu_model.specs.declared.jobs.Expr.TheVariants.{Lit, Value, Key, Item, Time, Read, Has, Neg', Not', Two'}
 use Rattle.flu_model.specs.declared.jobs.Act.{Act}
-use Rattle.flu_model.specs.declared.jobs.Act.TheVariants.{Add, Raise, Set, Clear, Emit, Flush}
+use Rattle.flu_model.specs.declared.jobs.Act.TheVariants.{Add, Raise, Set, Clear, ClearFamily, Emit, Flush}
 use Rattle.flu_model.specs.declared.jobs.Action.{Action}
 use Rattle.flu_model.specs.declared.jobs.Kind.{Kind}
 use Rattle.flu_model.specs.declared.jobs.Depend.{Depend}
@@ -23,14 +23,16 @@ use Rattle.flu_model.specs.Rules.{is_literal, ref_fits, ref_has_sort, expr_fits,
 use Rattle.flu_model.specs.Rules.{act_fits, guard_fits, action_fits, kind_fits, kind_is_keyed, depend_fits, keys_fit, listed_kind_fits, tag_ref_fits}
 use Rattle.flu_model.specs.Rules.{is_file_text, is_same_tag, are_distinct, source_fits}
 use Rattle.flu_model.specs.Listing.{tags_of_source}
-use Rattle.flu_model.specs.Erasure.{Term, Literal, EventValue, EventKey, EventTime, CellRead, CellHeld, Negative, Negation, Operation, PlainAct, Adding}
-use Rattle.flu_model.specs.Erasure.{Raising, Setting, Clearing, Emitting, Flushing, PlainAction, PlainKind, term_of, plain_act, plain_action, plain_kind}
+use Rattle.flu_model.specs.Erasure.{Term, Literal, EventValue, EventKey, EventItem, EventTime, CellRead, CellHeld, Negative, Negation, Operation, PlainAct}
+use Rattle.flu_model.specs.Erasure.{Adding, Raising, Setting, Clearing, ClearingFamily, Emitting, Flushing, PlainAction, PlainKind, term_of, plain_act}
+use Rattle.flu_model.specs.Erasure.{plain_action, plain_kind}
 
 module _ (families : List Family) (keyed has_value : Bool) where
   abbrev pub term_fits : Term → Bool
   term_fits (Literal n) = is_literal n
   term_fits EventValue = has_value
   term_fits EventKey = keyed
+  term_fits EventItem = true
   term_fits EventTime = true
   term_fits (CellRead r) = ref_fits families keyed r
   term_fits (CellHeld r) = ref_fits families keyed r
@@ -42,6 +44,7 @@ abbrev pub term_height : Term → ℕ
 term_height (Literal n) = 1
 term_height EventValue = 1
 term_height EventKey = 1
+term_height EventItem = 1
 term_height EventTime = 1
 term_height (CellRead r) = 1
 term_height (CellHeld r) = 1
@@ -58,8 +61,9 @@ module _ (families : List Family) (keyed has_value : Bool) where
   plain_act_fits (Raising r e) = ref_fits families keyed r && ref_has_sort families Max r && is_good_term e
   plain_act_fits (Setting r e) = ref_fits families keyed r && ref_has_sort families Last r && is_good_term e
   plain_act_fits (Clearing r) = ref_fits families keyed r
+  plain_act_fits (ClearingFamily f) = is_keyed (slice_get families f)
   plain_act_fits (Emitting ps) = emit_template_fits families keyed has_value ps
-  plain_act_fits (Flushing f ps) = is_keyed (slice_get families f) && flush_template_fits families has_value ps
+  plain_act_fits (Flushing f ps) = is_keyed (slice_get families f) && flush_template_fits families f has_value ps
 
   abbrev pub plain_guard_fits : Option Term → Bool
   plain_guard_fits None = true
@@ -77,6 +81,7 @@ module _ (families : List Family) (keyed has_value : Bool) where
   expr-term (Lit n) = refl
   expr-term Value = refl
   expr-term Key = refl
+  expr-term Item = refl
   expr-term Time = refl
   expr-term (Read r) = refl
   expr-term (Has r) = refl
@@ -88,6 +93,7 @@ height-term : (e : Expr) → height e ≡ term_height (term_of e)
 height-term (Lit n) = refl
 height-term Value = refl
 height-term Key = refl
+height-term Item = refl
 height-term Time = refl
 height-term (Read r) = refl
 height-term (Has r) = refl
@@ -104,6 +110,7 @@ module _ (families : List Family) (keyed has_value : Bool) where
   act-plain (Raise r e) = ap (λ b. ref_fits families keyed r && ref_has_sort families Max r && b) (good-term e)
   act-plain (Set r e) = ap (λ b. ref_fits families keyed r && ref_has_sort families Last r && b) (good-term e)
   act-plain (Clear r) = refl
+  act-plain (ClearFamily f) = refl
   act-plain (Emit ps) = refl
   act-plain (Flush f ps) = refl
 

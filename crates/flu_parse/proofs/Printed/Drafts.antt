@@ -1,16 +1,16 @@
 -- The declarations of a printed job, looked at again, make that job.
-use Rattle.std.proofs.Common.{◌≡◌, ◌≤◌, ◌+◌, ℕ, pos, Bool, true, false, ◌||◌, List, [], ◌∷◌, ◌++◌, map, length, Some, Ok, refl, sym, ap, subst, ◌∙◌}
-use Rattle.std.proofs.Common.{append_assoc, length-append, arith}
-use Rattle.std.specs.Prelude.{nat_lt, nat_le, not, ◌==◌, slice_get}
+use Rattle.std.proofs.Common.{◌≡◌, ◌≤◌, ◌+◌, ℕ, pos, Bool, true, false, ◌||◌, List, [], ◌∷◌, ◌++◌, map, length, Option, Some, None, Ok, refl, sym, ap}
+use Rattle.std.proofs.Common.{subst, ◌∙◌, append_assoc, length-append, arith}
+use Rattle.std.specs.Prelude.{nat_lt, nat_le, not, ◌==◌, ◌&&◌, is_some, codes, slice_get}
 use Rattle.std.specs.List.{list_all, list_any}
-use Rattle.std.specs.Str.{IsUtf8}
+use Rattle.std.specs.Str.{IsUtf8, bytes_eq}
 use Rattle.std.proofs.lemmas.Grind.{common_steps}
 use Rattle.std.proofs.lemmas.List.{append-nil, length-map, map-append}
 use Rattle.std.proofs.lemmas.List.Folds.{list_any-append}
 use Rattle.flu_lemmas.proofs.Tests.{and_left, and_right, true_le, not_true}
 use Rattle.flu_lemmas.proofs.Places.{slice_get-behind}
 use Rattle.flu_lemmas.proofs.Searches.{list_any-map}
-use Rattle.flu_lemmas.proofs.Booleans.{or_false_left, or_false_right, three_middle}
+use Rattle.flu_lemmas.proofs.Booleans.{or_false, or_false_left, or_false_right, three_middle}
 use Rattle.flu_model.specs.declared.limits.What.TheVariants.{Rate}
 use Rattle.flu_model.specs.declared.events.Tag.{Tag as TagOf}
 use Rattle.flu_model.specs.declared.jobs.Family.{Family}
@@ -19,6 +19,7 @@ use Rattle.flu_model.specs.declared.jobs.Source.{Source}
 use Rattle.flu_model.specs.Erasure.{PlainAction, PlainKind}
 use Rattle.flu_model.specs.Listing.{tags_of_source, itags_of_sources}
 use Rattle.flu_model.specs.Rules.{is_same_text, are_distinct}
+use Rattle.flu_model.specs.Versions.{is_named_item}
 use Rattle.flu_rules.specs.Keys.{TagsMeet, TagsDiffer}
 use Rattle.flu_syntax.specs.Tree.{Declaration, Cell, Tag, Depends, Source as SourceLine}
 use Rattle.flu_syntax.specs.Tree.{Action as WrittenDo}
@@ -27,9 +28,9 @@ use Rattle.flu_layout.specs.Spelling.{name_of}
 use Rattle.flu_parse.specs.declared.faults.JobFault.TheVariants as f
 use Rattle.flu_parse.specs.declared.names.KindHead.{KindHead}
 use Rattle.flu_parse.specs.Faults.{Found, ◌>>=◌, ◌>>◌, unless, each}
-use Rattle.flu_parse.specs.Naming.{Naming, look_up, known, kind_of}
+use Rattle.flu_parse.specs.Naming.{Naming, is_version_3, look_up, known, kind_of}
 use Rattle.flu_parse.specs.Listings.{Listed, tags_of, rate_of, slack_of, file_of}
-use Rattle.flu_parse.specs.Resolving.{Drafted, same_of, with_depend, with_actions, with_on, with_source, with_declaration}
+use Rattle.flu_parse.specs.Resolving.{Drafted, same_of, with_depend, with_actions, with_on, with_source, cell_name_fits, item_word_fits, with_declaration}
 use Rattle.flu_parse.proofs.Printed.Rules.{plain_source_fits}
 use Rattle.flu_parse.proofs.Printed.LaidLines.{source_facts}
 use Rattle.flu_parse.proofs.Printed.ReadTerms.{FamiliesKnown}
@@ -39,6 +40,7 @@ use Rattle.flu_parse.proofs.Printed.ReadLines.{Lines, CellIs, TagIs, DependsIs, 
 use Rattle.flu_parse.proofs.Printed.Names.{differs_too}
 use Rattle.flu_parse.specs.Actions.{resolved_actions}
 use Rattle.flu_parse.proofs.Kept.Plain.{plain_action_fits, plain_kind_fits}
+use Rattle.flu_parse.proofs.Kept.Versions.{items_suit}
 
 -- a kind whose actions are not met yet
 abbrev pub without_actions : PlainKind → PlainKind
@@ -86,6 +88,12 @@ not_before (d ∷ done) x rest h =
     (or_false_right (list_any (is_same_text d) done) (is_same_text d x || list_any (is_same_text d) rest) split) in
     ap (λ b. b || list_any (is_same_text x) done) (differs_too d x here) ∙ not_before done x rest (and_right (not later) apart h)
 
+-- of no part of an alternative
+neither : (newer here others : Bool) → (newer && (here || others)) ≡ false → ((newer && here) ≡ false) × ((newer && others) ≡ false)
+neither false here others e = (refl, refl)
+neither true true others e = absurd cc
+neither true false others e = (refl, e)
+
 module _ (whole : List ℕ) (utf8 : IsUtf8 whole) (n : Naming) where
   -- one declaration, and then the others
   one : (d next : Drafted) (ds here others more : List Declaration) (e : Declaration) → ds ≡ here ++ others → here ≡ e ∷ []
@@ -98,19 +106,35 @@ module _ (whole : List ℕ) (utf8 : IsUtf8 whole) (n : Naming) where
   nothing : (d : Drafted) (ds more : List Declaration) → ds ≡ [] → each (with_declaration whole n) d (ds ++ more) ≡ each (with_declaration whole n) d more
   nothing d ds more none = ap (λ l. each (with_declaration whole n) d (l ++ more)) none
 
-  pub skip_cells : (fs : List Family) (d : Drafted) (ds more : List Declaration) → Lines (CellIs whole utf8) fs ds
-      → each (with_declaration whole n) d (ds ++ more) ≡ each (with_declaration whole n) d more
+  pub skip_cells : (fs : List Family) (d : Drafted) (ds more : List Declaration) → (is_version_3 n && list_any is_named_item fs) ≡ false
+      → Lines (CellIs whole utf8) fs ds → each (with_declaration whole n) d (ds ++ more) ≡ each (with_declaration whole n) d more
   unfolding with_declaration
-  skip_cells [] d ds more lines = nothing d ds more lines
-  skip_cells (g ∷ fs) d ds more lines = one d d ds lines.0 lines.1 more (Cell lines.3.0 g.keyed g.sort) lines.2 lines.3.1 refl
-      ∙ skip_cells fs d lines.1 more lines.4
+  skip_cells [] d ds more none lines = nothing d ds more lines
+  skip_cells (g ∷ fs) d ds more none lines =
+      let line = lines.3 in
+      let s = line.0 in
+      let parts = neither (is_version_3 n) (is_named_item g) (list_any is_named_item fs) none in
+      let found : (unless (cell_name_fits whole n s) (f.WrongShape s.from) >> Ok d) ≡ Ok d =
+      ap (λ name. unless (not (is_version_3 n && bytes_eq name (codes "item"))) (f.WrongShape s.from) >> Ok d) line.2
+      ∙ ap (λ b. unless (not b) (f.WrongShape s.from) >> Ok d) parts.0 in
+      one d d ds lines.0 lines.1 more (Cell s g.keyed g.sort) lines.2 line.1 found ∙ skip_cells fs d lines.1 more parts.1 lines.4
 
-  pub skip_tags : (ks : List PlainKind) (d : Drafted) (ds more : List Declaration) → Lines (TagIs whole utf8) ks ds
-      → each (with_declaration whole n) d (ds ++ more) ≡ each (with_declaration whole n) d more
+  item_fits : (item : Option ℕ) → (is_version_3 n || not (is_some item)) ≡ true → item_word_fits n item ≡ Ok tt
+  item_fits None e = refl
+  item_fits (Some at) e = ap (λ b. unless b (f.WrongShape at)) (sym (or_false (is_version_3 n)) ∙ e)
+
+  pub skip_tags : (ks : List PlainKind) (d : Drafted) (ds more : List Declaration) → list_all (items_suit (is_version_3 n)) ks ≡ true
+      → Lines (TagIs whole utf8) ks ds → each (with_declaration whole n) d (ds ++ more) ≡ each (with_declaration whole n) d more
   unfolding with_declaration
-  skip_tags [] d ds more lines = nothing d ds more lines
-  skip_tags (k ∷ ks) d ds more lines = one d d ds lines.0 lines.1 more (Tag lines.3.0 k.keyed k.has_value) lines.2 lines.3.1 refl
-      ∙ skip_tags ks d lines.1 more lines.4
+  skip_tags [] d ds more items lines = nothing d ds more lines
+  skip_tags (k ∷ ks) d ds more items lines =
+      let line = lines.3 in
+      let newer : Bool = is_version_3 n in
+      let has : (newer || not (is_some line.1)) ≡ true =
+      ap (λ b. newer || not b) line.4 ∙ and_left (items_suit newer k) (list_all (items_suit newer) ks) items in
+      let found : (item_word_fits n line.1 >> Ok d) ≡ Ok d = ap (λ (r : Found (Unit {0})). r >> Ok d) (item_fits line.1 has) in
+      one d d ds lines.0 lines.1 more (Tag line.0 k.keyed line.1 k.has_value) lines.2 line.2 found
+      ∙ skip_tags ks d lines.1 more (and_right (items_suit newer k) (list_all (items_suit newer) ks) items) lines.4
 
   module _ (kinds : List PlainKind) (named_kinds : list_all (λ (k : PlainKind). is_name k.name) kinds ≡ true) (known_kinds : KindsKnown kinds n) where
     pub add_depends : (deps : List Depend) (d : Drafted) (ds more : List Declaration) → Lines (DependsIs whole utf8 kinds named_kinds n known_kinds) deps ds

@@ -1,7 +1,7 @@
 -- A field that was printed is read as that field.
 use Rattle.std.proofs.Common.{◌≡◌, ◌<◌, ◌^◌, ◌+◌, ◌-◌, ℕ, pos, Bool, true, false, cond, ◌&&◌, List, [], ◌∷◌, ◌++◌, length, Option, Some, None, Ok, refl, sym}
 use Rattle.std.proofs.Common.{ap, ◌∙◌, append_assoc, length-append, arith}
-use Rattle.std.specs.Prelude.{nat_lt, nat_le, not, option_map, slice_get, codes, if◌then◌else◌}
+use Rattle.std.specs.Prelude.{nat_lt, nat_le, not, ◌==◌, option_map, slice_get, codes, if◌then◌else◌}
 use Rattle.std.specs.Char.{is_ascii_digit}
 use Rattle.std.specs.Fmt.{decimal}
 use Rattle.std.specs.List.{list_all, list_any, prefix_len, position}
@@ -14,7 +14,7 @@ use Rattle.std.proofs.lemmas.List.Folds.{list_all-append, list_any-append}
 use Rattle.std.proofs.lemmas.Slice.Eq.{bytes_eq-Decides}
 use Rattle.flu_lemmas.proofs.Tests.{and_left, and_right, both, true_lt, lt_true, not_true, not_both, false_if_not}
 use Rattle.flu_lemmas.specs.Spans.{is_boundary, spelled}
-use Rattle.flu_lemmas.proofs.Booleans.{or_true}
+use Rattle.flu_lemmas.proofs.Booleans.{or_true, and_false}
 use Rattle.flu_lemmas.proofs.Elements.{list_all_weaker, fails_at}
 use Rattle.flu_lemmas.proofs.Spans.{Place, before_ascii, after_ascii, spelled_between}
 use Rattle.flu_lemmas.proofs.Digits.{decimal_digits}
@@ -37,10 +37,13 @@ use Rattle.flu_parse.specs.declared.names.KindHead.{KindHead}
 use Rattle.flu_parse.specs.declared.pieces.WrittenPiece.{WrittenPiece}
 use Rattle.flu_parse.specs.declared.pieces.WrittenPiece.TheVariants as p
 use Rattle.flu_parse.specs.Faults.{◌>>=◌, ◌>>◌, unless}
+use Rattle.flu_parse.specs.Naming.{Naming, is_version_3, takes_items}
 use Rattle.flu_parse.specs.Cells.{brackets_fit, at_of}
-use Rattle.flu_parse.specs.Templates.{span, is_open_bracket, digits_at, key_at, ref_with, ref_at, field_at, own_key_fits}
+use Rattle.flu_parse.specs.Templates.{span, is_open_bracket, digits_at, key_at, ref_with, ref_at, family_at, field_at, own_key_fits}
 use Rattle.flu_parse.proofs.Printed.Quotes.{name_bytes, name_between}
 use Rattle.flu_parse.proofs.Printed.Scans.{no_brace}
+use Rattle.flu_parse.proofs.Printed.ReadTerms.{ItemsKnown}
+use Rattle.flu_parse.proofs.Kept.Versions.{at_suits}
 
 -- ---- names are none of the words that a field may be
 
@@ -78,17 +81,28 @@ not_key : (ds : List ℕ) → list_all is_ascii_digit ds ≡ true → bytes_eq d
 not_key ds digits = false_if_not (bytes_eq ds (codes "key")) (λ e. not_both (list_all is_ascii_digit ds) digits
     (ap (list_all is_ascii_digit) ((bytes_eq-Decides ds (codes "key")).0 e)))
 
-key_of_number : (m at : ℕ) → m < 65536 → key_at (decimal m) at ≡ Some (k.Fixed (record { value = pos m; at = at }))
+not_item : (ds : List ℕ) → list_all is_ascii_digit ds ≡ true → bytes_eq ds (codes "item") ≡ false
+not_item ds digits = false_if_not (bytes_eq ds (codes "item")) (λ e. not_both (list_all is_ascii_digit ds) digits
+    (ap (list_all is_ascii_digit) ((bytes_eq-Decides ds (codes "item")).0 e)))
+
+key_of_number : (version m at : ℕ) → m < 65536 → key_at version (decimal m) at ≡ Some (k.Fixed (record { value = pos m; at = at }))
 unfolding key_at
-key_of_number m at small =
+key_of_number version m at small =
     let wide : m < 2 ^ 64 = omega arith in
     let digits = decimal_digits m wide in
-    ap (λ t. if t then Some (k.OwnKey at) else digits_at (decimal m) at) (not_key (decimal m) digits)
+    let item : Bool = (version == 3) && bytes_eq (decimal m) (codes "item") in
+    ap (λ t. if t then Some (k.OwnKey at) else if item then Some (k.OwnItem at) else digits_at (decimal m) at) (not_key (decimal m) digits)
+    ∙ ap (λ t. if (version == 3) && t then Some (k.OwnItem at) else digits_at (decimal m) at) (not_item (decimal m) digits)
+    ∙ ap (λ t. if t then Some (k.OwnItem at) else digits_at (decimal m) at) (and_false (version == 3))
     ∙ digits_are (decimal m) at m (decimal_nonempty m wide) digits (number_is (decimal m) m (decimal_is_IsNumeral m wide).1 (omega arith))
 
-own_key : (at : ℕ) → key_at (codes "key") at ≡ Some (k.OwnKey at)
+own_key : (version at : ℕ) → key_at version (codes "key") at ≡ Some (k.OwnKey at)
 unfolding key_at
-own_key at = refl
+own_key version at = refl
+
+own_item : (version at : ℕ) → (version == 3) ≡ true → key_at version (codes "item") at ≡ Some (k.OwnItem at)
+unfolding key_at
+own_item version at newer = ap (λ t. if t && true then Some (k.OwnItem at) else digits_at (codes "item") at) newer
 
 -- ---- the first bracket
 
@@ -134,23 +148,23 @@ word_between whole before word after from to at size begins =
     spelled_between whole before word (125 ∷ after) from to at size begins
     (before_ascii whole (before ++ word) 125 after to (record { is = is; here = here }) (omega arith))
 
-module _ (whole : List ℕ) (utf8 : IsUtf8 whole) (before n after : List ℕ) (from to : ℕ) (named : is_name n ≡ true)
+module _ (whole : List ℕ) (utf8 : IsUtf8 whole) (version : ℕ) (before n after : List ℕ) (from to : ℕ) (named : is_name n ≡ true)
     (begins : is_boundary whole from ≡ true) where
   -- a family's name alone
   alone : Place whole before (n ++ 125 ∷ after) from → to ≡ from + length n
-      → ref_at whole from to ≡ Some (p.Read (record { family = span from to; key = k.Alone }))
+      → ref_at whole version from to ≡ Some (p.Read (record { family = span from to; key = k.Alone }))
   unfolding ref_with
   alone at size =
       let word = word_between whole before n after from to at size begins in
-      ap (λ w. ref_with whole from to (position is_open_bracket w)) word
-      ∙ ap (ref_with whole from to) (no_position n (name_bytes n named))
+      ap (λ w. ref_with whole version from to (position is_open_bracket w)) word
+      ∙ ap (ref_with whole version from to) (no_position n (name_bytes n named))
       ∙ ap (λ w. if is_name w then Some (p.Read (record { family = span from to; key = k.Alone })) else None) word
       ∙ ap (λ t. if t then Some (p.Read (record { family = span from to; key = k.Alone })) else None) named
 
   -- a family's name and a key in brackets
   bracketed : (inner : List ℕ) (key : WrittenKey) → Place whole before ((n ++ 91 ∷ (inner ++ 93 ∷ [])) ++ 125 ∷ after) from
-      → to ≡ from + length (n ++ 91 ∷ (inner ++ 93 ∷ [])) → key_at inner (from + length n + 1) ≡ Some key
-      → ref_at whole from to ≡ Some (p.Read (record { family = span from (from + length n); key = key }))
+      → to ≡ from + length (n ++ 91 ∷ (inner ++ 93 ∷ [])) → key_at version inner (from + length n + 1) ≡ Some key
+      → ref_at whole version from to ≡ Some (p.Read (record { family = span from (from + length n); key = key }))
   unfolding ref_with
   bracketed inner key at size found =
       let i : ℕ = length n in
@@ -182,30 +196,32 @@ module _ (whole : List ℕ) (utf8 : IsUtf8 whole) (before n after : List ℕ) (f
       spelled_between whole (((before ++ n) ++ 91 ∷ []) ++ inner) (93 ∷ []) (125 ∷ after) (to - 1) to (record { is = close_is; here = close_here })
       (omega (arith, size, sizes)) before_close before_brace in
       let make : WrittenKey → WrittenPiece = λ key. p.Read (record { family = span from (from + i); key = key }) in
-      ap (λ w. ref_with whole from to (position is_open_bracket w)) (word_between whole before (n ++ 91 ∷ (inner ++ 93 ∷ [])) after from to at size begins)
-      ∙ ap (ref_with whole from to) (position_is n (inner ++ 93 ∷ []) (name_bytes n named))
+      ap (λ w. ref_with whole version from to (position is_open_bracket w))
+      (word_between whole before (n ++ 91 ∷ (inner ++ 93 ∷ [])) after from to at size begins)
+      ∙ ap (ref_with whole version from to) (position_is n (inner ++ 93 ∷ []) (name_bytes n named))
       ∙ ap (λ w. if is_name w && bytes_eq (spelled whole (to - 1) to) (codes "]") then option_map make
-      (key_at (spelled whole (from + i + 1) (to - 1)) (from + i + 1)) else None) name_spelled
+      (key_at version (spelled whole (from + i + 1) (to - 1)) (from + i + 1)) else None) name_spelled
       ∙ ap (λ t. if t && bytes_eq (spelled whole (to - 1) to) (codes "]") then option_map make
-      (key_at (spelled whole (from + i + 1) (to - 1)) (from + i + 1)) else None) named
-      ∙ ap (λ w. if bytes_eq w (codes "]") then option_map make (key_at (spelled whole (from + i + 1) (to - 1)) (from + i + 1)) else None) close_spelled
-      ∙ ap (λ w. option_map make (key_at w (from + i + 1))) inner_spelled
+      (key_at version (spelled whole (from + i + 1) (to - 1)) (from + i + 1)) else None) named
+      ∙ ap (λ w. if bytes_eq w (codes "]") then option_map make (key_at version (spelled whole (from + i + 1) (to - 1)) (from + i + 1)) else None) close_spelled
+      ∙ ap (λ w. option_map make (key_at version w (from + i + 1))) inner_spelled
       ∙ ap (option_map make) found
 
 -- a reference between braces, as it is read under a kind
-pub record FieldIs (whole : List ℕ) (under : KindHead) (n : List ℕ) (family_keyed : Bool) (a : At) (from to : ℕ) : Type 0 where
+pub record FieldIs (whole : List ℕ) (names : Naming) (under : KindHead) (n : List ℕ) (family_keyed : Bool) (a : At) (from to : ℕ) : Type 0 where
   pub written : WrittenRef
-  pub read : ref_at whole from to ≡ Some (p.Read written)
+  pub read : ref_at whole names.version from to ≡ Some (p.Read written)
   pub named : name_of whole written.family ≡ n
   pub brackets : brackets_fit family_keyed written.key ≡ true
-  pub own : own_key_fits under written.key ≡ true
-  pub means : at_of under written.key ≡ Ok a
+  pub own : own_key_fits names under written.key ≡ true
+  pub means : at_of names under written.key ≡ Ok a
 
-module _ (whole : List ℕ) (utf8 : IsUtf8 whole) (under : KindHead) (before n after : List ℕ) (from to : ℕ) (named : is_name n ≡ true)
-    (begins : is_boundary whole from ≡ true) where
-  pub read_field : (family_keyed : Bool) (a : At) → key_fits family_keyed under.keyed a ≡ true → Place whole before ((n ++ written_key a) ++ 125 ∷ after) from
-      → to ≡ from + length (n ++ written_key a) → FieldIs whole under n family_keyed a from to
-  read_field family_keyed at.Alone fits place size =
+module _ (whole : List ℕ) (utf8 : IsUtf8 whole) (names : Naming) (under : KindHead) (items : ItemsKnown names under)
+    (before n after : List ℕ) (from to : ℕ) (named : is_name n ≡ true) (begins : is_boundary whole from ≡ true) where
+  pub read_field : (family_keyed : Bool) (a : At) → key_fits family_keyed under.keyed a ≡ true → at_suits under.has_item a ≡ true
+      → Place whole before ((n ++ written_key a) ++ 125 ∷ after) from
+      → to ≡ from + length (n ++ written_key a) → FieldIs whole names under n family_keyed a from to
+  read_field family_keyed at.Alone fits suits place size =
       let at_name : Place whole before (n ++ 125 ∷ after) from = record {
         is = place.is
             ∙ ap (λ w. before ++ (w ++ 125 ∷ after)) (append-nil n);
@@ -214,32 +230,46 @@ module _ (whole : List ℕ) (utf8 : IsUtf8 whole) (under : KindHead) (before n a
       let name_size : to ≡ from + length n = size ∙ ap (λ w. from + length w) (append-nil n) in
       record {
         written = record { family = span from to; key = k.Alone };
-        read = alone whole utf8 before n after from to named begins at_name name_size;
+        read = alone whole utf8 names.version before n after from to named begins at_name name_size;
         named = word_between whole before n after from to at_name name_size begins;
         brackets = fits;
         own = refl;
         means = refl;
       }
-  read_field family_keyed at.OwnKey fits place size =
+  read_field family_keyed at.OwnKey fits suits place size =
       let name_at : Place whole before (n ++ (codes "[key]" ++ 125 ∷ after)) from =
       record { is = place.is ∙ ap (λ w. before ++ w) (append_assoc n (codes "[key]") (125 ∷ after)); here = place.here } in
       record {
         written = record { family = span from (from + length n); key = k.OwnKey (from + length n + 1) };
-        read = bracketed whole utf8 before n after from to named begins (codes "key") (k.OwnKey (from + length n + 1)) place size
-            (own_key (from + length n + 1));
+        read = bracketed whole utf8 names.version before n after from to named begins (codes "key") (k.OwnKey (from + length n + 1)) place size
+            (own_key names.version (from + length n + 1));
         named = name_between whole before n (codes "[key]" ++ 125 ∷ after) from (from + length n) utf8 named name_at refl;
         brackets = and_left family_keyed under.keyed fits;
         own = and_right family_keyed under.keyed fits;
         means = ap (λ b. unless b (f.WrongShape (from + length n + 1)) >> Ok at.OwnKey) (and_right family_keyed under.keyed fits);
       }
-  read_field family_keyed (at.Fixed m) fits place size =
+  read_field family_keyed at.OwnItem fits suits place size =
+      let name_at : Place whole before (n ++ (codes "[item]" ++ 125 ∷ after)) from =
+      record { is = place.is ∙ ap (λ w. before ++ w) (append_assoc n (codes "[item]") (125 ∷ after)); here = place.here } in
+      let takes : takes_items names under ≡ true = items ∙ suits in
+      record {
+        written = record { family = span from (from + length n); key = k.OwnItem (from + length n + 1) };
+        read = bracketed whole utf8 names.version before n after from to named begins (codes "item") (k.OwnItem (from + length n + 1)) place size
+            (own_item names.version (from + length n + 1) (and_left (is_version_3 names) under.has_item takes));
+        named = name_between whole before n (codes "[item]" ++ 125 ∷ after) from (from + length n) utf8 named name_at refl;
+        brackets = fits;
+        own = takes;
+        means = ap (λ b. unless b (f.WrongShape (from + length n + 1)) >> Ok at.OwnItem) takes;
+      }
+  read_field family_keyed (at.Fixed m) fits suits place size =
       let small = and_right family_keyed (nat_lt m key_count) fits in
       let name_at : Place whole before (n ++ (written_key (at.Fixed m) ++ 125 ∷ after)) from =
       record { is = place.is ∙ ap (λ w. before ++ w) (append_assoc n (written_key (at.Fixed m)) (125 ∷ after)); here = place.here } in
       record {
         written = record { family = span from (from + length n); key = k.Fixed (record { value = pos m; at = from + length n + 1 }) };
-        read = bracketed whole utf8 before n after from to named begins (decimal m) (k.Fixed (record { value = pos m; at = from + length n + 1 })) place size
-            (key_of_number m (from + length n + 1) (true_lt m 65536 small));
+        read = bracketed whole utf8 names.version before n after from to named begins (decimal m)
+            (k.Fixed (record { value = pos m; at = from + length n + 1 })) place size
+            (key_of_number names.version m (from + length n + 1) (true_lt m 65536 small));
         named = name_between whole before n (written_key (at.Fixed m) ++ 125 ∷ after) from (from + length n) utf8 named name_at refl;
         brackets = and_left family_keyed (nat_lt m key_count) fits;
         own = refl;
@@ -248,40 +278,85 @@ module _ (whole : List ℕ) (utf8 : IsUtf8 whole) (under : KindHead) (before n a
 
 -- ---- which field a word is
 
-abbrev field_with : List ℕ → Bool → ℕ → ℕ → List ℕ → Option WrittenPiece
-field_with whole in_flush from to word =
+abbrev field_with : List ℕ → ℕ → Bool → ℕ → ℕ → List ℕ → Option WrittenPiece
+field_with whole version in_flush from to word =
     if bytes_eq word (codes "value") then Some p.Value
     else if bytes_eq word (codes "key") then Some p.Key
     else if bytes_eq word (codes "time") then Some p.Time
-    else if in_flush then (if bytes_eq word (codes "cell") then Some p.CellValue else None)
-    else ref_at whole from to
+    else if (version == 3) && bytes_eq word (codes "item") then Some p.Item
+    else if in_flush then (if bytes_eq word (codes "cell") then Some p.CellValue else family_at whole version from to)
+    else ref_at whole version from to
 
-pub field_of_word : (whole : List ℕ) (in_flush : Bool) (from to : ℕ) (word : List ℕ) → spelled whole from to ≡ word
-    → field_at whole in_flush from to ≡ field_with whole in_flush from to word
+pub field_of_word : (whole : List ℕ) (version : ℕ) (in_flush : Bool) (from to : ℕ) (word : List ℕ) → spelled whole from to ≡ word
+    → field_at whole version in_flush from to ≡ field_with whole version in_flush from to word
 unfolding field_at
-field_of_word whole in_flush from to word e = ap (field_with whole in_flush from to) e
+field_of_word whole version in_flush from to word e = ap (field_with whole version in_flush from to) e
+
+-- `item` in version 3, and `cell` in a flush
+pub field_of_item : (whole : List ℕ) (version : ℕ) (in_flush : Bool) (from to : ℕ) → (version == 3) ≡ true → spelled whole from to ≡ codes "item"
+    → field_at whole version in_flush from to ≡ Some p.Item
+field_of_item whole version in_flush from to newer e =
+    let other : Option WrittenPiece = if in_flush then family_at whole version from to else ref_at whole version from to in
+    field_of_word whole version in_flush from to (codes "item") e ∙ ap (λ t. if t && true then Some p.Item else other) newer
+
+pub field_of_cell : (whole : List ℕ) (version from to : ℕ) → spelled whole from to ≡ codes "cell" → field_at whole version true from to ≡ Some p.CellValue
+field_of_cell whole version from to e =
+    field_of_word whole version true from to (codes "cell") e ∙ ap (λ t. if t then Some p.Item else Some p.CellValue) (and_false (version == 3))
 
 -- the word of a reference is none of the others
 other_word : (n : List ℕ) (a : At) (i : ℕ) (word : Reserved) → is_name n ≡ true → slice_get reserved_words i ≡ Some word
     → list_any is_open_bracket (reserved_spelling word) ≡ false → bytes_eq (n ++ written_key a) (reserved_spelling word) ≡ false
 other_word n at.Alone i word named found none = ap (λ w. bytes_eq w (reserved_spelling word)) (append-nil n) ∙ not_reserved n word i named found
 other_word n at.OwnKey i word named found none = not_bracketed n (codes "key]") (reserved_spelling word) none
+other_word n at.OwnItem i word named found none = not_bracketed n (codes "item]") (reserved_spelling word) none
 other_word n (at.Fixed m) i word named found none = not_bracketed n (decimal m ++ codes "]") (reserved_spelling word) none
 
-pub field_of_ref : (whole : List ℕ) (from to : ℕ) (n : List ℕ) (a : At) → is_name n ≡ true → spelled whole from to ≡ n ++ written_key a
-    → field_at whole false from to ≡ ref_at whole from to
-field_of_ref whole from to n a named e =
+-- nor is it `item` in version 3, where no family is called so
+item_word : (newer : Bool) (n : List ℕ) (a : At) → (newer && bytes_eq n (codes "item")) ≡ false
+    → (newer && bytes_eq (n ++ written_key a) (codes "item")) ≡ false
+item_word newer n at.Alone other = ap (λ w. newer && bytes_eq w (codes "item")) (append-nil n) ∙ other
+item_word newer n at.OwnKey other = ap (λ b. newer && b) (not_bracketed n (codes "key]") (codes "item") refl) ∙ and_false newer
+item_word newer n at.OwnItem other = ap (λ b. newer && b) (not_bracketed n (codes "item]") (codes "item") refl) ∙ and_false newer
+item_word newer n (at.Fixed m) other = ap (λ b. newer && b) (not_bracketed n (decimal m ++ codes "]") (codes "item") refl) ∙ and_false newer
+
+-- a word that is none of those that stand for themselves
+field_of_other : (whole : List ℕ) (version : ℕ) (in_flush : Bool) (from to : ℕ) (n : List ℕ) (a : At) → is_name n ≡ true
+    → ((version == 3) && bytes_eq n (codes "item")) ≡ false → spelled whole from to ≡ n ++ written_key a
+    → field_at whole version in_flush from to ≡ (if in_flush then (if bytes_eq (n ++ written_key a) (codes "cell") then Some p.CellValue
+    else family_at whole version from to) else ref_at whole version from to)
+field_of_other whole version in_flush from to n a named other e =
     let word : List ℕ = n ++ written_key a in
-    field_of_word whole false from to word e
-    ∙ ap (λ t. if t then Some p.Value else if bytes_eq word (codes "key") then Some p.Key else if bytes_eq word
-    (codes "time") then Some p.Time else ref_at whole from to) (other_word n a 21 r.Value named refl refl)
-    ∙ ap (λ t. if t then Some p.Key else if bytes_eq word (codes "time") then Some p.Time else ref_at whole from to) (other_word n a 22 r.Key named refl refl)
-    ∙ ap (λ t. if t then Some p.Time else ref_at whole from to) (other_word n a 23 r.Time named refl refl)
+    let in_a_flush : Option WrittenPiece = if bytes_eq word (codes "cell") then Some p.CellValue else family_at whole version from to in
+    let last : Option WrittenPiece = if in_flush then in_a_flush else ref_at whole version from to in
+    let fourth : Option WrittenPiece = if (version == 3) && bytes_eq word (codes "item") then Some p.Item else last in
+    let third : Option WrittenPiece = if bytes_eq word (codes "time") then Some p.Time else fourth in
+    field_of_word whole version in_flush from to word e
+    ∙ ap (λ t. if t then Some p.Value else if bytes_eq word (codes "key") then Some p.Key else third) (other_word n a 21 r.Value named refl refl)
+    ∙ ap (λ t. if t then Some p.Key else third) (other_word n a 22 r.Key named refl refl)
+    ∙ ap (λ t. if t then Some p.Time else fourth) (other_word n a 23 r.Time named refl refl)
+    ∙ ap (λ t. if t then Some p.Item else last) (item_word (version == 3) n a other)
+
+pub field_of_ref : (whole : List ℕ) (version from to : ℕ) (n : List ℕ) (a : At) → is_name n ≡ true
+    → ((version == 3) && bytes_eq n (codes "item")) ≡ false → spelled whole from to ≡ n ++ written_key a
+    → field_at whole version false from to ≡ ref_at whole version from to
+field_of_ref whole version from to n a named other e = field_of_other whole version false from to n a named other e
+
+-- a family's name in a flush of version 3
+pub field_of_family : (whole : List ℕ) (version from to : ℕ) (n : List ℕ) → is_name n ≡ true
+    → ((version == 3) && bytes_eq n (codes "item")) ≡ false → (version == 3) ≡ true → spelled whole from to ≡ n
+    → field_at whole version true from to ≡ Some (p.Family (span from to))
+unfolding family_at
+field_of_family whole version from to n named other newer e =
+    field_of_other whole version true from to n at.Alone named other (e ∙ sym (append-nil n))
+    ∙ ap (λ t. if t then Some p.CellValue else family_at whole version from to) (other_word n at.Alone 0 r.Cell named refl refl)
+    ∙ ap (λ w. if (version == 3) && is_name w then Some (p.Family (span from to)) else None) e
+    ∙ ap (λ t. if t then Some (p.Family (span from to)) else None) (both (version == 3) (is_name n) newer named)
 
 -- no word of a field has a closing brace
 key_closed : (a : At) (family_keyed keyed : Bool) → key_fits family_keyed keyed a ≡ true → list_all no_brace (written_key a) ≡ true
 key_closed at.Alone family_keyed keyed fits = refl
 key_closed at.OwnKey family_keyed keyed fits = refl
+key_closed at.OwnItem family_keyed keyed fits = refl
 key_closed (at.Fixed m) family_keyed keyed fits =
     let small : m < 65536 = true_lt m 65536 (and_right family_keyed (nat_lt m key_count) fits) in
     let digits = list_all_weaker is_ascii_digit no_brace (decimal m) digit_no_brace (decimal_digits m (omega arith)) in
@@ -290,7 +365,7 @@ key_closed (at.Fixed m) family_keyed keyed fits =
     digit_no_brace : (b : ℕ) → is_ascii_digit b ≡ true → no_brace b ≡ true
     digit_no_brace b h = grind (arith, nat_tests)
 
-name_no_brace : (b : ℕ) → is_name_byte b ≡ true → no_brace b ≡ true
+pub name_no_brace : (b : ℕ) → is_name_byte b ≡ true → no_brace b ≡ true
 name_no_brace b h = grind (arith, nat_tests)
 
 pub ref_closed : (n : List ℕ) (a : At) (family_keyed keyed : Bool) → is_name n ≡ true → key_fits family_keyed keyed a ≡ true

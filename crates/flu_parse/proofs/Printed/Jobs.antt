@@ -1,12 +1,13 @@
 -- The normal form of a job is read as that job.
 use Rattle.std.proofs.Common.{◌≡◌, ◌≤◌, ◌+◌, ℕ, pos, Bool, true, false, Option, None, List, [], ◌∷◌, ◌++◌, map, length, Some, Ok, refl, sym, ap, subst, ◌∙◌}
 use Rattle.std.proofs.Common.{append_assoc, arith}
-use Rattle.std.specs.Prelude.{◌==◌, if◌then◌else◌}
-use Rattle.std.specs.List.{list_all}
+use Rattle.std.specs.Prelude.{◌==◌, ◌&&◌, ◌||◌, not, slice_get, if◌then◌else◌}
+use Rattle.std.specs.List.{list_all, list_any}
 use Rattle.std.specs.Str.{IsUtf8}
 use Rattle.std.proofs.lemmas.List.Concat.{flat_map-append}
-use Rattle.flu_lemmas.proofs.Tests.{le_true, true_eq}
-use Rattle.flu_lemmas.proofs.Booleans.{or_front}
+use Rattle.flu_lemmas.proofs.Tests.{le_true, true_eq, not_true}
+use Rattle.flu_lemmas.proofs.Booleans.{or_front, three_left, three_middle, three_right}
+use Rattle.flu_lemmas.proofs.Elements.{fails_at}
 use Rattle.flu_lemmas.specs.Items.{Begins}
 use Rattle.flu_lemmas.proofs.Items.{begins_append, Took, took_none}
 use Rattle.flu_text.specs.declared.words.Token.{Token}
@@ -17,6 +18,7 @@ use Rattle.flu_model.specs.declared.jobs.Family.{Family}
 use Rattle.flu_model.specs.declared.jobs.Source.{Source}
 use Rattle.flu_model.specs.Erasure.{PlainKind, Job}
 use Rattle.flu_model.specs.Rules.{is_same_text, are_distinct}
+use Rattle.flu_model.specs.Versions.{is_named_item}
 use Rattle.flu_names.specs.declared.reserved.Reserved.TheVariants as r
 use Rattle.flu_rules.specs.Keys.{TagsMeet, TagsDiffer}
 use Rattle.flu_text.specs.declared.written.WrittenNumber.{WrittenNumber}
@@ -31,12 +33,13 @@ use Rattle.flu_layout.specs.Stands.{Stand}
 use Rattle.flu_layout.specs.Laws.{LaidIsRead, BegunAreSigns, KeysAreSpelled, KeysAreLaid}
 use Rattle.flu_parse.specs.declared.faults.JobFault.TheVariants as f
 use Rattle.flu_parse.specs.Faults.{Found, ◌>>=◌, ◌>>◌, unless, each}
-use Rattle.flu_parse.specs.Naming.{Naming, no_names, naming_of}
-use Rattle.flu_parse.specs.Resolving.{Drafted, with_declaration, family, idle_kind, draft_of, version_of, job_with as draft_with, resolved}
+use Rattle.flu_parse.specs.Naming.{Naming, in_version, family, no_names, naming_of}
+use Rattle.flu_parse.specs.Resolving.{Drafted, with_declaration, idle_kind, draft_of, version_of, job_with as draft_with, resolved}
 use Rattle.flu_parse.specs.Reading.{text_in, found_tokens, tokens_in, found_job, written_in, job_in}
 use Rattle.flu_parse.specs.Printing.{normal_form}
 use Rattle.flu_parse.proofs.Distinct.{distinct_front, distinct_back}
 use Rattle.flu_parse.proofs.ReadingLemmas.{text_in-utf8}
+use Rattle.flu_parse.proofs.Kept.Versions.{items_suit, actions_suit}
 use Rattle.flu_parse.proofs.Printed.Rules.{plain_depend_fits, plain_source_fits, names_of_job, JobFits}
 use Rattle.flu_parse.proofs.Printed.Words.{version_words, cell_line_words, tag_line_words, depends_line_words, source_line_words, job_words, job_layout}
 use Rattle.flu_parse.proofs.Printed.LaidLines.{names_of_kinds, job_laid}
@@ -77,13 +80,39 @@ apart job h =
 
 module _ (begun : BegunAreSigns) (meet : TagsMeet) (differ : TagsDiffer) (job : Job) (fits : JobFits job) (whole : List ℕ) (utf8 : IsUtf8 whole) where
   n : Naming
-  n = naming_of_job job
+  n = in_version (naming_of_job job) job.version
+
+  -- what the job's version has
+  abbrev newer : Bool
+  newer = job.version == 3
+
+  items : list_all (items_suit newer) job.kinds ≡ true
+  items = three_left (list_all (items_suit newer) job.kinds) (list_all (actions_suit newer) job.kinds) (not (newer && list_any is_named_item job.families))
+      fits.version
+
+  suits : list_all (actions_suit newer) job.kinds ≡ true
+  suits = three_middle (list_all (items_suit newer) job.kinds) (list_all (actions_suit newer) job.kinds) (not (newer && list_any is_named_item job.families))
+      fits.version
+
+  unnamed : (newer && list_any is_named_item job.families) ≡ false
+  unnamed = not_true (newer && list_any is_named_item job.families)
+      (three_right (list_all (items_suit newer) job.kinds) (list_all (actions_suit newer) job.kinds) (not (newer && list_any is_named_item job.families))
+      fits.version)
+
+  none_at : (new : Bool) (i : ℕ) (g : Family) → (new && list_any is_named_item job.families) ≡ false → slice_get job.families i ≡ Some g
+      → (new && is_named_item g) ≡ false
+  none_at false i g none found = refl
+  none_at true i g none found = fails_at is_named_item job.families i g none found
 
   known_families : FamiliesKnown job.families n
   unfolding n
-  known_families i g found =
-      own_head (λ (g : Family). g.name) family_head 0 job.families i g (apart job fits.own_names).families found
-      ∙ ap (λ k. Some (family_head k g)) (let same : 0 + i ≡ i = omega arith in same)
+  known_families = record {
+    declared = λ i g found.
+        own_head (λ (g : Family). g.name) family_head 0 job.families i g (apart job fits.own_names).families found
+        ∙ ap (λ k. Some (family_head k g)) (let same : 0 + i ≡ i = omega arith in same);
+    not_item = λ i g found. none_at newer i g unnamed found;
+    all = families_back 0 job.families;
+  }
 
   known_kinds : KindsKnown job.kinds n
   unfolding n
@@ -124,19 +153,27 @@ module _ (begun : BegunAreSigns) (meet : TagsMeet) (differ : TagsDiffer) (job : 
     is : version_of written ≡ Ok job.version
 
   read_version : (rest : List Laid) (ts : List Token) → Stand whole (version_words job.version rest) ts → VersionIs rest ts
-  read_version rest ts h = by (job.version == 2) refl h
+  read_version rest ts h = by (job.version == 2) (job.version == 3) refl refl h
     where
-      by : (two : Bool) → (job.version == 2) ≡ two → Stand whole (if two then reserved r.Version blank ∷ number (pos 2) line_end ∷ rest else rest) ts
+      by : (two three : Bool) → (job.version == 2) ≡ two → (job.version == 3) ≡ three
+          → Stand whole (if two then reserved r.Version blank ∷ number (pos 2) line_end ∷ rest
+          else if three then reserved r.Version blank ∷ number (pos 3) line_end ∷ rest else rest) ts
           → VersionIs rest ts
-      by true e h = record {
+      by true three e g h = record {
         written = Some (record { value = pos 2; at = h.4.0.from });
         took = record { rest = h.4.1; begins = (h.0, h.1, h.2, h.3.word, (h.4.0, h.4.1, h.4.2, (h.4.3.word, refl), refl)); stand = h.4.4 };
         is = ap Ok (sym (true_eq job.version 2 e));
       }
-      by false e h = record {
+      by false true e g h = record {
+        written = Some (record { value = pos 3; at = h.4.0.from });
+        took = record { rest = h.4.1; begins = (h.0, h.1, h.2, h.3.word, (h.4.0, h.4.1, h.4.2, (h.4.3.word, refl), refl)); stand = h.4.4 };
+        is = ap Ok (sym (true_eq job.version 3 g));
+      }
+      by false false e g h = record {
         written = None;
         took = took_none IsSign (Stand whole) rest ts h;
-        is = ap Ok (sym (true_eq job.version 1 (or_front (job.version == 1) (job.version == 2) fits.known_version e)));
+        is = ap Ok (sym (true_eq job.version 1 (or_front (job.version == 1) (job.version == 2)
+            (or_front ((job.version == 1) || (job.version == 2)) (job.version == 3) fits.known_version g) e)));
       }
 
   begin_more : (a b : List Declaration) (ts more rest : List Token) → Begins IsSign (declarations_signs a) ts more
@@ -145,6 +182,7 @@ module _ (begun : BegunAreSigns) (meet : TagsMeet) (differ : TagsDiffer) (job : 
       (begins_append IsSign (declarations_signs a) (declarations_signs b) ts more rest h k)
 
   read_parts : (ts : List Token) → Stand whole (job_words job) ts → IsRead ts
+  unfolding n
   read_parts tokens h =
       let version = read_version _ tokens h in
       let ts = version.took.rest in
@@ -154,7 +192,7 @@ module _ (begun : BegunAreSigns) (meet : TagsMeet) (differ : TagsDiffer) (job : 
       (read_tag_line whole utf8) job.kinds _ cells.took.rest named_kinds cells.took.stand in
       let deps = read_lines whole (depends_line_words job.kinds) (DependsIs whole utf8 job.kinds named_kinds n known_kinds) (plain_depend_fits job.kinds)
       (read_depends_line whole utf8 job.kinds named_kinds n known_kinds) job.depends _ tags.took.rest fits.depends tags.took.stand in
-      let ons = read_ons whole utf8 job.families fits.families n known_families 0 job.kinds _ deps.took.rest fits.kinds deps.took.stand in
+      let ons = read_ons whole utf8 job.families fits.families n known_families 0 job.kinds _ deps.took.rest fits.kinds items suits deps.took.stand in
       let sources = read_lines whole (source_line_words job.kinds) (SourceIs whole utf8 job.kinds named_kinds n known_kinds) (plain_source_fits job.kinds)
       (read_source_line whole utf8 job.kinds named_kinds n known_kinds) job.sources [] ons.took.rest fits.sources ons.took.stand in
       let p : Parts = record {
@@ -193,21 +231,28 @@ module _ (begun : BegunAreSigns) (meet : TagsMeet) (differ : TagsDiffer) (job : 
 
   -- ---- what the declarations mean
 
-  named : (p : Parts) → naming_of whole (all_parts p) ≡ Ok n
+  named : (p : Parts) → naming_of whole (all_parts p) ≡ Ok (naming_of_job job)
   unfolding n each
   named p =
       let source_names : List (List ℕ) = map (λ (s : Source). s.name) job.sources in
       let rest : List (List ℕ) = map (λ (k : PlainKind). k.name) job.kinds ++ source_names in
       let left : Left no_names (map (λ (g : Family). g.name) job.families ++ rest) =
       record { fresh = all_fresh (map (λ (g : Family). g.name) job.families ++ rest); apart = (apart job fits.own_names).all } in
-      let with_cells : Naming = record { families = family_heads 0 job.families; kinds = []; sources = []; depends = 0 } in
-      let with_tags : Naming = record { families = family_heads 0 job.families; kinds = kind_heads 0 job.kinds; sources = []; depends = 0 } in
+      let with_cells : Naming = record { families = family_heads 0 job.families; kinds = []; sources = []; depends = 0; version = 1 } in
+      let with_tags : Naming = record {
+        families = family_heads 0 job.families;
+        kinds = kind_heads 0 job.kinds;
+        sources = [];
+        depends = 0;
+        version = 1;
+      } in
       let with_deps : Naming = record {
         families = family_heads 0 job.families;
         kinds = kind_heads 0 job.kinds;
         sources = [];
         depends =
             0 + length job.depends;
+        version = 1;
       } in
       let cells = declare_cells whole utf8 job.families no_names p.cells (p.tags ++ (p.deps ++ (p.ons ++ (p.sources ++ [])))) rest p.are_cells left
       (omega (arith, fits.few_families)) in
@@ -226,6 +271,7 @@ module _ (begun : BegunAreSigns) (meet : TagsMeet) (differ : TagsDiffer) (job : 
         sources = source_names;
         depends =
             k;
+        version = 1;
       } in m)) (let same : 0 + length job.depends ≡ length job.depends = omega arith in same)
 
   drafted : (p : Parts) → (given : List ℕ) × (itags : ℕ)
@@ -244,8 +290,8 @@ module _ (begun : BegunAreSigns) (meet : TagsMeet) (differ : TagsDiffer) (job : 
         0 + total_itags job.sources,
         ap (λ ks. each (with_declaration whole n) (let d : Drafted = record { kinds = ks; given = []; depends = []; sources = []; itags = 0 } in d)
             (all_parts p)) (kinds_idle 0 job.kinds)
-            ∙ skip_cells whole utf8 n job.families start p.cells (p.tags ++ behind_tags) p.are_cells
-            ∙ skip_tags whole utf8 n job.kinds start p.tags behind_tags p.are_tags
+            ∙ skip_cells whole utf8 n job.families start p.cells (p.tags ++ behind_tags) unnamed p.are_cells
+            ∙ skip_tags whole utf8 n job.kinds start p.tags behind_tags items p.are_tags
             ∙ add_depends whole utf8 n job.kinds named_kinds known_kinds job.depends start p.deps (p.ons ++ (p.sources ++ [])) p.are_deps
             ∙ ons.leads
             ∙ add_sources whole utf8 n job.kinds named_kinds known_kinds meet differ [] job.sources with_ons p.sources []
@@ -257,9 +303,11 @@ module _ (begun : BegunAreSigns) (meet : TagsMeet) (differ : TagsDiffer) (job : 
   unfolding n resolved
   resolved_is p version known =
       let d = drafted p in
-      ap (λ (r : Found Naming). r >>= λ n. version_of version >>= λ v. draft_of whole n (all_parts p) >>= λ d. Ok (draft_with v n d)) (named p)
-      ∙ ap (λ (r : Found ℕ). r >>= λ v. draft_of whole n (all_parts p) >>= λ d. Ok (draft_with v n d)) known
-      ∙ ap (λ (r : Found Drafted). r >>= λ d. Ok (draft_with job.version n d)) d.2
+      let names : Naming = naming_of_job job in
+      ap (λ (r : Found Naming). r >>= λ m. version_of version >>= λ v. draft_of whole (in_version m v) (all_parts p) >>=
+      λ d. Ok (draft_with (in_version m v) d)) (named p)
+      ∙ ap (λ (r : Found ℕ). r >>= λ v. draft_of whole (in_version names v) (all_parts p) >>= λ d. Ok (draft_with (in_version names v) d)) known
+      ∙ ap (λ (r : Found Drafted). r >>= λ d. Ok (draft_with n d)) d.2
       ∙ ap (λ fs. Ok (let j : Job = record { version = job.version; families = fs; kinds = job.kinds; depends = job.depends; sources = job.sources } in j))
       (families_back 0 job.families)
 

@@ -14,7 +14,7 @@ use Rattle.flu_model.specs.declared.jobs.Sort.TheVariants.{Sum, Max, Last}
 use Rattle.flu_model.specs.declared.jobs.Family.{Family}
 use Rattle.flu_model.specs.declared.jobs.CellRef.{CellRef}
 use Rattle.flu_model.specs.declared.jobs.Piece.{Piece}
-use Rattle.flu_model.specs.Erasure.{Term, PlainAct, Adding, Raising, Setting, Clearing, Emitting, Flushing, PlainAction}
+use Rattle.flu_model.specs.Erasure.{Term, PlainAct, Adding, Raising, Setting, Clearing, ClearingFamily, Emitting, Flushing, PlainAction}
 use Rattle.flu_model.specs.Rules.{is_keyed, ref_fits, ref_has_sort, emit_piece_fits, flush_piece_fits, are_apart, is_short, emit_template_fits}
 use Rattle.flu_model.specs.Rules.{flush_template_fits}
 use Rattle.flu_model.specs.Templates.{family_name, written_template}
@@ -45,11 +45,12 @@ module _ (families : List Family) (names : list_all (λ (f : Family). is_name f.
       (list_all_weaker (emit_piece_fits families keyed has_value) (piece_keeps families keyed) ps (emit_keeps families keyed has_value)
       (three_left pieces (are_apart ps) (is_short (written_template families ps)) h))
 
-  flush_bytes : (ps : List Piece) → flush_template_fits families has_value ps ≡ true → list_all is_text_byte (written_template families ps) ≡ true
-  flush_bytes ps h =
-      let pieces = list_all (flush_piece_fits has_value) ps in
+  flush_bytes : (flushed : ℕ) (ps : List Piece) → flush_template_fits families flushed has_value ps ≡ true
+      → list_all is_text_byte (written_template families ps) ≡ true
+  flush_bytes flushed ps h =
+      let pieces = list_all (flush_piece_fits families flushed has_value) ps in
       template_bytes families names keyed ps
-      (list_all_weaker (flush_piece_fits has_value) (piece_keeps families keyed) ps (flush_keeps families keyed has_value)
+      (list_all_weaker (flush_piece_fits families flushed has_value) (piece_keeps families keyed) ps (flush_keeps families flushed keyed has_value)
       (three_left pieces (are_apart ps) (is_short (written_template families ps)) h))
 
   -- a cell, and an expression behind it
@@ -73,16 +74,20 @@ module _ (families : List Family) (names : list_all (λ (f : Family). is_name f.
   laid_act (Raising c e) behind rest fits f = laid_writing r.Raise Max c e behind rest fits f
   laid_act (Setting c e) behind rest fits f = laid_writing r.Set Last c e behind rest fits f
   laid_act (Clearing c) behind rest fits f = laid_reserved r.Clear blank _ refl refl (laid_cell families names keyed c behind rest fits f)
+  laid_act (ClearingFamily i) behind rest fits f =
+      let found = keyed_at families i fits in
+      let family = laid_name (family_name (slice_get families i)) behind rest (family_named families names i found.family found.found) f.blank f.ends f.laid in
+      laid_reserved r.Clear blank _ refl refl family
   laid_act (Emitting ps) behind rest fits f =
       let template = written_template families ps in
       let short = three_right (list_all (emit_piece_fits families keyed has_value) ps) (are_apart ps) (is_short template) fits in
       laid_reserved r.Emit blank _ refl refl (laid_text template behind rest (emit_bytes ps fits) (true_le (length template) 256 short) f.blank f.laid)
   laid_act (Flushing i ps) behind rest fits f =
       let template = written_template families ps in
-      let found = keyed_at families i (and_left (is_keyed (slice_get families i)) (flush_template_fits families has_value ps) fits) in
-      let good = and_right (is_keyed (slice_get families i)) (flush_template_fits families has_value ps) fits in
-      let short = three_right (list_all (flush_piece_fits has_value) ps) (are_apart ps) (is_short template) good in
-      let quoted = laid_text template behind rest (flush_bytes ps good) (true_le (length template) 256 short) f.blank f.laid in
+      let found = keyed_at families i (and_left (is_keyed (slice_get families i)) (flush_template_fits families i has_value ps) fits) in
+      let good = and_right (is_keyed (slice_get families i)) (flush_template_fits families i has_value ps) fits in
+      let short = three_right (list_all (flush_piece_fits families i has_value) ps) (are_apart ps) (is_short template) good in
+      let quoted = laid_text template behind rest (flush_bytes i ps good) (true_le (length template) 256 short) f.blank f.laid in
       let family = laid_name (family_name (slice_get families i)) blank _ (family_named families names i found.family found.found) refl refl quoted in
       laid_reserved r.Flush blank _ refl refl family
 

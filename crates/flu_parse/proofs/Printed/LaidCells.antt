@@ -16,10 +16,10 @@ use Rattle.flu_model.specs.declared.jobs.CellRef.{CellRef}
 use Rattle.flu_model.specs.declared.jobs.Op.{Op}
 use Rattle.flu_model.specs.declared.jobs.Op.TheVariants as op
 use Rattle.flu_model.specs.Contents.{key_count}
-use Rattle.flu_model.specs.Erasure.{Term, Literal, EventValue, EventKey, EventTime, CellRead, CellHeld, Negative, Negation, Operation}
+use Rattle.flu_model.specs.Erasure.{Term, Literal, EventValue, EventKey, EventItem, EventTime, CellRead, CellHeld, Negative, Negation, Operation}
 use Rattle.flu_model.specs.Rules.{key_fits, family_fits, ref_fits, is_literal}
 use Rattle.flu_model.specs.Templates.{family_name}
-use Rattle.flu_layout.specs.Laid.{blank, reserved, mark, AreLaid, Follows, laid_name, laid_reserved, laid_number, laid_mark, laid_spaced}
+use Rattle.flu_layout.specs.Laid.{blank, reserved, mark, item, AreLaid, Follows, laid_name, laid_item, laid_reserved, laid_number, laid_mark, laid_spaced}
 use Rattle.flu_parse.proofs.Printed.Words.{operator, behind_name, key_words, cell_words, term_words}
 use Rattle.flu_parse.proofs.Kept.Plain.{term_fits}
 
@@ -41,6 +41,8 @@ pub laid_operator : (o : Op) (rest : List Laid) → AreLaid rest → AreLaid (op
 laid_operator op.Plus rest laid = laid_spaced m.Plus rest laid
 laid_operator op.Minus rest laid = laid_spaced m.Minus rest laid
 laid_operator op.Times rest laid = laid_spaced m.Times rest laid
+laid_operator op.Divide rest laid = laid_spaced m.Divide rest laid
+laid_operator op.Remainder rest laid = laid_spaced m.Remainder rest laid
 laid_operator op.Less rest laid = laid_spaced m.Less rest laid
 laid_operator op.LessEq rest laid = laid_spaced m.LessEq rest laid
 laid_operator op.More rest laid = laid_spaced m.More rest laid
@@ -61,6 +63,10 @@ module _ (families : List Family) (names : list_all (λ (f : Family). is_name f.
       let closed : AreLaid (mark m.CloseBracket behind ∷ rest) = laid_mark m.CloseBracket behind rest (λ b. refl) f.blank f.laid in
       let key : AreLaid (reserved r.Key [] ∷ mark m.CloseBracket behind ∷ rest) = laid_reserved r.Key [] (mark m.CloseBracket behind ∷ rest) refl refl closed in
       record { blank = refl; ends = refl; laid = laid_mark m.OpenBracket [] (reserved r.Key [] ∷ mark m.CloseBracket behind ∷ rest) (λ b. refl) refl key }
+  laid_key at.OwnItem family_keyed keyed behind rest fits f =
+      let closed : AreLaid (mark m.CloseBracket behind ∷ rest) = laid_mark m.CloseBracket behind rest (λ b. refl) f.blank f.laid in
+      let word : AreLaid (item [] ∷ mark m.CloseBracket behind ∷ rest) = laid_item [] (mark m.CloseBracket behind ∷ rest) refl refl closed in
+      record { blank = refl; ends = refl; laid = laid_mark m.OpenBracket [] (item [] ∷ mark m.CloseBracket behind ∷ rest) (λ b. refl) refl word }
   laid_key (at.Fixed k) family_keyed keyed behind rest fits f =
       let closed : AreLaid (mark m.CloseBracket behind ∷ rest) = laid_mark m.CloseBracket behind rest (λ b. refl) f.blank f.laid in
       let small : is_literal (pos k) ≡ true = lt_wider k key_count (2 ^ 63) (omega arith) (and_right family_keyed (nat_lt k key_count) fits) in
@@ -84,6 +90,7 @@ module _ (families : List Family) (names : list_all (λ (f : Family). is_name f.
   laid_term keyed has_value (Literal n) behind rest fits f = laid_number n behind rest fits f.blank f.ends f.laid
   laid_term keyed has_value EventValue behind rest fits f = laid_reserved r.Value behind rest f.blank f.ends f.laid
   laid_term keyed has_value EventKey behind rest fits f = laid_reserved r.Key behind rest f.blank f.ends f.laid
+  laid_term keyed has_value EventItem behind rest fits f = laid_item behind rest f.blank f.ends f.laid
   laid_term keyed has_value EventTime behind rest fits f = laid_reserved r.Time behind rest f.blank f.ends f.laid
   laid_term keyed has_value (CellRead c) behind rest fits f = laid_cell keyed c behind rest fits f
   laid_term keyed has_value (CellHeld c) behind rest fits f = laid_reserved r.Has blank (cell_words families c behind rest) refl refl

@@ -23,36 +23,40 @@ use Rattle.flu_model.specs.Listing.{tags_of_source}
 use Rattle.flu_model.specs.Erasure.{PlainAction, PlainKind, Job}
 use Rattle.flu_model.specs.PlanRules.{are_small_keys}
 use Rattle.flu_model.specs.Rules.{keys_fit, is_file_text, are_distinct, is_same_tag}
-use Rattle.flu_layout.specs.Laid.{blank, line_end, reserved, name, number, EndsName, AreLaid, laid_none, laid_name, laid_reserved, laid_number, laid_text}
-use Rattle.flu_layout.specs.Laid.{laid_mark, laid_spaced, Follows}
+use Rattle.flu_layout.specs.Laid.{blank, line_end, reserved, name, number, EndsName, AreLaid, laid_none, laid_name, laid_item, laid_reserved, laid_number}
+use Rattle.flu_layout.specs.Laid.{laid_text, laid_mark, laid_spaced, Follows}
 use Rattle.flu_layout.specs.Lists.{between, behind_kind, keys_words}
 use Rattle.flu_layout.specs.Laws.{KeysAreLaid}
 use Rattle.flu_parse.specs.Printing.{kind_name}
 use Rattle.flu_parse.proofs.Kept.Plain.{plain_action_fits, plain_kind_fits}
 use Rattle.flu_parse.proofs.Printed.Rules.{plain_kind_is_keyed, plain_depend_fits, plain_listed_fits, plain_tag_fits, plain_source_fits, JobFits}
-use Rattle.flu_parse.proofs.Printed.Words.{action_words, version_words, keyed_words, sort_reserved, cell_line_words, value_reserved, tag_line_words}
-use Rattle.flu_parse.proofs.Printed.Words.{behind_depends, same_words, depends_line_words, actions_words, on_line_words, tag_words, listed_words, behind_rate}
-use Rattle.flu_parse.proofs.Printed.Words.{slack_words, source_line_words, job_words}
+use Rattle.flu_parse.proofs.Printed.Words.{action_words, version_words, keyed_words, sort_reserved, cell_line_words, item_words, value_reserved}
+use Rattle.flu_parse.proofs.Printed.Words.{tag_line_words, behind_depends, same_words, depends_line_words, actions_words, on_line_words, tag_words}
+use Rattle.flu_parse.proofs.Printed.Words.{listed_words, behind_rate, slack_words, source_line_words, job_words}
 use Rattle.flu_parse.proofs.Printed.LaidActions.{laid_action}
 
 laid_keyed : (keyed : Bool) (rest : List Laid) → AreLaid rest → AreLaid (keyed_words keyed rest)
 laid_keyed true rest laid = laid_reserved r.Keyed blank rest refl refl laid
 laid_keyed false rest laid = laid
 
-laid_head : (word last : Reserved) (n : List ℕ) (keyed : Bool) (rest : List Laid) → is_name n ≡ true → AreLaid rest
-    → AreLaid (reserved word blank ∷ name n blank ∷ keyed_words keyed (reserved last line_end ∷ rest))
-laid_head word last n keyed rest named laid =
-    let end = laid_reserved last line_end rest refl refl laid in
-    let middle = laid_keyed keyed (reserved last line_end ∷ rest) end in
+laid_item_word : (has_item : Bool) (rest : List Laid) → AreLaid rest → AreLaid (item_words has_item rest)
+laid_item_word true rest laid = laid_item blank rest refl refl laid
+laid_item_word false rest laid = laid
+
+laid_head : (word last : Reserved) (n : List ℕ) (keyed has_item : Bool) (rest : List Laid) → is_name n ≡ true → AreLaid rest
+    → AreLaid (reserved word blank ∷ name n blank ∷ keyed_words keyed (item_words has_item (reserved last line_end ∷ rest)))
+laid_head word last n keyed has_item rest named laid =
+    let end = laid_item_word has_item (reserved last line_end ∷ rest) (laid_reserved last line_end rest refl refl laid) in
+    let middle = laid_keyed keyed (item_words has_item (reserved last line_end ∷ rest)) end in
     laid_reserved word blank _ refl refl (laid_name n blank _ named refl refl middle)
 
 laid_cell_line : (f : Family) (rest : List Laid) → is_name f.name ≡ true → AreLaid rest → AreLaid (cell_line_words f rest)
-laid_cell_line f rest named laid = laid_head r.Cell (sort_reserved f.sort) f.name f.keyed rest named laid
+laid_cell_line f rest named laid = laid_head r.Cell (sort_reserved f.sort) f.name f.keyed false rest named laid
 
 module _ (families : List Family) (named_families : list_all (λ (f : Family). is_name f.name) families ≡ true) where
   laid_tag_line : (k : PlainKind) (rest : List Laid) → plain_kind_fits families k ≡ true → AreLaid rest → AreLaid (tag_line_words k rest)
   laid_tag_line k rest fits laid =
-      laid_head r.Tag (value_reserved k.has_value) k.name k.keyed rest
+      laid_head r.Tag (value_reserved k.has_value) k.name k.keyed k.has_item rest
       (three_left (is_name k.name) (nat_le (length k.actions) 32) (list_all (plain_action_fits families k.keyed k.has_value) k.actions) fits) laid
 
   laid_actions : (keyed has_value : Bool) (n : List ℕ) (actions : List PlainAction) (rest : List Laid) → is_name n ≡ true
@@ -233,11 +237,13 @@ names_of_kinds families kinds h =
     (list_all (plain_action_fits families k.keyed k.has_value) k.actions) fits) h
 
 laid_version : (version : ℕ) (rest : List Laid) → AreLaid rest → AreLaid (version_words version rest)
-laid_version version rest laid = by (version == 2)
+laid_version version rest laid = by (version == 2) (version == 3)
   where
-    by : (two : Bool) → AreLaid (if two then reserved r.Version blank ∷ number (pos 2) line_end ∷ rest else rest)
-    by true = laid_reserved r.Version blank _ refl refl (laid_number (pos 2) line_end rest refl refl refl laid)
-    by false = laid
+    by : (two three : Bool) → AreLaid (if two then reserved r.Version blank ∷ number (pos 2) line_end ∷ rest
+        else if three then reserved r.Version blank ∷ number (pos 3) line_end ∷ rest else rest)
+    by true three = laid_reserved r.Version blank _ refl refl (laid_number (pos 2) line_end rest refl refl refl laid)
+    by false true = laid_reserved r.Version blank _ refl refl (laid_number (pos 3) line_end rest refl refl refl laid)
+    by false false = laid
 
 -- the words of the normal form are laid out
 pub job_laid : KeysAreLaid → (job : Job) → JobFits job → AreLaid (job_words job)

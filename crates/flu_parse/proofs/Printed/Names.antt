@@ -49,6 +49,7 @@ naming_of_job job = record {
   sources =
       map (λ (s : Source). s.name) job.sources;
   depends = length job.depends;
+  version = 1;
 }
 
 -- ---- names that differ
@@ -230,7 +231,7 @@ module _ (whole : List ℕ) (utf8 : IsUtf8 whole) where
       }
 
   one_kind : (m : Naming) (s : WrittenSpan) (k : PlainKind) → name_of whole s ≡ k.name → Fresh m k.name → length m.kinds < 64
-      → with_kind whole m s k.keyed k.has_value ≡ Ok (with_kinds m (m.kinds ++ (k.name, kind_head (length m.kinds) k) ∷ []))
+      → with_kind whole m s k.keyed k.has_item k.has_value ≡ Ok (with_kinds m (m.kinds ++ (k.name, kind_head (length m.kinds) k) ∷ []))
   unfolding with_kind
   one_kind m s k is fresh few =
       ap (λ (r : Found (List ℕ)). r >>= λ name. room Kinds 64 (length m.kinds) >> Ok (with_kinds m (m.kinds ++ (name, kind_head (length m.kinds) k) ∷ [])))
@@ -258,8 +259,9 @@ module _ (whole : List ℕ) (utf8 : IsUtf8 whole) where
       let same : with_kinds m (next.kinds ++ kind_heads (length next.kinds) ks) ≡ with_kinds m (m.kinds ++ kind_heads (length m.kinds) (k ∷ ks)) =
       ap (with_kinds m) (one_more m.kinds (k.name, kind_head (length m.kinds) k) (λ i. kind_heads i ks)) in
       record {
-        leads = one m next ds lines.0 lines.1 more (Tag line.0 k.keyed k.has_value) lines.2 line.1
-            (one_kind m line.0 k line.2 left.fresh.0 (omega (arith, few))) ∙ rest.leads ∙ ap (λ n. each (declare whole) n more) same;
+        leads = one m next ds lines.0 lines.1 more (Tag line.0 k.keyed line.1 k.has_value) lines.2 line.2
+            (ap (λ b. with_kind whole m line.0 k.keyed b k.has_value) line.4
+            ∙ one_kind m line.0 k line.3 left.fresh.0 (omega (arith, few))) ∙ rest.leads ∙ ap (λ n. each (declare whole) n more) same;
         left = subst (λ n. Left n ys) same rest.left;
       }
 

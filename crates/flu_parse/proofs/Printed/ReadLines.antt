@@ -1,6 +1,6 @@
 -- The declarations of the normal form are read as what was printed.
 use Rattle.std.proofs.Common.{◌≡◌, ◌+◌, ℕ, pos, Bool, true, false, ◌&&◌, ◌||◌, List, [], ◌∷◌, ◌++◌, length, Option, Some, None, Ok, refl, sym, ap, subst, ◌∙◌}
-use Rattle.std.specs.Prelude.{nat_lt, nat_le, not, if◌then◌else◌, slice_get}
+use Rattle.std.specs.Prelude.{nat_lt, nat_le, not, is_some, if◌then◌else◌, slice_get}
 use Rattle.std.specs.List.{list_all}
 use Rattle.std.specs.Str.{IsUtf8}
 use Rattle.std.proofs.lemmas.List.Concat.{flat_map-append}
@@ -26,13 +26,13 @@ use Rattle.flu_text.specs.declared.written.WrittenNumber.{WrittenNumber}
 use Rattle.flu_syntax.specs.declared.tree.WrittenTag.{WrittenTag}
 use Rattle.flu_syntax.specs.declared.tree.WrittenRelation.{WrittenRelation}
 use Rattle.flu_syntax.specs.declared.tree.WrittenRelation.TheVariants as relation
-use Rattle.flu_text.specs.Signs.{span_of}
+use Rattle.flu_text.specs.Signs.{is_name_word, span_of}
 use Rattle.flu_syntax.specs.Tree.{Declaration, Cell, Tag, Depends, On, Source as SourceLine}
 use Rattle.flu_syntax.specs.Tree.{Action as WrittenDo}
 use Rattle.flu_text.specs.Signs.{IsSign, Any}
 use Rattle.flu_text.specs.Signs.{separated}
-use Rattle.flu_syntax.specs.Grammar.{sort_word, value_word, keyed_signs, relation_signs, action_signs, tag_signs, slack_signs, declaration_signs}
-use Rattle.flu_syntax.specs.Grammar.{declarations_signs, IsDeclaration, AreDeclarations}
+use Rattle.flu_syntax.specs.Grammar.{sort_word, value_word, keyed_signs, item_signs, relation_signs, action_signs, tag_signs, slack_signs}
+use Rattle.flu_syntax.specs.Grammar.{declaration_signs, declarations_signs, IsDeclaration, AreDeclarations}
 use Rattle.flu_names.specs.declared.reserved.Reserved.{Reserved}
 use Rattle.flu_names.specs.declared.reserved.Reserved.TheVariants as r
 use Rattle.flu_names.specs.Names.{is_name}
@@ -41,7 +41,7 @@ use Rattle.flu_layout.specs.Laid.{line_end, blank, reserved, name, number}
 use Rattle.flu_layout.specs.Lists.{between}
 use Rattle.flu_layout.specs.Stands.{StandsFor, Stand}
 use Rattle.flu_parse.specs.declared.names.KindHead.{KindHead}
-use Rattle.flu_parse.specs.Naming.{Naming, look_up, known, kind_of}
+use Rattle.flu_parse.specs.Naming.{Naming, is_version_3, look_up, known, kind_of}
 use Rattle.flu_model.specs.declared.limits.What.TheVariants.{Slack}
 use Rattle.flu_parse.specs.Listings.{slack_of}
 use Rattle.flu_parse.specs.Resolving.{same_of}
@@ -49,15 +49,17 @@ use Rattle.flu_parse.specs.declared.faults.JobFault.TheVariants as f
 use Rattle.flu_parse.specs.Faults.{◌>>◌, unless}
 use Rattle.flu_parse.specs.Printing.{kind_name}
 use Rattle.flu_parse.proofs.Printed.Rules.{plain_kind_is_keyed, plain_depend_fits, plain_tag_fits, plain_source_fits}
-use Rattle.flu_parse.proofs.Printed.Words.{action_words, keyed_words, sort_reserved, cell_line_words, value_reserved, tag_line_words, behind_depends}
-use Rattle.flu_parse.proofs.Printed.Words.{same_words, depends_line_words, actions_words, on_line_words, tag_words, listed_words, slack_words}
+use Rattle.flu_parse.proofs.Printed.Words.{action_words, keyed_words, sort_reserved, cell_line_words, item_words, value_reserved, tag_line_words}
+use Rattle.flu_parse.proofs.Printed.Words.{behind_depends, same_words, depends_line_words, actions_words, on_line_words, tag_words, listed_words, slack_words}
 use Rattle.flu_parse.proofs.Printed.Words.{source_line_words}
 use Rattle.flu_parse.proofs.Printed.Quotes.{text_stands, inside_stands}
 use Rattle.flu_parse.proofs.Printed.LaidLines.{kind_at, source_facts}
-use Rattle.flu_parse.proofs.Printed.ReadTerms.{FamiliesKnown}
-use Rattle.flu_parse.proofs.Printed.ReadActions.{Does, read_action, are_actions}
+use Rattle.flu_parse.proofs.Printed.ReadTerms.{FamiliesKnown, ItemsKnown}
+use Rattle.flu_parse.proofs.Printed.ReadActions.{Does, action_ok, read_action, are_actions}
 use Rattle.flu_parse.proofs.Printed.ReadTags.{kind_head, KindsKnown, Lists, read_tag}
 use Rattle.flu_parse.proofs.Kept.Plain.{plain_action_fits, plain_kind_fits}
+use Rattle.flu_parse.proofs.Kept.Versions.{action_suits, actions_suit, items_suit}
+use Rattle.flu_lemmas.proofs.Elements.{list_all_both}
 
 -- the declarations are those of the items, in order
 abbrev pub Lines : {X : Type 0} → (X → List Declaration → Type 0) → List X → List Declaration → Type 0
@@ -145,7 +147,7 @@ module _ (whole : List ℕ) (utf8 : IsUtf8 whole) where
             n.0,
             n.1,
             n.2,
-            (n.3.word, refl, refl),
+            (ap is_name_word n.3.word, refl, refl),
             subst
                 (λ l. Begins IsSign l n.1 end.rest) signs end.begins,
           ),
@@ -156,16 +158,49 @@ module _ (whole : List ℕ) (utf8 : IsUtf8 whole) where
 
   -- the declaration of a kind
   abbrev pub TagIs : PlainKind → List Declaration → Type 0
-  TagIs k ds = (s : WrittenSpan) × (ds ≡ Tag s k.keyed k.has_value ∷ []) × (name_of whole s ≡ k.name)
+  TagIs k ds =
+      (s : WrittenSpan) × (item : Option ℕ) × (ds ≡ Tag s k.keyed item k.has_value ∷ []) × (name_of whole s ≡ k.name) × (is_some item ≡ k.has_item)
+
+  -- `keyed`, `item`, and the word that ends the line
+  record TagEnd (keyed has_item : Bool) (end : Reserved) (rest : List Laid) (ts : List Token) : Type 0 where
+    item : Option ℕ
+    has : is_some item ≡ has_item
+    took : Took IsSign (Stand whole) (keyed_signs keyed ++ item_signs item ++ Any (w.Reserved end) ∷ []) rest ts
+
+  read_tag_end : (keyed has_item : Bool) (end : Reserved) (rest : List Laid) (ts : List Token)
+      → Stand whole (keyed_words keyed (item_words has_item (reserved end line_end ∷ rest))) ts → TagEnd keyed has_item end rest ts
+  read_tag_end true true end rest ts h =
+      let word = h.4 in
+      let last = word.4 in
+      record {
+        item = Some word.0.from;
+        has = refl;
+        took = record {
+          rest = last.1;
+          begins = (h.0, h.1, h.2, h.3.word, (word.0, word.1, word.2, (word.3.word, refl), (last.0, last.1, last.2, last.3.word, refl)));
+          stand = last.4;
+        };
+      }
+  read_tag_end true false end rest ts h = record { item = None; has = refl; took = read_end true end rest ts h }
+  read_tag_end false true end rest ts h =
+      let last = h.4 in
+      record {
+        item = Some h.0.from;
+        has = refl;
+        took = record { rest = last.1; begins = (h.0, h.1, h.2, (h.3.word, refl), (last.0, last.1, last.2, last.3.word, refl)); stand = last.4 };
+      }
+  read_tag_end false false end rest ts h = record { item = None; has = refl; took = read_end false end rest ts h }
 
   pub read_tag_line : (k : PlainKind) (rest : List Laid) (ts : List Token) → is_name k.name ≡ true → Stand whole (tag_line_words k rest) ts
       → LinesAre whole (TagIs k) rest ts
   read_tag_line k rest ts named h =
       let n = h.4 in
-      let end = read_end k.keyed (value_reserved k.has_value) rest n.1 n.4 in
-      let signs : keyed_signs k.keyed ++ Any (w.Reserved (value_reserved k.has_value)) ∷ [] ≡ keyed_signs k.keyed ++ Any (value_word k.has_value)
-      ∷ [] = ap (λ (word : Word). keyed_signs k.keyed ++ Any word ∷ []) (same_value k.has_value) in
-      one_line whole (TagIs k) rest ts (Tag (span_of n.0) k.keyed k.has_value)
+      let tag = read_tag_end k.keyed k.has_item (value_reserved k.has_value) rest n.1 n.4 in
+      let end = tag.took in
+      let front = keyed_signs k.keyed ++ item_signs tag.item in
+      let signs : front ++ Any (w.Reserved (value_reserved k.has_value)) ∷ [] ≡ front ++ Any (value_word k.has_value) ∷ [] =
+      ap (λ (word : Word). front ++ Any word ∷ []) (same_value k.has_value) in
+      one_line whole (TagIs k) rest ts (Tag (span_of n.0) k.keyed tag.item k.has_value)
       (record {
         rest = end.rest;
         begins = (
@@ -177,14 +212,14 @@ module _ (whole : List ℕ) (utf8 : IsUtf8 whole) where
             n.0,
             n.1,
             n.2,
-            (n.3.word, refl, refl),
+            (ap is_name_word n.3.word, refl, refl),
             subst
                 (λ l. Begins IsSign l n.1 end.rest) signs end.begins,
           ),
         );
         stand = end.stand;
       })
-      tt (span_of n.0, refl, n.3.named refl)
+      tt (span_of n.0, tag.item, refl, n.3.named refl, tag.has)
 
   module _ (kinds : List PlainKind) (named_kinds : list_all (λ (k : PlainKind). is_name k.name) kinds ≡ true) (n : Naming)
       (known_kinds : KindsKnown kinds n) where
@@ -244,7 +279,7 @@ module _ (whole : List ℕ) (utf8 : IsUtf8 whole) where
             h.1,
             h.2,
             h.3.word,
-            (a.0, a.1, a.2, (a.3.word, refl, refl), (b.0, b.1, b.2, (b.3.word, refl, refl), same.took.begins)),
+            (a.0, a.1, a.2, (ap is_name_word a.3.word, refl, refl), (b.0, b.1, b.2, (ap is_name_word b.3.word, refl, refl), same.took.begins)),
           );
           stand = same.took.stand;
         })
@@ -344,7 +379,7 @@ module _ (whole : List ℕ) (utf8 : IsUtf8 whole) where
               a.0,
               a.1,
               a.2,
-              (a.3.word, refl, refl),
+              (ap is_name_word a.3.word, refl, refl),
               (
                 b.0,
                 b.1,
@@ -387,17 +422,21 @@ module _ (whole : List ℕ) (utf8 : IsUtf8 whole) where
     ActionsAre under kind (a ∷ actions) ds = OnIs under kind a actions ds
 
     pub read_on_line : (under : KindHead) (kind : List ℕ) (actions : List PlainAction) (rest : List Laid) (ts : List Token) → is_name kind ≡ true
-        → list_all (plain_action_fits families under.keyed under.has_value) actions ≡ true → Stand whole (actions_words families kind actions rest) ts
-        → LinesAre whole (ActionsAre under kind actions) rest ts
-    read_on_line under kind [] rest ts named fits h = record { written = []; took = record { rest = ts; begins = refl; stand = h }; are = tt; means = refl }
-    read_on_line under kind (a ∷ actions) rest ts named fits h =
+        → list_all (plain_action_fits families under.keyed under.has_value) actions ≡ true
+        → list_all (action_suits under.has_item (is_version_3 n)) actions ≡ true → ItemsKnown n under
+        → Stand whole (actions_words families kind actions rest) ts → LinesAre whole (ActionsAre under kind actions) rest ts
+    read_on_line under kind [] rest ts named fits suits items h =
+        record { written = []; took = record { rest = ts; begins = refl; stand = h }; are = tt; means = refl }
+    read_on_line under kind (a ∷ actions) rest ts named fits suits items h =
         let b = h.4 in
         let c = b.4 in
         let all = read_items IsSign (Stand whole) (action_words families) [] (between m.Semicolon) action_signs
         (Does whole utf8 families names n known_families under)
-        (plain_action_fits families under.keyed under.has_value) (Any (w.Mark m.Semicolon)) (read_action whole utf8 families names n known_families under)
+        (action_ok whole utf8 families names n known_families under) (Any (w.Mark m.Semicolon))
+        (read_action whole utf8 families names n known_families under items)
         (λ r ts h. (h.0, h.1, h.2, h.3.word, h.4))
-        a actions line_end rest c.1 fits c.4 in
+        a actions line_end rest c.1 (list_all_both (plain_action_fits families under.keyed under.has_value)
+        (action_suits under.has_item (is_version_3 n)) (a ∷ actions) fits suits) c.4 in
         one_line whole (OnIs under kind a actions) rest ts (On (span_of b.0) (all.first ∷ all.others))
         (record {
           rest = all.took.rest;
@@ -406,7 +445,7 @@ module _ (whole : List ℕ) (utf8 : IsUtf8 whole) where
             h.1,
             h.2,
             h.3.word,
-            (b.0, b.1, b.2, (b.3.word, refl, refl), (c.0, c.1, c.2, c.3.word, all.took.begins)),
+            (b.0, b.1, b.2, (ap is_name_word b.3.word, refl, refl), (c.0, c.1, c.2, c.3.word, all.took.begins)),
           );
           stand = all.took.stand;
         })
@@ -419,18 +458,28 @@ module _ (whole : List ℕ) (utf8 : IsUtf8 whole) where
     Ons i (k ∷ ks) ds = (here : List Declaration) × (rest : List Declaration) × (ds ≡ here ++ rest) × ActionsAre (kind_head i k) k.name k.actions here × Ons
         (i + 1) ks rest
 
+    -- a kind has items only in version 3
+    items_known : (newer has_item : Bool) → (newer || not has_item) ≡ true → (newer && has_item) ≡ has_item
+    items_known true has_item e = refl
+    items_known false true e = absurd cc
+    items_known false false e = refl
+
     pub read_ons : (i : ℕ) (ks : List PlainKind) (rest : List Laid) (ts : List Token) → list_all (plain_kind_fits families) ks ≡ true
+        → list_all (items_suit (is_version_3 n)) ks ≡ true → list_all (actions_suit (is_version_3 n)) ks ≡ true
         → Stand whole (lines_before (on_line_words families) ks rest) ts → LinesAre whole (Ons i ks) rest ts
-    read_ons i [] rest ts all h = record { written = []; took = record { rest = ts; begins = refl; stand = h }; are = tt; means = refl }
-    read_ons i (k ∷ ks) rest ts all h =
+    read_ons i [] rest ts all items suits h = record { written = []; took = record { rest = ts; begins = refl; stand = h }; are = tt; means = refl }
+    read_ons i (k ∷ ks) rest ts all items suits h =
+        let newer : Bool = is_version_3 n in
         let fits = and_left (plain_kind_fits families k) (list_all (plain_kind_fits families) ks) all in
         let named : Bool = is_name k.name in
         let few : Bool = nat_le (length k.actions) 32 in
         let actions : Bool = list_all (plain_action_fits families k.keyed k.has_value) k.actions in
         let here = read_on_line (kind_head i k) k.name k.actions (lines_before (on_line_words families) ks rest) ts (three_left named few actions fits)
-        (three_right named few actions fits) h in
-        let more = read_ons (i + 1) ks rest here.took.rest (and_right (plain_kind_fits families k)
-        (list_all (plain_kind_fits families) ks) all) here.took.stand in
+        (three_right named few actions fits) (and_left (actions_suit newer k) (list_all (actions_suit newer) ks) suits)
+        (items_known newer k.has_item (and_left (items_suit newer k) (list_all (items_suit newer) ks) items)) h in
+        let more = read_ons (i + 1) ks rest here.took.rest (and_right (plain_kind_fits families k) (list_all (plain_kind_fits families) ks) all)
+        (and_right (items_suit newer k) (list_all (items_suit newer) ks) items)
+        (and_right (actions_suit newer k) (list_all (actions_suit newer) ks) suits) here.took.stand in
         record {
           written = here.written ++ more.written;
           took = record {

@@ -24,7 +24,7 @@ use Rattle.flu_rules.specs.Keys.{share_tag, TagsMeet}
 use Rattle.flu_text.specs.declared.written.WrittenKeys.{WrittenKeys}
 use Rattle.flu_text.specs.declared.written.WrittenKeys.TheVariants as w
 use Rattle.flu_syntax.specs.declared.tree.WrittenTag.{WrittenTag}
-use Rattle.flu_text.specs.Signs.{span_of}
+use Rattle.flu_text.specs.Signs.{is_name_word, span_of}
 use Rattle.flu_text.specs.Signs.{IsSign}
 use Rattle.flu_text.specs.Signs.{keys_signs}
 use Rattle.flu_syntax.specs.Grammar.{tag_signs}
@@ -44,7 +44,7 @@ use Rattle.flu_parse.proofs.Printed.LaidLines.{tag_at, low_high, low_small}
 use Rattle.flu_parse.specs.Cells.{resolved_key}
 
 abbrev pub kind_head : ℕ → PlainKind → KindHead
-kind_head i k = record { number = i; keyed = k.keyed; has_value = k.has_value }
+kind_head i k = record { number = i; keyed = k.keyed; has_item = k.has_item; has_value = k.has_value }
 
 -- each kind is looked up by its name
 abbrev pub KindsKnown : List PlainKind → Naming → Type 0
@@ -165,7 +165,7 @@ module _ (whole : List ℕ) (utf8 : IsUtf8 whole) (kinds : List PlainKind) (name
       let span = span_of h.0 in
       record {
         written = record { kind = span; keys = k.written };
-        took = record { rest = k.took.rest; begins = (h.0, h.1, h.2, (h.3.word, refl, refl), k.took.begins); stand = k.took.stand };
+        took = record { rest = k.took.rest; begins = (h.0, h.1, h.2, (ap is_name_word h.3.word, refl, refl), k.took.begins); stand = k.took.stand };
         is = record {
           kind = at_kind.kind;
           looked =

@@ -18,6 +18,7 @@ use Rattle.flu_parse.specs.Laws.{job_with}
 use Rattle.flu_names.specs.Names.{is_name}
 use Rattle.flu_lemmas.proofs.Elements.{list_all_same}
 use Rattle.flu_parse.proofs.Kept.Plain.{plain_kind_fits, kinds-plain}
+use Rattle.flu_parse.proofs.Kept.Versions.{plain_fit_version, version-plain}
 
 abbrev pub plain_kind_is_keyed : Option PlainKind → Bool
 plain_kind_is_keyed None = false
@@ -53,6 +54,7 @@ pub record JobFits (job : Job) : Type 0 where
   pub few_itags : length (itags_of_sources 0 job.sources) ≤ 256
   pub families : list_all (λ (f : Family). is_name f.name) job.families ≡ true
   pub kinds : list_all (plain_kind_fits job.families) job.kinds ≡ true
+  pub version : plain_fit_version job.version job.families job.kinds ≡ true
   pub depends : list_all (plain_depend_fits job.kinds) job.depends ≡ true
   pub sources : list_all (plain_source_fits job.kinds) job.sources ≡ true
   pub own_names : are_distinct is_same_text (names_of_job job) ≡ true
@@ -99,6 +101,7 @@ job_fits version families kinds depends sources kept = record {
   few_itags = kept.few_itags;
   families = kept.families_fit;
   kinds = sym (kinds-plain families kinds) ∙ kept.kinds_fit;
+  version = sym (version-plain version families kinds) ∙ kept.version_fits;
   depends = list_all_same (plain_depend_fits (map plain_kind kinds)) (depend_fits kinds) depends (same_depend kinds) ∙ kept.depends_fit;
   sources = list_all_same (plain_source_fits (map plain_kind kinds)) (source_fits kinds) sources (same_source kinds) ∙ kept.sources_fit;
   own_names = ap (λ ns. are_distinct is_same_text (map (λ (f : Family). f.name) families ++ ns ++ map (λ (s : Source). s.name) sources)) (same_names kinds)

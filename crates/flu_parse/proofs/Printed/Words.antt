@@ -21,15 +21,16 @@ use Rattle.flu_model.specs.declared.jobs.Op.{Op}
 use Rattle.flu_model.specs.declared.jobs.Depend.{Depend}
 use Rattle.flu_model.specs.declared.jobs.TagRef.{TagRef}
 use Rattle.flu_model.specs.declared.jobs.Source.{Source}
-use Rattle.flu_model.specs.Erasure.{Term, Literal, EventValue, EventKey, EventTime, CellRead, CellHeld, Negative, Negation, Operation, Adding, Raising, Setting}
-use Rattle.flu_model.specs.Erasure.{Clearing, Emitting, Flushing, PlainAction, PlainKind, Job, PlainAct}
+use Rattle.flu_model.specs.Erasure.{Term, Literal, EventValue, EventKey, EventItem, EventTime, CellRead, CellHeld, Negative, Negation, Operation, Adding}
+use Rattle.flu_model.specs.Erasure.{Raising, Setting, Clearing, ClearingFamily, Emitting, Flushing, PlainAction, PlainKind, Job, PlainAct}
 use Rattle.flu_model.specs.Templates.{family_name, written_key, written_cell, written_template}
 use Rattle.flu_syntax.specs.Grammar.{op_word}
-use Rattle.flu_layout.specs.Laid.{blank, line_end, quoted, reserved, mark, name, text, number}
+use Rattle.flu_layout.specs.Laid.{blank, line_end, quoted, reserved, mark, name, item, text, number}
 use Rattle.flu_layout.specs.Lists.{separated, between, items_words, keys_text, behind_kind, keys_words}
 use Rattle.flu_layout.specs.Laws.{KeysAreSpelled}
-use Rattle.flu_parse.specs.Printing.{op_text, term_text, act_text, guard_text, action_text, version_line, keyed_text, sort_text, cell_line, value_text}
-use Rattle.flu_parse.specs.Printing.{tag_line, kind_name, same_text, depends_line, actions_line, on_line, tag_text, slack_text, source_line, normal_form}
+use Rattle.flu_parse.specs.Printing.{op_text, term_text, act_text, guard_text, action_text, version_line, keyed_text, sort_text, cell_line, item_text}
+use Rattle.flu_parse.specs.Printing.{value_text, tag_line, kind_name, same_text, depends_line, actions_line, on_line, tag_text, slack_text, source_line}
+use Rattle.flu_parse.specs.Printing.{normal_form}
 
 -- ---- lists in a row, grouped otherwise
 
@@ -57,11 +58,13 @@ operator o behind = record { word = op_word o; spelling = op_text o; gap = behin
 abbrev pub behind_name : At → List ℕ → List ℕ
 behind_name at.Alone behind = behind
 behind_name at.OwnKey behind = []
+behind_name at.OwnItem behind = []
 behind_name (at.Fixed k) behind = []
 
 abbrev pub key_words : At → List ℕ → List Laid → List Laid
 key_words at.Alone behind rest = rest
 key_words at.OwnKey behind rest = mark m.OpenBracket [] ∷ reserved r.Key [] ∷ mark m.CloseBracket behind ∷ rest
+key_words at.OwnItem behind rest = mark m.OpenBracket [] ∷ item [] ∷ mark m.CloseBracket behind ∷ rest
 key_words (at.Fixed k) behind rest = mark m.OpenBracket [] ∷ number (pos k) [] ∷ mark m.CloseBracket behind ∷ rest
 
 abbrev pub cell_words : List Family → CellRef → List ℕ → List Laid → List Laid
@@ -70,6 +73,7 @@ cell_words families c behind rest = name (family_name (slice_get families c.fami
 key_layout : (a : At) (behind : List ℕ) (rest : List Laid) → behind_name a behind ++ layout (key_words a behind rest) ≡ written_key a ++ (behind ++ layout rest)
 key_layout at.Alone behind rest = refl
 key_layout at.OwnKey behind rest = refl
+key_layout at.OwnItem behind rest = refl
 key_layout (at.Fixed k) behind rest = simp append_assoc
 
 pub cell_layout : (families : List Family) (c : CellRef) (behind : List ℕ) (rest : List Laid)
@@ -84,6 +88,7 @@ abbrev pub term_words : List Family → Term → List ℕ → List Laid → List
 term_words families (Literal n) behind rest = number n behind ∷ rest
 term_words families EventValue behind rest = reserved r.Value behind ∷ rest
 term_words families EventKey behind rest = reserved r.Key behind ∷ rest
+term_words families EventItem behind rest = item behind ∷ rest
 term_words families EventTime behind rest = reserved r.Time behind ∷ rest
 term_words families (CellRead c) behind rest = cell_words families c behind rest
 term_words families (CellHeld c) behind rest = reserved r.Has blank ∷ cell_words families c behind rest
@@ -97,6 +102,7 @@ pub term_layout : (families : List Family) (e : Term) (behind : List ℕ) (rest 
 term_layout families (Literal n) behind rest = refl
 term_layout families EventValue behind rest = refl
 term_layout families EventKey behind rest = refl
+term_layout families EventItem behind rest = refl
 term_layout families EventTime behind rest = refl
 term_layout families (CellRead c) behind rest = cell_layout families c behind rest
 term_layout families (CellHeld c) behind rest = ap (λ l. codes "has " ++ l) (cell_layout families c behind rest)
@@ -116,6 +122,7 @@ act_words families (Adding c e) behind rest = reserved r.Add blank ∷ cell_word
 act_words families (Raising c e) behind rest = reserved r.Raise blank ∷ cell_words families c blank (term_words families e behind rest)
 act_words families (Setting c e) behind rest = reserved r.Set blank ∷ cell_words families c blank (term_words families e behind rest)
 act_words families (Clearing c) behind rest = reserved r.Clear blank ∷ cell_words families c behind rest
+act_words families (ClearingFamily f) behind rest = reserved r.Clear blank ∷ name (family_name (slice_get families f)) behind ∷ rest
 act_words families (Emitting ps) behind rest = reserved r.Emit blank ∷ text (written_template families ps) behind ∷ rest
 act_words families (Flushing f ps) behind rest = reserved r.Flush blank ∷ name (family_name (slice_get families f)) blank
     ∷ text (written_template families ps) behind ∷ rest
@@ -129,6 +136,7 @@ act_layout families (Raising c e) behind rest = rw (cell_layout families c blank
 act_layout families (Setting c e) behind rest = rw (cell_layout families c blank (term_words families e behind rest), term_layout families e behind rest)
     (simp append_assoc)
 act_layout families (Clearing c) behind rest = ap (λ l. codes "clear " ++ l) (cell_layout families c behind rest)
+act_layout families (ClearingFamily f) behind rest = refl
 act_layout families (Emitting ps) behind rest = simp append_assoc
 act_layout families (Flushing f ps) behind rest =
     regroup_four (codes "flush ") (family_name (slice_get families f)) blank (quoted (written_template families ps)) (behind ++ layout rest)
@@ -161,15 +169,20 @@ action_layout families a behind rest =
 
 -- nothing, or the version
 abbrev pub version_words : ℕ → List Laid → List Laid
-version_words version rest = if version == 2 then reserved r.Version blank ∷ number (pos 2) line_end ∷ rest else rest
+version_words version rest =
+    if version == 2 then reserved r.Version blank ∷ number (pos 2) line_end ∷ rest
+    else if version == 3 then reserved r.Version blank ∷ number (pos 3) line_end ∷ rest
+    else rest
 
 version_layout : (version : ℕ) (rest : List Laid) → layout (version_words version rest) ≡ version_line version ++ layout rest
-version_layout version rest = by (version == 2)
+version_layout version rest = by (version == 2) (version == 3)
   where
-    by : (two : Bool) → layout (if two then reserved r.Version blank ∷ number (pos 2) line_end ∷ rest else rest)
-        ≡ (if two then codes "version 2" ++ line_end else []) ++ layout rest
-    by true = ap (λ d. codes "version " ++ (d ++ (line_end ++ layout rest))) (decimal_digit 2 (omega arith))
-    by false = refl
+    by : (two three : Bool) → layout (if two then reserved r.Version blank ∷ number (pos 2) line_end ∷ rest
+        else if three then reserved r.Version blank ∷ number (pos 3) line_end ∷ rest else rest)
+        ≡ (if two then codes "version 2" ++ line_end else if three then codes "version 3" ++ line_end else []) ++ layout rest
+    by true three = ap (λ d. codes "version " ++ (d ++ (line_end ++ layout rest))) (decimal_digit 2 (omega arith))
+    by false true = ap (λ d. codes "version " ++ (d ++ (line_end ++ layout rest))) (decimal_digit 3 (omega arith))
+    by false false = refl
 
 abbrev pub keyed_words : Bool → List Laid → List Laid
 keyed_words true rest = reserved r.Keyed blank ∷ rest
@@ -196,6 +209,15 @@ cell_line_layout : (f : Family) (rest : List Laid) → layout (cell_line_words f
 cell_line_layout f rest =
     rw (keyed_layout f.keyed (reserved (sort_reserved f.sort) line_end ∷ rest), sort_layout f.sort rest) (simp append_assoc)
 
+-- nothing, or the word `item`
+abbrev pub item_words : Bool → List Laid → List Laid
+item_words true rest = item blank ∷ rest
+item_words false rest = rest
+
+item_layout : (has_item : Bool) (rest : List Laid) → blank ++ layout (item_words has_item rest) ≡ item_text has_item ++ (blank ++ layout rest)
+item_layout true rest = refl
+item_layout false rest = refl
+
 abbrev pub value_reserved : Bool → Reserved
 value_reserved true = r.Int
 value_reserved false = r.None
@@ -206,11 +228,13 @@ value_layout true rest = refl
 value_layout false rest = refl
 
 abbrev pub tag_line_words : PlainKind → List Laid → List Laid
-tag_line_words k rest = reserved r.Tag blank ∷ name k.name blank ∷ keyed_words k.keyed (reserved (value_reserved k.has_value) line_end ∷ rest)
+tag_line_words k rest =
+    reserved r.Tag blank ∷ name k.name blank ∷ keyed_words k.keyed (item_words k.has_item (reserved (value_reserved k.has_value) line_end ∷ rest))
 
 tag_line_layout : (k : PlainKind) (rest : List Laid) → layout (tag_line_words k rest) ≡ tag_line k ++ layout rest
 tag_line_layout k rest =
-    rw (keyed_layout k.keyed (reserved (value_reserved k.has_value) line_end ∷ rest), value_layout k.has_value rest) (simp append_assoc)
+    let value : List Laid = reserved (value_reserved k.has_value) line_end ∷ rest in
+    rw (keyed_layout k.keyed (item_words k.has_item value), item_layout k.has_item value, value_layout k.has_value rest) (simp append_assoc)
 
 -- what stands behind the second name of a `depends`
 abbrev pub behind_depends : Bool → List ℕ

@@ -1,6 +1,7 @@
 //! The jobs of the folder `examples`, under `fold`, `run`, `simulate`, `check` and `valid`.
 
 mod fraud;
+mod paths;
 mod rides;
 mod trades;
 mod views;
@@ -26,4 +27,9 @@ fn payments_beside_the_window_before(rt: HostRuntime) -> Result<(), Fail> {
 #[test]
 fn trades_at_the_last_quote(rt: HostRuntime) -> Result<(), Fail> {
     play(&rt, rt.alloc(), trades::SCRIPT)
+}
+
+#[test]
+fn requests_by_path(rt: HostRuntime) -> Result<(), Fail> {
+    play(&rt, rt.alloc(), paths::SCRIPT)
 }

@@ -97,7 +97,7 @@ const JOBS: &str = "@ J|cell count sum $
 @ $ simulate J P 1
 @ = 3 flumina: job: wrong shape at 32
 @ J
-version 3
+version 4
 cell c sum
 @ $ fold J
 @ $ check J

@@ -2,8 +2,9 @@ use Rattle.std.proofs.Common.{◌≡◌, ℕ, Some, ◌∙◌}
 use Rattle.flu_lemmas.proofs.Options.{IfOk-both}
 use Rattle.flu_model.specs.Contents.{join}
 use Rattle.flu_cells.specs.Holding.{held}
-use Rattle.flu_cells.specs.Sets.{within, outside}
+use Rattle.flu_cells.specs.Sets.{only, within, outside}
 use Rattle.flu_fork.specs.Lots.{job, nodes, kids, setting_of, HasParts, HasCounts, PartsFitKids}
+use Rattle.flu_fork.specs.Tables.{is_copied_by}
 use Rattle.flu_fork.proofs.LotLemmas.{setting_holds, left_is, right_is, fits_as, paired_as}
 use Rattle.flu_fork.proofs.parting.fork.Goals as goal
 
@@ -13,7 +14,7 @@ returns-clause-parts c =
     let s = held c.args.lot.state in
     let table = c.right.result.now in
     IfOk-both c.part.result
-    (λ parts. held parts.0.state ≡ join (outside table.needed s) (within table.copied (held parts.1.state)))
+    (λ parts. held parts.0.state ≡ join (outside table.needed s) (only (is_copied_by table.copied) (held parts.1.state)))
     (λ parts. held parts.1.state ≡ within table.needed s)
     (λ parts. (l r : ℕ) → kids k c.args.node ≡ Some (l, r) → HasParts k r c.args.lot parts)
     (λ parts left right l r e. record {

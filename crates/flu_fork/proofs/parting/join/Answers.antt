@@ -1,12 +1,13 @@
 use Rattle.std.proofs.Common.{◌≡◌, ℕ, Some, ◌∙◌}
+use Rattle.std.specs.Prelude.{not}
 use Rattle.std.proofs.lemmas.Result.{IfOk-weaker}
 use Rattle.flu_lemmas.proofs.Options.{pair_there, IfOk-both}
 use Rattle.flu_model.specs.Contents as contents
 use Rattle.flu_cells.specs.Holding.{held}
-use Rattle.flu_cells.specs.Sets.{outside}
+use Rattle.flu_cells.specs.Sets.{only}
 use Rattle.flu_fork.specs.declared.lots.Lot.{Lot}
 use Rattle.flu_fork.specs.Lots.{job, nodes, kids, setting_of, LotFits, IsJoined, HasJoinedCounts}
-use Rattle.flu_fork.specs.Tables.{counts_by}
+use Rattle.flu_fork.specs.Tables.{is_copied_by, counts_by}
 use Rattle.flu_fork.proofs.LotLemmas.{setting_holds, joined_is, counts_are, fits_as}
 use Rattle.flu_fork.proofs.parting.join.Goals as goal
 
@@ -17,7 +18,7 @@ returns-clause-state c =
     let left = c.args.left in
     let right = c.args.right in
     IfOk-weaker c.merge.result
-    (λ (lot : Lot). held lot.state ≡ contents.join (held left.state) (outside table.copied (held right.state)))
+    (λ (lot : Lot). held lot.state ≡ contents.join (held left.state) (only (λ d. not (is_copied_by table.copied d)) (held right.state)))
     (λ (lot : Lot). (l r : ℕ) → kids k c.args.node ≡ Some (l, r) → IsJoined k r left right lot)
     (λ lot is l r e. is ∙ joined_is (job k) (nodes k) r table (held left.state) (held right.state) (c.right.ensures l r e))
     c.merge.ensures.state

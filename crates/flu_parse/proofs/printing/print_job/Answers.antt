@@ -19,6 +19,7 @@ rules_of p = record {
   few_itags = p.few_itags;
   families_fit = p.families_fit;
   kinds_fit = p.kinds_fit;
+  version_fits = p.version_fits;
   depends_fit = p.depends_fit;
   sources_fit = p.sources_fit;
   own_names = p.own_names;

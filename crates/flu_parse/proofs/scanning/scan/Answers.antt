@@ -6,7 +6,7 @@ use Rattle.flu_parse.proofs.scanning.scan.Goals as goal
 
 pub returns-then-not-goes_on : goal.returns-then-not-goes_on
 returns-then-not-goes_on c =
-    let field = field_at c.args.text.now c.args.in_flush in
+    let field = field_at c.args.text.now c.args.version c.args.in_flush in
     let old = scan_of c.loop-i.scanner in
     let place = c.args.from + c.loop-i.i in
     let bs = c.args.bytes.now in
@@ -18,7 +18,7 @@ returns-then-not-goes_on c =
 
 pub loop-i-preserved : goal.loop-i-preserved
 loop-i-preserved c =
-    let field = field_at c.args.text.now c.args.in_flush in
+    let field = field_at c.args.text.now c.args.version c.args.in_flush in
     let old = scan_of c.loop-i.scanner in
     let new = scan_of c.scan_byte.new.scanner in
     let i = c.loop-i.i in
@@ -31,7 +31,7 @@ loop-i-preserved c =
 
 pub returns : goal.returns
 returns c =
-    let field = field_at c.args.text.now c.args.in_flush in
+    let field = field_at c.args.text.now c.args.version c.args.in_flush in
     let old = scan_of c.loop-i.scanner in
     let i = c.loop-i.i in
     let bs = c.args.bytes.now in

@@ -5,5 +5,5 @@ use Rattle.flu_parse.proofs.scanning.scan.Given as goal
 
 abbrev pub invariant-loop-i : goal.invariant-loop-i
 invariant-loop-i l =
-    scan (field_at l.text l.in_flush) (scan_of l.scanner) (l.from + l.i) (drop l.i l.bytes) ≡ scan (field_at l.text l.in_flush)
+    scan (field_at l.text l.version l.in_flush) (scan_of l.scanner) (l.from + l.i) (drop l.i l.bytes) ≡ scan (field_at l.text l.version l.in_flush)
     (scan_start l.from) l.from l.bytes

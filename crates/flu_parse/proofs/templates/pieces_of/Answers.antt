@@ -12,8 +12,8 @@ returns-in-Err c =
     let text = c.args.text.now in
     let n = naming c.args.names.now in
     let ps = c.args.pieces.now in
-    let find = piece_of text n c.args.under c.args.place in
-    fails_through _ _ (pieces_of text n c.args.under c.args.place ps)
+    let find = piece_of text n c.args.under c.args.flushed c.args.place in
+    fails_through _ _ (pieces_of text n c.args.under c.args.flushed c.args.place ps)
     (λ e h. sym c.loop-piece.invariant
     ∙ each-fault-at (collect find) _ c.loop-piece.found.items e ps c.loop-piece.piece-index c.loop-piece-test.true
     (collect-fault find c.loop-piece.found.items _ e h))
@@ -24,7 +24,7 @@ loop-piece-preserved c =
     let text = c.args.text.now in
     let n = naming c.args.names.now in
     let ps = c.args.pieces.now in
-    let find = piece_of text n c.args.under c.args.place in
+    let find = piece_of text n c.args.under c.args.flushed c.args.place in
     let done = c.loop-piece.found.items in
     let i = c.loop-piece.piece-index in
     ap (λ (all : List Piece). each (collect find) all (drop (i + 1) ps)) c.in_ok-push-in-Ok.ensures.items
@@ -33,6 +33,6 @@ loop-piece-preserved c =
 
 pub returns : goal.returns
 returns c =
-    let find = piece_of c.args.text.now (naming c.args.names.now) c.args.under c.args.place in
+    let find = piece_of c.args.text.now (naming c.args.names.now) c.args.under c.args.flushed c.args.place in
     sym c.loop-piece.invariant
     ∙ each-end (collect find) c.loop-piece.found.items c.args.pieces.now c.loop-piece.piece-index (omega arith)

@@ -8,6 +8,6 @@ use Rattle.flu_parse.proofs.templates.pieces_of.Given as goal
 
 abbrev pub invariant-loop-piece : goal.invariant-loop-piece
 invariant-loop-piece l =
-    each (λ (done : List Piece) (q : WrittenPiece). piece_of l.text (naming l.names) l.under l.place q >>= λ r. Ok (done ++ r ∷ [])) l.found.items
+    each (λ (done : List Piece) (q : WrittenPiece). piece_of l.text (naming l.names) l.under l.flushed l.place q >>= λ r. Ok (done ++ r ∷ [])) l.found.items
     (drop l.piece-index l.pieces)
-    ≡ pieces_of l.text (naming l.names) l.under l.place l.pieces
+    ≡ pieces_of l.text (naming l.names) l.under l.flushed l.place l.pieces

@@ -1,4 +1,6 @@
-use Rattle.std.proofs.Common.{ap, ◌∙◌}
+use Rattle.std.proofs.Common.{Bool, ap, ◌∙◌}
+use Rattle.flu_model.specs.declared.jobs.Action.{Action}
+use Rattle.flu_model.specs.Expressions.{item_of}
 use Rattle.flu_model.specs.Updates.{effect_of_actions}
 use Rattle.flu_lemmas.proofs.Tests.{all_at}
 use Rattle.flu_cells.specs.Holding.{held}
@@ -8,9 +10,8 @@ use Rattle.flu_step.proofs.updates.do_actions.Goals as goal
 
 pub do_action-requires : goal.do_action-requires
 do_action-requires c =
-    ap (λ a. has_target_in_range a.act c.args.at.now.tag.key) c.action-item.is
-    ∙ all_at (λ a. has_target_in_range a.act c.args.at.now.tag.key) c.args.actions.now c.loop-action.action-index c.action-item.result c.requires
-    c.loop-action-test.true
+    let in_range : Action → Bool = λ a. has_target_in_range a.act c.args.at.now.tag.key (item_of c.args.at.now.event.now) in
+    ap in_range c.action-item.is ∙ all_at in_range c.args.actions.now c.loop-action.action-index c.action-item.result c.requires c.loop-action-test.true
 
 pub loop-action-preserved : goal.loop-action-preserved
 loop-action-preserved c =

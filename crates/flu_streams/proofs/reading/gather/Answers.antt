@@ -6,6 +6,7 @@ use Rattle.flu_model.specs.Listed.{listed}
 use Rattle.flu_lemmas.proofs.Named.{rose_behind, fronts_at, fronts_then}
 use Rattle.flu_lemmas.proofs.Told.{told_weaker}
 use Rattle.flu_streams.specs.declared.faults.GatherFault.TheVariants.{ReadFault}
+use Rattle.flu_rows.specs.Row.{form_of}
 use Rattle.flu_streams.specs.Files.{files_of, LeavesOthers}
 use Rattle.flu_streams.specs.LoopGathering.{IsGathered}
 use Rattle.flu_streams.specs.Good.{AreGood, lists_of}
@@ -32,7 +33,7 @@ returns-in-Err-clause-fault g c =
     let t = turn p c.items-source-items.result.now i s c.items-source-items.ensures c.loop-source-test.true c.source-item.is in
     gathered_fault p (take i p.sources) (drop (i + 1) p.sources) s c.loop-source.gathered c.loop-source.gathered.number c.in-Err.fault (left c.args.files.now)
     (left c.loop-source.files) (left c.add_source.new.files)
-    t.split (c.loop-source.invariant.number ∙ t.size) t.apart c.loop-source.invariant.told (rw c.items.ensures at c.in-Err.ensures.fault)
+    t.split (c.loop-source.invariant.number ∙ t.size) t.apart c.loop-source.invariant.told (rw (c.form_of-form.ensures, c.items.ensures) at c.in-Err.ensures.fault)
 
 pub returns-in-Err-clause-fronts : goal.returns-in-Err-clause-fronts
 returns-in-Err-clause-fronts g c =
@@ -47,7 +48,7 @@ returns-in-Err-clause-others g c =
     let i = c.loop-source.source-index in
     let s = c.source-item.result in
     let t = turn p c.items-source-items.result.now i s c.items-source-items.ensures c.loop-source-test.true c.source-item.is in
-    let k = others_at p.kinds (take i p.sources) (drop (i + 1) p.sources) s c.loop-source.gathered (left c.args.files.now) (left c.loop-source.files)
+    let k = others_at (form_of p.version) p.kinds (take i p.sources) (drop (i + 1) p.sources) s c.loop-source.gathered (left c.args.files.now) (left c.loop-source.files)
     (left c.add_source.new.files) c.loop-source.invariant.told c.in-Err.ensures.taken in
     rw (← t.split) at k
 
@@ -92,7 +93,7 @@ returns-in-Err-clause-hides g c = λ is_fault.
     (c.loop-source.invariant.counts.rise s.file) (c.add_source.ensures.cause is) in
     hides_behind p (take i p.sources) (drop (i + 1) p.sources) s c.loop-source.gathered (left c.args.files.now) (left c.loop-source.files)
     (left c.add_source.new.files) (faults c.args.files.now) (faults c.add_source.new.files)
-    t.split t.apart c.loop-source.invariant.told rose (rw c.items.ensures at hides)
+    t.split t.apart c.loop-source.invariant.told rose (rw (c.form_of-form.ensures, c.items.ensures) at hides)
 
 pub loop-source-preserved : goal.loop-source-preserved
 loop-source-preserved g c =
@@ -106,15 +107,15 @@ loop-source-preserved g c =
     let s = c.source-item.result in
     let earlier = take i p.sources in
     let t = turn p c.items-source-items.result.now i s c.items-source-items.ensures c.loop-source-test.true c.source-item.is in
-    let adds = rw c.items.ensures at c.in_default.ensures.added in
+    let adds = rw (c.form_of-form.ensures, c.items.ensures) at c.in_default.ensures.added in
     let taken = c.in_default.ensures.taken in
     let one : sum_by width (take (i + 1) p.sources) ≡ sum_by width earlier + width s = rw t.more (sum_by-append width earlier (s ∷ []) ∙ omega arith) in
     let names : files_of (take (i + 1) p.sources) ≡ files_of earlier ++ (s.file ∷ []) = rw t.more (files_more earlier s) in
     record {
       number = omega (arith, adds.number, c.loop-source.invariant.number);
       len = omega (arith, adds.len, one, c.loop-source.invariant.len);
-      streams = streams_more p.kinds s (left mid) (left new) c.loop-source.gathered c.add_source.new.gathered adds c.loop-source.invariant.streams;
-      told = rw t.more (gathered_more p.kinds earlier s c.loop-source.gathered c.add_source.new.gathered (left old) (left mid)
+      streams = streams_more (form_of p.version) p.kinds s (left mid) (left new) c.loop-source.gathered c.add_source.new.gathered adds c.loop-source.invariant.streams;
+      told = rw t.more (gathered_more (form_of p.version) p.kinds earlier s c.loop-source.gathered c.add_source.new.gathered (left old) (left mid)
           (left new) c.loop-source.invariant.told adds taken c.loop-source.invariant.len t.apart);
       fronts = fronts_then (left old) (left mid) (left new) c.loop-source.invariant.fronts (fronts_at s.file (left mid) (left new) taken);
       out = rw names (out_more (files_of earlier) s.file (left mid) (left new) taken t.apart c.loop-source.invariant.out c.in_default.ensures.read_out);
@@ -132,7 +133,7 @@ returns-clause-good g c =
     let all : take c.loop-source.source-index p.sources ≡ p.sources =
     take_all c.loop-source.source-index p.sources (omega (arith, ap length c.items-source-items.ensures)) in
     let told = rw all at c.loop-source.invariant.told in
-    told_weaker (IsGathered p.kinds p.sources c.loop-source.gathered) (λ old new. AreGood p old) (left c.args.files.now) (left c.loop-source.files)
+    told_weaker (IsGathered (form_of p.version) p.kinds p.sources c.loop-source.gathered) (λ old new. AreGood p old) (left c.args.files.now) (left c.loop-source.files)
     (λ x y k. k.good) told
 
 pub returns-clause-lists : goal.returns-clause-lists
@@ -143,7 +144,7 @@ returns-clause-lists g c =
     take_all c.loop-source.source-index p.sources (omega (arith, ap length c.items-source-items.ensures)) in
     let told = rw all at c.loop-source.invariant.told in
     let same : listed c.new-2.result ≡ lists_in c.loop-source.gathered.lists = c.new-2.ensures ∙ ap lists_in c.into_lists.ensures in
-    told_weaker (IsGathered p.kinds p.sources c.loop-source.gathered) (λ old new. listed c.new-2.result ≡ lists_of p old) (left c.args.files.now)
+    told_weaker (IsGathered (form_of p.version) p.kinds p.sources c.loop-source.gathered) (λ old new. listed c.new-2.result ≡ lists_of p old) (left c.args.files.now)
     (left c.loop-source.files) (λ x y k. same ∙ k.lists) told
 
 pub returns-clause-itags : goal.returns-clause-itags
@@ -162,5 +163,5 @@ returns-clause-others g c =
     let all : take c.loop-source.source-index p.sources ≡ p.sources =
     take_all c.loop-source.source-index p.sources (omega (arith, ap length c.items-source-items.ensures)) in
     let told = rw all at c.loop-source.invariant.told in
-    told_weaker (IsGathered p.kinds p.sources c.loop-source.gathered) (LeavesOthers (files_of p.sources)) (left c.args.files.now) (left c.loop-source.files)
+    told_weaker (IsGathered (form_of p.version) p.kinds p.sources c.loop-source.gathered) (LeavesOthers (files_of p.sources)) (left c.args.files.now) (left c.loop-source.files)
     (λ x y k. k.others) told

@@ -3,6 +3,7 @@ use Rattle.std.specs.Prelude.{sum_by}
 use Rattle.flu_model.specs.Streaming.{are_streams}
 use Rattle.flu_outside.specs.Outside.{WhereTold, SameCounts, IsThere}
 use Rattle.flu_outside.specs.Taking.{TookFronts}
+use Rattle.flu_rows.specs.Row.{form_of}
 use Rattle.flu_streams.specs.Files.{files_of, CountsOfNames, AreReadOut}
 use Rattle.flu_streams.specs.LoopGathering.{IsGathered}
 use Rattle.flu_streams.specs.Lists.{lists_in}
@@ -19,7 +20,7 @@ invariant-loop-source g l =
       number : l.gathered.number ≡ l.source-index;
       len : vec_len l.gathered.lists ≡ sum_by width earlier;
       streams : are_streams 0 (lists_in l.gathered.lists) ≡ true;
-      told : WhereTold (left l.fn.files) (left l.files) (IsGathered l.p.kinds earlier l.gathered);
+      told : WhereTold (left l.fn.files) (left l.files) (IsGathered (form_of l.p.version) l.p.kinds earlier l.gathered);
       fronts : WhereTold (left l.fn.files) (left l.files) TookFronts;
       out : AreReadOut (files_of earlier) (left l.files);
       counts : CountsOfNames (left l.fn.files) (files_of earlier) (faults l.fn.files) (faults l.files);

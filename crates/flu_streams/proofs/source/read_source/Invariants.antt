@@ -10,8 +10,9 @@ invariant-loop-next g l =
     let faults = g.F.Files.faults in
     let puts = g.F.Files.put_faults in
     record {
+      form : l.rows.form ≡ l.fn.form;
       file : l.rows.file ≡ l.source.file;
-      reading : IsReading l.kinds l.source l.first l.held l.intake l.rows (left l.fn.files) (left l.files);
+      reading : IsReading l.fn.form l.kinds l.source l.first l.held l.intake l.rows (left l.fn.files) (left l.files);
       taken : WhereTold (left l.fn.files) (left l.files) (TakesFrom l.source.file);
       counts : CountsOf (left l.fn.files) l.source.file (faults l.fn.files) (faults l.files);
       quiet : SameCounts (faults l.fn.files) (faults l.files);

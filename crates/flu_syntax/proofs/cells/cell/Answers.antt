@@ -1,24 +1,23 @@
 use Rattle.std.proofs.Common.{◌∙◌}
 use Rattle.std.proofs.lemmas.Result.{err_from_is_err_and}
-use Rattle.flu_text.specs.Signs.{span_of}
 use Rattle.flu_syntax.proofs.Runs.{Tells-through}
-use Rattle.flu_syntax.proofs.Parts.{tells, run-expected, run-unexpected, cell_family}
+use Rattle.flu_syntax.proofs.Parts.{tells, run-named, run-no_name, cell_family}
 use Rattle.flu_syntax.proofs.cells.cell.Goals as goal
 
-pub returns-in_err-name-clause-run : goal.returns-in_err-name-clause-run
-returns-in_err-name-clause-run c =
+pub returns-in_err-family-clause-run : goal.returns-in_err-family-clause-run
+returns-in_err-family-clause-run c =
     let p = err_from_is_err_and c.from_residual.result c.from_residual.ensures.1 in
-    rw (p.1, p.2) (λ here. tells _ _ _ c.in_err-name.ensures.front.0
-    (run-unexpected c.args.end here.0 c.args.tokens.now (cell_family here.1) c.in_err-name.ensures.front.1))
+    rw (p.1, p.2) (λ here. tells _ _ _ c.in_err-family.ensures.front.0
+    (run-no_name c.args.end here.0 c.args.tokens.now (cell_family here.1) c.in_err-family.ensures.front.1))
 
 pub returns-in_err-key-clause-run : goal.returns-in_err-key-clause-run
 returns-in_err-key-clause-run c =
     let p = err_from_is_err_and c.from_residual-in_err-key.result c.from_residual-in_err-key.ensures.1 in
     rw (p.1, p.2) (λ here. Tells-through _ _ _
-    (run-expected c.args.end here.0 c.args.tokens.now c.in_ok-name.rest.now c.in_ok-name.name (cell_family here.1) c.in_ok-name.ensures.front)
-    (c.in_err-key.ensures.run (here.0, here.1, span_of c.in_ok-name.name)))
+    (run-named c.args.end here.0 c.args.tokens.now c.in_ok-family.rest.now c.in_ok-family.family (cell_family here.1) c.in_ok-family.ensures.front)
+    (c.in_err-key.ensures.run (here.0, here.1, c.in_ok-family.family)))
 
 pub returns-clause-run : goal.returns-clause-run
-returns-clause-run c = λ here. rw c.span_of-family.ensures
-    (run-expected c.args.end here.0 c.args.tokens.now c.in_ok-name.rest.now c.in_ok-name.name (cell_family here.1) c.in_ok-name.ensures.front
-    ∙ c.in_ok-key.ensures.run (here.0, here.1, span_of c.in_ok-name.name))
+returns-clause-run c =
+    λ here. run-named c.args.end here.0 c.args.tokens.now c.in_ok-family.rest.now c.in_ok-family.family (cell_family here.1) c.in_ok-family.ensures.front
+    ∙ c.in_ok-key.ensures.run (here.0, here.1, c.in_ok-family.family)

@@ -2,10 +2,9 @@ use Rattle.std.proofs.Common.{◌∙◌, refl, sym}
 use Rattle.std.proofs.lemmas.Result.{err_from_is_err_and}
 use Rattle.flu_syntax.specs.declared.tokens.Doing.TheVariants as doing
 use Rattle.flu_syntax.specs.Tree.{deed_of}
-use Rattle.flu_text.specs.Signs.{span_of}
 use Rattle.flu_syntax.specs.Machine.{CellFamily, ToClear, EmitText, FlushFamily}
 use Rattle.flu_syntax.proofs.Runs.{Tells-through}
-use Rattle.flu_syntax.proofs.Parts.{tells, run-expected, run-unexpected, run-doing, run-no_doing}
+use Rattle.flu_syntax.proofs.Parts.{tells, run-expected, run-unexpected, run-named, run-no_name, run-doing, run-no_doing}
 use Rattle.flu_syntax.proofs.Parts.{run-doing_end, through_write, emit_text, flush_family, flush_text}
 use Rattle.flu_syntax.proofs.declarations.act.Goals as goal
 
@@ -56,7 +55,7 @@ returns-in_err-family-in-Flush-clause-run c =
     (tells _ _ _ c.in_err-family-in-Flush.ensures.front.0
     (run-doing c.args.end here.0 here.1 (FlushFamily here.1 c.in-Some.token.from) c.in-Some.token c.in-Some.rest.now doing.Flush (sym c.in-Flush.is
     ∙ c.doing_of.ensures) refl
-    ∙ run-unexpected c.args.end here.0 c.in-Some.rest.now (flush_family here.1 c.in-Some.token.from) c.in_err-family-in-Flush.ensures.front.1)))
+    ∙ run-no_name c.args.end here.0 c.in-Some.rest.now (flush_family here.1 c.in-Some.token.from) c.in_err-family-in-Flush.ensures.front.1)))
 
 pub returns-in_err-text-in-Flush-clause-run : goal.returns-in_err-text-in-Flush-clause-run
 returns-in_err-text-in-Flush-clause-run c =
@@ -65,16 +64,16 @@ returns-in_err-text-in-Flush-clause-run c =
     (tells _ _ _ c.in_err-text-in-Flush.ensures.front.0
     (run-doing c.args.end here.0 here.1 (FlushFamily here.1 c.in-Some.token.from) c.in-Some.token c.in-Some.rest.now doing.Flush (sym c.in-Flush.is
     ∙ c.doing_of.ensures) refl
-    ∙ run-expected c.args.end here.0 c.in-Some.rest.now c.in_ok-family-in-Flush.rest.now c.in_ok-family-in-Flush.family
+    ∙ run-named c.args.end here.0 c.in-Some.rest.now c.in_ok-family-in-Flush.rest.now c.in_ok-family-in-Flush.family
     (flush_family here.1 c.in-Some.token.from) c.in_ok-family-in-Flush.ensures.front
     ∙ run-unexpected c.args.end here.0 c.in_ok-family-in-Flush.rest.now
-    (flush_text here.1 c.in-Some.token.from (span_of c.in_ok-family-in-Flush.family)) c.in_err-text-in-Flush.ensures.front.1)))
+    (flush_text here.1 c.in-Some.token.from c.in_ok-family-in-Flush.family) c.in_err-text-in-Flush.ensures.front.1)))
 
 pub returns-in_ok-text-in-Flush-clause-run : goal.returns-in_ok-text-in-Flush-clause-run
-returns-in_ok-text-in-Flush-clause-run c = λ here. rw (c.in-Some.ensures, c.span_of-in-Flush.ensures, c.span_of-in-Flush-2.ensures)
+returns-in_ok-text-in-Flush-clause-run c = λ here. rw (c.in-Some.ensures, c.span_of-in-Flush.ensures)
     (run-doing c.args.end here.0 here.1 (FlushFamily here.1 c.in-Some.token.from) c.in-Some.token c.in-Some.rest.now doing.Flush (sym c.in-Flush.is
     ∙ c.doing_of.ensures) refl
-    ∙ run-expected c.args.end here.0 c.in-Some.rest.now c.in_ok-family-in-Flush.rest.now c.in_ok-family-in-Flush.family
+    ∙ run-named c.args.end here.0 c.in-Some.rest.now c.in_ok-family-in-Flush.rest.now c.in_ok-family-in-Flush.family
     (flush_family here.1 c.in-Some.token.from) c.in_ok-family-in-Flush.ensures.front
     ∙ run-expected c.args.end here.0 c.in_ok-family-in-Flush.rest.now c.in_ok-text-in-Flush.rest.now c.in_ok-text-in-Flush.text
-    (flush_text here.1 c.in-Some.token.from (span_of c.in_ok-family-in-Flush.family)) c.in_ok-text-in-Flush.ensures.front)
+    (flush_text here.1 c.in-Some.token.from c.in_ok-family-in-Flush.family) c.in_ok-text-in-Flush.ensures.front)

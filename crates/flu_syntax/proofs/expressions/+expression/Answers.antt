@@ -151,7 +151,7 @@ expression-returns-in_err-right-clause-run t c =
     rw (p.1, p.2) (λ here. Tells-through _ _ _ (c.loop-op.invariant.run here
     ∙ c.in-Some.ensures.run c.args.end here.before here.context (view c.loop-op.left) here.frames)
     (rw c.level_of-found.ensures.level at
-    (c.in_err-right.ensures.run (same_in here (RightFrame c.args.level c.in-Some.op (view c.loop-op.left)) refl))))
+    (c.in_err-right.ensures.run (same_in here (RightFrame c.args.level c.in-Some.op c.in-Some.at (view c.loop-op.left)) refl))))
 
 pub expression-loop-op-preserved : goal.expression-loop-op-preserved
 expression-loop-op-preserved t c = record {
@@ -159,8 +159,8 @@ expression-loop-op-preserved t c = record {
       rw (c.level_behind-high.ensures, c.in_ok-boxed.ensures.value, c.in_ok-boxed-2.ensures.value, c.level_of-found.ensures.level)
       (c.loop-op.invariant.run here ∙ c.in-Some.ensures.run c.args.end here.before here.context (view c.loop-op.left) here.frames
       ∙ (rw c.level_of-found.ensures.level at
-      (c.in_ok-right.ensures.run (same_in here (RightFrame c.args.level c.in-Some.op (view c.loop-op.left)) refl)))
-      ∙ run-right c.args.end c.args.level here.before here.context c.in-Some.op (view c.loop-op.left) (view c.in_ok-right.right) here.frames
+      (c.in_ok-right.ensures.run (same_in here (RightFrame c.args.level c.in-Some.op c.in-Some.at (view c.loop-op.left)) refl)))
+      ∙ run-right c.args.end c.args.level c.in-Some.at here.before here.context c.in-Some.op (view c.loop-op.left) (view c.in_ok-right.right) here.frames
       c.in_ok-right.behind.now);
   shorter = search rules;
 }

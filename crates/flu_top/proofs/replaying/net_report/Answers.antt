@@ -9,7 +9,7 @@ use Rattle.flu_trace.specs.Replaying.{Complete, ending_of}
 use Rattle.flu_top.specs.Answer.{refusal_of_replay}
 use Rattle.flu_top.specs.Replays.{IsNetRefusal}
 use Rattle.flu_top.proofs.Jobs.{if_err_at}
-use Rattle.flu_top.proofs.Replays.{on_net, told_on_net, net_refusal}
+use Rattle.flu_top.proofs.Replays.{on_net, told_on_net, net_refusal, as_refused}
 use Rattle.flu_top.proofs.RunReports.{run_report}
 use Rattle.flu_top.proofs.Simulations.{case_from_nothing}
 use Rattle.flu_top.proofs.replaying.net_report.Goals as goal
@@ -51,3 +51,8 @@ returns-clause-complete g c =
     (case_from_nothing c.args.planned.now.checked c.args.planned.now.valid c.args.streams.now c.in_ok-case.case c.in_ok-case.ensures.checked
     c.in_ok-case.ensures.valid c.in_ok-case.ensures.streams
     (ap held c.in_ok-case.ensures.opening ∙ c.new.ensures)) c.in_ok-outs.ensures.complete
+
+pub returns-in_err-outs-clause-quiet : goal.returns-in_err-outs-clause-quiet
+returns-in_err-outs-clause-quiet g c =
+    let answer = err_from_is_err_and c.from_residual-in_err-outs.result c.from_residual-in_err-outs.ensures.1 in
+    λ no. c.in_err-outs.ensures.quiet (λ e. no (answer.1 ∙ ap Err answer.2 ∙ ap as_refused e))

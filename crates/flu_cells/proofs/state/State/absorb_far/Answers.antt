@@ -1,33 +1,44 @@
-use Rattle.std.proofs.Common.{Some, None, sym, ap, ◌∙◌}
-use Rattle.flu_model.specs.Contents.{join, joined_worth, with_worth}
+use Rattle.std.proofs.Common.{◌<◌, None, sym, ap, ◌∙◌, arith}
+use Rattle.flu_model.specs.Contents.{join}
+use Rattle.flu_dense.specs.Holding.{value_for}
 use Rattle.flu_cells.specs.Entries.{far_held}
 use Rattle.flu_cells.specs.Holding.{held}
-use Rattle.flu_cells.proofs.CellLemmas.{far-updated}
-use Rattle.flu_cells.proofs.Moves.{join-moved, still_held, join-nothing, not_both, emptied}
+use Rattle.flu_cells.proofs.Moves.{join-nothing, not_both}
+use Rattle.flu_cells.proofs.NearLemmas.{near_before, some_value}
+use Rattle.flu_cells.proofs.Numbered.{below_slot}
+use Rattle.flu_cells.proofs.FarLemmas.{cell_at, place_held, place_unset, far_emptied}
 use Rattle.flu_cells.proofs.state.State.absorb_far.Goals as goal
 
-pub joined-requires-clause-theirs : goal.joined-requires-clause-theirs
-joined-requires-clause-theirs c v e = c.requires.clean c.in-Some.cell v (c.loop-cell.invariant.0 c.in-Some.cell c.in-Some.theirs c.in-Some.ensures.value ∙ e)
+pub absorb_place-requires-clause-clean : goal.absorb_place-requires-clause-clean
+absorb_place-requires-clause-clean c d w e = c.requires.clean d w (c.loop-place.invariant.1 d w e)
 
-pub hold-requires-clause-key : goal.hold-requires-clause-key
-hold-requires-clause-key c = c.requires.keys c.in-Some.cell c.in-Some.theirs (c.loop-cell.invariant.0 c.in-Some.cell c.in-Some.theirs c.in-Some.ensures.value)
+pub absorb_place-requires-clause-keys : goal.absorb_place-requires-clause-keys
+absorb_place-requires-clause-keys c d w e = c.requires.keys d w (c.loop-place.invariant.1 d w e)
 
-pub loop-cell-preserved : goal.loop-cell-preserved
-loop-cell-preserved c = (
-  (λ d w e. c.loop-cell.invariant.0 d w (still_held c.loop-cell.cells c.pop_first.new.self c.in-Some.cell d w c.in-Some.ensures.updates e)),
-  (λ i. join (c.in_ok-hold.ensures.ok i) (far-updated c.loop-cell.cells c.pop_first.new.self c.in-Some.cell None c.in-Some.ensures.updates i))
-      ∙ ap (λ w. join (with_worth (held c.loop-cell.self) c.in-Some.cell w) (with_worth (far_held c.loop-cell.cells) c.in-Some.cell None))
-      (c.joined.ensures.value ∙ ap (λ w. joined_worth w (Some c.in-Some.theirs)) c.get.ensures)
-      ∙ join-moved (held c.loop-cell.self) (far_held c.loop-cell.cells) c.in-Some.cell c.in-Some.theirs c.in-Some.ensures.value
-      ∙ c.loop-cell.invariant.1,
-)
+pub loop-place-preserved : goal.loop-place-preserved
+loop-place-preserved c =
+    let place = c.in-Some.place in
+    let far = c.loop-place.far in
+    let left = c.in_ok-absorb_place.ensures.left in
+    let fits : place < 18446744073709551616 = omega (arith, c.in-Some.ensures.found.1) in (
+      c.in_ok-absorb_place.ensures.ok ∙ c.loop-place.invariant.0,
+      (λ d w e. c.loop-place.invariant.1 d w (near_before (far_held far) (cell_at place) d w
+          (sym (ap (λ s. s d) (place_unset far _ place None fits left)) ∙ e))),
+      below_slot (value_for far) _ c.loop-place.from place left c.loop-place.invariant.2 c.in-Some.ensures.least,
+      omega (arith, c.in-Some.ensures.found.1),
+    )
 
-pub returns-in_err-hold-clause-empty : goal.returns-in_err-hold-clause-empty
-returns-in_err-hold-clause-empty c none =
-    absurd (not_both _ _ (c.loop-cell.invariant.0 c.in-Some.cell c.in-Some.theirs c.in-Some.ensures.value) (ap (λ s. s c.in-Some.cell) none))
+pub returns-in_err-absorb_place-clause-empty : goal.returns-in_err-absorb_place-clause-empty
+returns-in_err-absorb_place-clause-empty c none =
+    let place = c.in-Some.place in
+    let fits : place < 18446744073709551616 = omega (arith, c.in-Some.ensures.found.1) in
+    let there = some_value (value_for c.loop-place.far place) c.in-Some.ensures.found.2 in
+    absurd (not_both _ there.0 (c.loop-place.invariant.1 (cell_at place) there.0 (place_held c.loop-place.far place fits ∙ there.1))
+    (ap (λ s. s (cell_at place)) none))
 
 pub returns-clause-ok : goal.returns-clause-ok
 returns-clause-ok c =
-    sym (join-nothing (held c.loop-cell.self))
-    ∙ ap (join (held c.loop-cell.self)) (sym (emptied c.loop-cell.cells c.in_default.ensures.variant.1))
-    ∙ c.loop-cell.invariant.1
+    sym (join-nothing (held c.loop-place.self))
+    ∙ ap (join (held c.loop-place.self)) (sym (far_emptied c.loop-place.far c.loop-place.from
+    (λ d w e. c.requires.keys d w (c.loop-place.invariant.1 d w e)) c.loop-place.invariant.2 c.in_default.ensures.none))
+    ∙ c.loop-place.invariant.0

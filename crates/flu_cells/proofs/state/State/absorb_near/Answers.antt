@@ -4,7 +4,8 @@ use Rattle.flu_dense.specs.Holding.{value_at}
 use Rattle.flu_cells.specs.Entries.{near_held}
 use Rattle.flu_cells.specs.Holding.{held}
 use Rattle.flu_cells.proofs.Moves.{join-nothing, not_both}
-use Rattle.flu_cells.proofs.NearLemmas.{cell_of, slot_held, slot_unset, near_before, near_emptied, below_slot, all_slots, some_value}
+use Rattle.flu_cells.proofs.NearLemmas.{cell_of, slot_held, slot_unset, near_before, near_emptied, some_value}
+use Rattle.flu_cells.proofs.Numbered.{below_slot, all_slots}
 use Rattle.flu_cells.proofs.state.State.absorb_near.Goals as goal
 
 pub absorb_slot-requires-clause-clean : goal.absorb_slot-requires-clause-clean

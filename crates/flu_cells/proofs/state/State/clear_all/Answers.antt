@@ -1,24 +1,30 @@
 use Rattle.std.proofs.Common.{◌≡◌, sym, ap, refl, ◌∙◌}
-use Rattle.std.specs.Prelude.{◌==◌, ◌||◌, not}
+use Rattle.std.specs.Prelude.{Bool, ◌==◌, ◌&&◌, ◌||◌, not}
+use Rattle.flu_model.specs.declared.events.Cell.{Cell}
 use Rattle.flu_model.specs.Contents.{is_same_cell}
 use Rattle.flu_cells.specs.Holding.{held}
-use Rattle.flu_cells.specs.Sets.{is_in, only, outside}
-use Rattle.flu_cells.proofs.Parting.{in_families, in_cells, first_family, first_cell, left_family, left_one, clear_step}
+use Rattle.flu_cells.specs.Sets.{is_in, is_in_but, only}
+use Rattle.flu_cells.proofs.Parting.{in_families, in_cells, first_family_but, first_cell, left_one, clear_step}
 use Rattle.flu_cells.proofs.state.State.clear_all.Goals as goal
 
 pub loop-family-preserved : goal.loop-family-preserved
 loop-family-preserved c =
-    clear_step (λ d. d.family == c.in-Some.family.now) (in_families c.next.new.self) (in_families c.loop-family.family-iterator) (held c.loop-family.self) _ _
-    (ap in_families c.in-Some.ensures.steps ∙ first_family _ _) c.loop-family.invariant (c.clear_family.ensures ∙ left_family _ _)
+    let q : Cell → Bool = λ d. not (is_in c.args.but.now d) in
+    clear_step (λ d. (d.family == c.in-Some.family.now) && q d) (λ d. in_families c.next.new.self d && q d)
+    (λ d. in_families c.loop-family.family-iterator d && q d) (held c.loop-family.self) _ _
+    (ap (λ fs d. in_families fs d && q d) c.in-Some.ensures.steps ∙ first_family_but q _ _) c.loop-family.invariant c.clear_family_but.ensures
 
 pub loop-cell-init : goal.loop-cell-init
 loop-cell-init c =
     let w = c.args.unwanted.now in
-    let after : held c.loop-family.self ≡ only (λ d. not (in_families w.whole.keys d)) (held c.args.self.now) =
-    ap (λ fs. only (λ d. not (in_families fs d)) (held c.loop-family.self)) (sym c.in-None.ensures.steps.0) ∙ c.loop-family.invariant in
-    clear_step (in_families w.whole.keys) (in_cells c.into_iter-cell-iterator.result) (is_in w) (held c.args.self.now) (held c.loop-family.self)
-    (outside w (held c.args.self.now))
-    (ap (λ cs d. in_families w.whole.keys d || in_cells cs d) (sym c.into_iter-cell-iterator.ensures.into_iter_gives.0)) refl after
+    let but = c.args.but.now in
+    let of_families : Cell → Bool = λ d. in_families w.whole.keys d && not (is_in but d) in
+    let after : held c.loop-family.self ≡ only (λ d. not (of_families d)) (held c.args.self.now) =
+    ap (λ fs. only (λ d. not (in_families fs d && not (is_in but d))) (held c.loop-family.self)) (sym c.in-None.ensures.steps.0)
+    ∙ c.loop-family.invariant in
+    clear_step of_families (in_cells c.into_iter-cell-iterator.result) (is_in_but but w) (held c.args.self.now) (held c.loop-family.self)
+    (only (λ d. not (is_in_but but w d)) (held c.args.self.now))
+    (ap (λ cs d. of_families d || in_cells cs d) (sym c.into_iter-cell-iterator.ensures.into_iter_gives.0)) refl after
 
 pub loop-cell-preserved : goal.loop-cell-preserved
 loop-cell-preserved c =

@@ -11,9 +11,9 @@ returns-in-None-clause-found c =
     let f = c.args.family in
     IfSome_then c.far_key.result c.far_key.ensures.found
     (λ k at.
-    let there = some_value (far_held s.far (cell f k)) at.1 in
+    let there = some_value (far_held s.far (cell f k)) at.2 in
     let is = far_part s.near s.far s.far_alone (cell f k) there.0 there.1 in
-    (at.0, s.keys_in_range (cell f k) there.0 is, value_some (held s (cell f k)) there.0 is))
+    (at.0, at.1, value_some (held s (cell f k)) there.0 is))
 
 pub returns-in-None-clause-least : goal.returns-in-None-clause-least
 returns-in-None-clause-least c =

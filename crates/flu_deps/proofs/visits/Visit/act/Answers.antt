@@ -18,5 +18,5 @@ pub returns-in-Flush-clause-told : goal.returns-in-Flush-clause-told
 returns-in-Flush-clause-told c = λ later f.
     ap (act_all (is_told later)) c.in-Flush.is
     ∙ both (is_told later Overwrite c.in-Flush.family All) _
-    (c.touch.ensures.told later (follows_through c.touch.new.self c.pieces-in-Flush.new.self later c.pieces-in-Flush.ensures.follows f))
+    (c.touch-in-Flush.ensures.told later (follows_through c.touch-in-Flush.new.self c.pieces-in-Flush.new.self later c.pieces-in-Flush.ensures.follows f))
     (ap (list_all (piece_all (is_told later))) (sym c.items-in-Flush.ensures) ∙ c.pieces-in-Flush.ensures.told later f)

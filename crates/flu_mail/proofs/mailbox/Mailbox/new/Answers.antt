@@ -7,17 +7,13 @@ use Rattle.flu_lemmas.proofs.Places.{map_push_zero}
 use Rattle.flu_model.specs.Itags.{count_of_itags}
 use Rattle.flu_model.specs.Listed.{listed}
 use Rattle.flu_deps.specs.Checking.{program_of}
-use Rattle.flu_deps.specs.Validated.{plan_of}
 use Rattle.flu_mail.specs.declared.entries.Entry.{Entry}
-use Rattle.flu_mail.specs.Waiting.{itag}
-use Rattle.flu_mail.specs.Entries.{IsEntryAt, IsEntryOver}
+use Rattle.flu_mail.specs.Entries.{IsEntryOver}
 use Rattle.flu_mail.proofs.MailboxLemmas.{length-seen}
 use Rattle.flu_mail.proofs.mailbox.Mailbox.new.Goals as goal
 
 pub loop-i-preserved : goal.loop-i-preserved
 loop-i-preserved c =
-    let p = program_of c.args.c.now in
-    let nodes = (plan_of c.args.v.now).nodes in
     let lists = listed c.args.s.now in
     let old = c.loop-i.invariant in
     let xs = c.loop-i.entries.items in
@@ -25,10 +21,6 @@ loop-i-preserved c =
     let items = c.in_ok-push.ensures.items in
     record {
       size = let sizes = ap length items in let more = length-append xs (e ∷ []) in let had = old.size in omega arith;
-      at_node = λ j x found.
-          each_push (λ k y. IsEntryAt p nodes c.args.node (itag k) y) xs e old.at_node
-          (subst (λ k. IsEntryAt p nodes c.args.node (itag k) e) (sym old.size) c.new_entry.ensures.at)
-          j x (ap (λ ys. slice_get ys j) (sym items) ∙ found);
       over_items = λ j x found.
           each_push (λ k y. IsEntryOver (slice_index_or lists k []) y) xs e old.over_items
           (subst (λ k. IsEntryOver (slice_index_or lists k []) e) (sym old.size) c.new_entry.ensures.over)
@@ -46,7 +38,6 @@ returns-clause-at c =
       one_each = length-seen (record { node = c.args.node; leaf = c.is_none-leaf.result; entries = c.loop-i.entries })
           ∙ (let all : length c.loop-i.entries.items ≡ count_of_itags (program_of c.args.c.now) = omega arith in all);
       leaf = turned (is_some c.kids.result) c.is_none-leaf.result c.is_none-leaf.ensures ∙ ap is_none c.kids.ensures.kids;
-      at_node = old.at_node;
     }
 
 pub returns-clause-over : goal.returns-clause-over

@@ -1,17 +1,13 @@
 use Rattle.std.proofs.Common.{◌≡◌, ℕ, Some, [], length}
 use Rattle.std.specs.Prelude.{map, replicate, slice_get, slice_index_or}
 use Rattle.flu_model.specs.Listed.{listed}
-use Rattle.flu_deps.specs.Checking.{program_of}
-use Rattle.flu_deps.specs.Validated.{plan_of}
 use Rattle.flu_mail.specs.declared.entries.Entry.{Entry}
-use Rattle.flu_mail.specs.Waiting.{itag}
-use Rattle.flu_mail.specs.Entries.{IsEntryAt, IsEntryOver}
+use Rattle.flu_mail.specs.Entries.{IsEntryOver}
 use Rattle.flu_mail.proofs.mailbox.Mailbox.new.Given as goal
 
 abbrev pub invariant-loop-i : goal.invariant-loop-i
 invariant-loop-i l = record {
   size : length l.entries.items ≡ l.i;
-  at_node : (j : ℕ) (e : Entry) → slice_get l.entries.items j ≡ Some e → IsEntryAt (program_of l.c) (plan_of l.v).nodes l.node (itag j) e;
   over_items : (j : ℕ) (e : Entry) → slice_get l.entries.items j ≡ Some e → IsEntryOver (slice_index_or (listed l.s) j []) e;
   seen : map (λ (e : Entry). e.seen) l.entries.items ≡ replicate l.i 0;
   counts : map (λ (e : Entry). e.count) l.entries.items ≡ replicate l.i 0;

@@ -21,7 +21,7 @@ returns-clause-at c =
     let m = c.args.self.now in
     let e = c.index_mut.result.now in
     let there = entry_read m (length (seen_of m)) c.args.i.0 e refl c.requires.in_range c.index_mut.ensures.value in
-    λ p nodes at. at_kept p nodes m _ c.args.i.0 e (record e { seen = c.args.count }) (record { node = refl; leaf = refl; items = refl; there = there }) refl at
+    λ p nodes at. at_kept p nodes m _ c.args.i.0 e (record e { seen = c.args.count }) (record { node = refl; leaf = refl; items = refl; there = there }) at
 
 pub returns-clause-over : goal.returns-clause-over
 returns-clause-over c =

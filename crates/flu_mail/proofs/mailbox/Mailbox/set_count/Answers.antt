@@ -20,7 +20,7 @@ returns c =
       counts = map-set (λ (x : Entry). x.count) m.entries.items i v;
       seen = map-set_alike (λ (x : Entry). x.seen) m.entries.items i e v there refl;
       node = refl;
-      at = λ p nodes at. at_kept p nodes m _ i e v (record { node = refl; leaf = refl; items = refl; there = there }) refl at;
+      at = λ p nodes at. at_kept p nodes m _ i e v (record { node = refl; leaf = refl; items = refl; there = there }) at;
       over = over_kept lists m _ i e v (record { node = refl; leaf = refl; items = refl; there = there })
           (record { seen = old.seen; count = c.requires.there; place = c.place_after-place.ensures ∙ ap (λ is. place_of is c.args.n) c.items.ensures })
           c.requires.over;

@@ -76,7 +76,7 @@ returns-in-Err-clause-hides g c = λ is_fault before behind.
     let is = g.F.Files.faults c.refill_all.new.files in
     let stop = subst (λ p. StopsAtSource p h.rows h.sources.items a b was is c.in-Err.fault) (sym program_is) c.in-Err.ensures.stop in
     subst (λ v. HidesNoRoundFault v a b was is before) c.self.view_is
-    (refill_hides h.program.value h.rows h.border h.stage h.sources.items a b TookFronts c.in-Err.fault was is well.count c.in-Err.ensures.fronts stop
+    (refill_hides h.program.value h.rows h.border h.stage h.sources.items a b TookFronts c.in-Err.fault was is well.count well.forms c.in-Err.ensures.fronts stop
     (err_same (Err c.in-Err.fault) c.in-Err.fault ReadFault refl is_fault) before
     (subst (λ v. AreHeldBehind v before) (sym c.self.view_is) behind))
 

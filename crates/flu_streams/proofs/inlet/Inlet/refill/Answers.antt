@@ -17,6 +17,7 @@ loop-time-init g c =
     let left = g.F.Files.left c.args.files.now in
     let file = c.args.source.now.file in
     record {
+      form = ap (λ place. place.form) c.catch_up.ensures.rows;
       file = ap (λ place. place.file) c.catch_up.ensures.rows ∙ c.requires.file;
       so_far = λ above before is. refilling_caught c.args.kinds.now c.args.source.now c.args.first c.args.rows above before
           (source_of c.args.self.now) c.args.self.now c.catch_up.new.self left left c.catch_up.ensures
@@ -38,14 +39,15 @@ returns-in-Some-clause-filled g c =
     let left = g.F.Files.left in
     refilled_open c.args.kinds.now c.args.source.now c.args.first c.args.rows c.in-Some.time c.args.self.now c.loop-time.self (left c.args.files.now)
     (left c.loop-time.files)
-    c.requires.some c.loop-time.invariant.so_far c.loop-time.invariant.well c.loop-time.invariant.out c.loop-time.invariant.few (sym c.in-Some.ensures)
+    c.requires.some c.loop-time.invariant.so_far c.loop-time.invariant.well c.loop-time.invariant.out c.loop-time.invariant.few
+    c.loop-time.invariant.form (sym c.in-Some.ensures)
 
 pub returns-then-self-clause-filled : goal.returns-then-self-clause-filled
 returns-then-self-clause-filled g c =
     let left = g.F.Files.left in
     refilled_shut c.args.kinds.now c.args.source.now c.args.first c.args.rows c.args.self.now c.loop-time.self (left c.args.files.now) (left c.loop-time.files)
     c.requires.some c.loop-time.invariant.so_far c.loop-time.invariant.well c.loop-time.invariant.out c.loop-time.invariant.few
-    (sym c.in_default.ensures, c.loop-time.invariant.before_goal) c.if-self.true (c.loop-time.invariant.shut c.if-self.true)
+    c.loop-time.invariant.form (sym c.in_default.ensures, c.loop-time.invariant.before_goal) c.if-self.true (c.loop-time.invariant.shut c.if-self.true)
 
 pub returns-in-Err-clause-stop : goal.returns-in-Err-clause-stop
 returns-in-Err-clause-stop g c =
@@ -60,7 +62,7 @@ returns-in-Err-clause-stop g c =
         rw (c.stop_of.ensures, e) (stops_behind c.args.kinds.now c.args.source.now c.args.first c.args.rows c.args.self.now c.loop-time.self c.next_row.new.self
         (g.F.Files.left c.args.files.now) (g.F.Files.left c.loop-time.files) (g.F.Files.left c.next_row.new.files)
         c.requires.some c.loop-time.invariant.so_far c.if-self.false (sym c.in_default.ensures, c.loop-time.invariant.before_goal)
-        (c.next_row.ensures.same ∙ c.loop-time.invariant.file)
+        (c.next_row.ensures.form ∙ c.loop-time.invariant.form) (c.next_row.ensures.same ∙ c.loop-time.invariant.file)
         (c.next_row.ensures.undecided (rw (c.in-Err.is, e) refl)) (c.next_row.ensures.kept (rw (c.in-Err.is, e) refl)))
     by_fault NoMemory e = rw (c.stop_of.ensures, e) tt
 
@@ -98,9 +100,11 @@ loop-time-preserved g c =
     let told = rw c.in-Row.is at c.in-Ok.ensures.told in
     let puts = c.in_default-take.ensures.taken in
     let here = c.in-Ok.ensures.same ∙ c.loop-time.invariant.file in
+    let form_here = c.in-Ok.ensures.form ∙ c.loop-time.invariant.form in
     let catches = c.catch_up-in-Row.ensures in
     let caught = c.catch_up-in-Row.new.self in
     record {
+      form = ap (λ place. place.form) catches.rows ∙ ap (λ place. place.form) puts.rows ∙ form_here;
       file = ap (λ place. place.file) catches.rows ∙ ap (λ place. place.file) puts.rows ∙ here;
       so_far = λ above before is. refilling_caught c.args.kinds.now c.args.source.now c.args.first c.args.rows above before
           (source_of c.args.self.now) c.take.new.self caught (left old) (left new) catches
@@ -157,13 +161,14 @@ returns-in_default-next g c =
     let file = c.args.source.now.file in
     let none = sym c.in_default-defect_behind.ensures in
     let here = c.in-Ok.ensures.same ∙ c.loop-time.invariant.file in
+    let form_here = c.in-Ok.ensures.form ∙ c.loop-time.invariant.form in
     let out : IsReadOut file (left new) = rw c.loop-time.invariant.file at
     (at_done c.loop-time.self.ended c.in-Ok.next (IsReadOut c.loop-time.self.rows.file (left new)) c.in_default-next.not-Row none c.in-Ok.ensures.end) in
     record {
       filled = refilled_end c.args.kinds.now c.args.source.now c.args.first c.args.rows c.args.self.now c.loop-time.self _ c.catch_up-in_default-next.new.self
           (left old) (left mid) (left new) c.in-Ok.next
           c.requires.some c.loop-time.invariant.so_far c.loop-time.invariant.well c.loop-time.invariant.few c.if-self.false (sym c.in_default.ensures, c.loop-time.invariant.before_goal)
-          c.in-Ok.ensures.told c.in_default-next.not-Row none out refl refl refl refl refl here c.catch_up-in_default-next.ensures;
+          c.in-Ok.ensures.told c.in_default-next.not-Row none out refl refl refl refl refl form_here here c.catch_up-in_default-next.ensures;
       stop = tt;
       taken = taken_then file (left old) (left mid) (left new) c.loop-time.invariant.taken (rw c.loop-time.invariant.file at c.in-Ok.ensures.taken);
       counts = counts_then file (left old) (left mid) (faults old) (faults mid) (faults new) c.loop-time.invariant.taken c.loop-time.invariant.counts

@@ -12,6 +12,7 @@ invariant-loop-time g l =
     let faults = g.F.Files.faults in
     let put_faults = g.F.Files.put_faults in
     record {
+      form : l.self.rows.form ≡ l.fn.self.rows.form;
       file : l.self.rows.file ≡ l.source.file;
       so_far : (above : Option ℕ) (before : List Next) → IsHeldBehind l.kinds l.first l.source above before (source_of l.fn.self)
           → IsRefilling l.kinds l.source l.first l.rows above before (source_of l.fn.self) (source_of l.self) (left l.fn.files) (left l.files);

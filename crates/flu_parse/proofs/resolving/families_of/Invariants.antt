@@ -1,7 +1,0 @@
-use Rattle.std.proofs.Common.{◌≡◌, ◌++◌, map}
-use Rattle.flu_parse.specs.Naming.{naming}
-use Rattle.flu_parse.specs.Resolving.{family}
-use Rattle.flu_parse.proofs.resolving.families_of.Given as goal
-
-abbrev pub invariant-loop-name : goal.invariant-loop-name
-invariant-loop-name l = l.families.items ++ map family (map (λ e. (e.0.now, e.1)) l.name-iterator) ≡ map family (naming l.names).families
