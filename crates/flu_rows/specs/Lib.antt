@@ -4,5 +4,6 @@ pub mod Records
 pub mod Lines
 pub mod Reading
 pub mod LoopRuns
+pub mod LoopNames
 pub mod LoopFields
 pub mod LoopSteps

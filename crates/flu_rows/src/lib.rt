@@ -3,6 +3,7 @@
 
 mod fields;
 mod front;
+mod last_name;
 mod line;
 mod names;
 mod records;

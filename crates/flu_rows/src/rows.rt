@@ -12,6 +12,7 @@ ghost use Rattle.flu_rows.specs.Reading.{ahead, front_of, then_behind, read_byte
 ghost use Rattle.flu_rows.specs.LoopSteps.{step_of, row_step, step_behind, BeginsWith, StepInRange, StepCounts, StepOnDone, ReadsStep};
 
 use crate::front::row_at_front;
+use crate::last_name::LastName;
 use crate::line::{LONGEST_LINE, Line, line_of, line_of_record};
 use crate::row::{Row, RowForm};
 use crate::run::Run;
@@ -73,6 +74,7 @@ impl Rows {
             hold: Hold {
                 alloc,
                 row: ByteRecord::new(alloc),
+                last: LastName::none(),
                 run: Run::none(),
                 held: LineBuffer::new(alloc),
                 lines: 0,
@@ -117,11 +119,12 @@ impl Rows {
     }
 }
 
-/// What is held of a file: a run of lines, the bytes after it, how many lines were read, and a record to read into.
+/// What is held of a file: a run of lines, the bytes after it, how many lines were read, a record to read into, and the last name.
 #[derive(Drop)]
 struct Hold {
     alloc: Global,
     row: ByteRecord,
+    last: LastName,
     run: Run,
     held: LineBuffer,
     lines: u32,
@@ -153,9 +156,9 @@ impl Hold {
             return Err(TakeFault::NoMemory);
         };
         if found {
-            return Ok(step_of_row(form, &self.row, &mut self.lines));
+            return Ok(step_of_row(form, &mut self.last, &self.row, &mut self.lines));
         }
-        if let Some((row, size)) = row_at_front(form, self.held.bytes()) {
+        if let Some((row, size)) = row_at_front(form, &mut self.last, self.held.bytes()) {
             return Ok(self.take_row(form, row, size));
         }
         let found = self.held.fill(LONGEST_LINE, file, files)?;
@@ -199,7 +202,7 @@ impl Hold {
         ensures lines { IfOk result (StepCounts self.old.lines self.new.lines) }
         ensures cause { result ≢ Err TakeFault.Failed }
     {
-        if let Some((row, size)) = row_at_front(form, self.held.bytes()) {
+        if let Some((row, size)) = row_at_front(form, &mut self.last, self.held.bytes()) {
             return Ok(self.take_row(form, row, size));
         }
         let Ok(run) = Run::take(self.alloc, &mut self.held) else {
@@ -210,13 +213,20 @@ impl Hold {
             return Err(TakeFault::NoMemory);
         };
         if again {
-            return Ok(step_of_row(form, &self.row, &mut self.lines));
+            return Ok(step_of_row(form, &mut self.last, &self.row, &mut self.lines));
         }
         if self.lines == u32::MAX {
             return Ok(Step::Give(Next::TooManyLines));
         }
         self.lines += 1;
-        let Ok(line) = take_line(self.alloc, form, self.lines, found, &mut self.held) else {
+        let Ok(line) = take_line(
+            self.alloc,
+            form,
+            &mut self.last,
+            self.lines,
+            found,
+            &mut self.held,
+        ) else {
             return Err(TakeFault::NoMemory);
         };
         Ok(step_of(line, self.lines))
@@ -227,6 +237,7 @@ impl Hold {
 fn take_line(
     alloc: Global,
     form: RowForm,
+    last: &mut LastName,
     number: u32,
     found: Found,
     held: &mut LineBuffer,
@@ -239,12 +250,12 @@ fn take_line(
 {
     match found {
         Found::Line(len) => {
-            let line = line_of(alloc, form, number, &held.bytes()[..len])?;
+            let line = line_of(alloc, form, last, number, &held.bytes()[..len])?;
             held.drop_front(len + 1);
             Ok(line)
         }
         Found::Last => {
-            let line = line_of(alloc, form, number, held.bytes())?;
+            let line = line_of(alloc, form, last, number, held.bytes())?;
             held.drop_front(held.bytes().len());
             Ok(line)
         }
@@ -254,7 +265,7 @@ fn take_line(
 }
 
 // What a line with this record gives, which is one more.
-fn step_of_row(form: RowForm, row: &ByteRecord, lines: &mut u32) -> Step
+fn step_of_row(form: RowForm, last: &mut LastName, row: &ByteRecord, lines: &mut u32) -> Step
     ensures value { result ≡ row_step form lines.old (fields_of row.now) }
     ensures range { StepInRange result }
     ensures lines { StepCounts lines.old lines.new result }
@@ -265,7 +276,7 @@ fn step_of_row(form: RowForm, row: &ByteRecord, lines: &mut u32) -> Step
         return Step::Give(Next::TooManyLines);
     }
     *lines += 1;
-    step_of(line_of_record(form, row), *lines)
+    step_of(line_of_record(form, last, row), *lines)
 }
 
 // What the line of this number gives.

@@ -2,7 +2,7 @@
 use Rattle.std.proofs.Common.{◌≡◌, inl, inr, ℕ, ◌+◌, ◌-◌, ◌<◌, ◌≤◌, max, Bool, true, false, cond, List, [], ◌∷◌, ◌++◌, length, Option, Some, None, refl}
 use Rattle.std.proofs.Common.{zero, suc, Vec, vec_len, length-append, sym, ap, subst, ◌∙◌, arith}
 use Rattle.std.specs.Global.{Global}
-use Rattle.std.specs.Prelude.{nat_lt, nat_le, slice_get, unwrap_or}
+use Rattle.std.specs.Prelude.{is_some, nat_lt, nat_le, slice_get, unwrap_or}
 use Rattle.std.specs.List.{filter, filter_map, list_all}
 use Rattle.std.proofs.lemmas.Bool.{cases_Bool, cases_lt}
 use Rattle.std.proofs.lemmas.List.{length-map}
@@ -14,7 +14,7 @@ use Rattle.flu_lemmas.proofs.Elements.{list_all_weaker}
 use Rattle.flu_lemmas.proofs.Late.{RisesFrom, rising}
 use Rattle.flu_lemmas.proofs.Mapped.{from_mapped}
 use Rattle.flu_lemmas.proofs.Places.{slice_get-there}
-use Rattle.flu_lemmas.proofs.Tests.{and_left, and_right, both, true_lt, true_le, le_true}
+use Rattle.flu_lemmas.proofs.Tests.{and_left, and_right, both, true_lt, true_le, le_true, not_both}
 use Rattle.flu_model.specs.declared.events.Item.{Item}
 use Rattle.flu_model.specs.declared.events.Item.TheVariants.{End as EndItem}
 use Rattle.flu_model.specs.declared.jobs.Kind.{Kind}
@@ -25,11 +25,10 @@ use Rattle.flu_rows.specs.declared.row.Row.{Row}
 use Rattle.flu_streams.specs.declared.border.Border.{Border}
 use Rattle.flu_streams.specs.declared.held.Stage.{Stage}
 use Rattle.flu_streams.specs.declared.inlet.Inlet.{Inlet}
-use Rattle.flu_streams.specs.Holding.{HeldSource, HoldsFew, HoldsAtMost, HaveAtMost, LawOfBounds}
+use Rattle.flu_streams.specs.Holding.{HeldSource, item_of, HoldsFew, HoldsAtMost, HaveAtMost, LawOfBounds}
 use Rattle.flu_streams.specs.Lists.{item_time, item_for, items_of_list, lists_in}
 use Rattle.flu_streams.specs.LoopHeld.{source_of, count_to, enough_of, without, count_above, IsFew, IsShort, HasRoom, put_timed, PutsIn, CatchesUp, IsCaughtUp}
-use Rattle.flu_streams.specs.LoopHeld.{Stays, Drops, Comes, DropsTo, AreDropped, AreWell, AreCaughtUp, taken_by}
-use Rattle.flu_streams.specs.LoopIntake.{item_of}
+use Rattle.flu_streams.specs.LoopHeld.{Stays, Drops, Comes, DropsTo, AreDropped, AreWell, AreCaughtUp, AreUncounted, taken_by}
 use Rattle.flu_streams.specs.Rounds.{is_above, is_up_to, settled}
 use Rattle.flu_streams.specs.Tests.{time_in}
 use Rattle.flu_streams.proofs.Counting.{all_late, count_step, none_enough}
@@ -165,7 +164,7 @@ pub count_all : (items : List Item) → count_above None items ≡ length items
 count_all items = ap length (kept_true items)
 
 -- what is not enough is few, with one item to come
-pub short_few : (rows : ℕ) (s : Source) (h : Inlet) → 1 ≤ rows → IsShort rows s (source_of h) → count_above h.goal h.items < rows + s.slack
+pub short_few : (rows : ℕ) (s : Source) (h : Inlet) → 1 ≤ rows → IsShort (Some rows) s (source_of h) → count_above h.goal h.items < rows + s.slack
 short_few rows s h one short = by_last h.last refl
   where
     up : RisesFrom item_time 0 h.items
@@ -197,9 +196,10 @@ short_few rows s h one short = by_last h.last refl
     ]
 
 -- so there is room for it
-pub room_here : (rows : ℕ) (s : Source) (h : Inlet) → 1 ≤ rows → rows ≤ 4096 → s.slack ≤ 60000 → IsShort rows s (source_of h) → HasRoom h
-    → length h.items < 64096
-room_here rows s h one most slack short room = by_goal h.goal refl
+pub room_here : (rows : Option ℕ) (s : Source) (h : Inlet) → 1 ≤ unwrap_or rows 1 → unwrap_or rows 0 ≤ 4096 → (rows ≡ None → is_some h.held ≡ true)
+    → s.slack ≤ 60000 → IsShort rows s (source_of h) → HasRoom h → is_some h.held ≡ false → length h.items < 64096
+room_here None s h one most counted slack short room free = absurd (not_both (is_some h.held) (counted refl) free)
+room_here (Some rows) s h one most counted slack short room free = by_goal h.goal refl
   where
     by_goal : (goal : Option ℕ) → h.goal ≡ goal → length h.items < 64096
     by_goal (Some g) is = room g is
@@ -212,9 +212,10 @@ count_timed : (goal time : Option ℕ) (item : Item) (items : List Item) → cou
 count_timed goal None item items = omega arith
 count_timed goal (Some t) item items = one_more (λ (x : Item). is_above goal (item_time x)) item_time item items
 
-pub few_row : (rows : ℕ) (kinds : List Kind) (s : Source) (first : ℕ) (now mid new : Inlet) (row : Row) → 1 ≤ rows → IsShort rows s (source_of now)
-    → mid.items ≡ now.items → mid.goal ≡ now.goal → PutsIn kinds s first row mid new → IsFew rows s new
-few_row rows kinds s first now mid new row one short items goal puts =
+pub few_row : (rows : Option ℕ) (kinds : List Kind) (s : Source) (first : ℕ) (now mid new : Inlet) (row : Row) → 1 ≤ unwrap_or rows 1
+    → IsShort rows s (source_of now) → mid.items ≡ now.items → mid.goal ≡ now.goal → PutsIn kinds s first row mid new → IsFew rows s new
+few_row None kinds s first now mid new row one short items goal puts = tt
+few_row (Some rows) kinds s first now mid new row one short items goal puts =
     let was = short_few rows s now one short in
     let more = count_timed new.goal (time_in row) (item_of kinds s first row) mid.items in
     let e : count_above new.goal new.items ≡ count_above new.goal (put_timed (time_in row) (item_of kinds s first row) mid.items) =
@@ -222,10 +223,11 @@ few_row rows kinds s first now mid new row one short items goal puts =
     let f : count_above new.goal mid.items ≡ count_above now.goal now.items = (λ i. count_above ((puts.goal ∙ goal) i) (items i)) in
     omega (arith, was, more, e, f)
 
-pub few_caught : (rows : ℕ) (s : Source) (old new : Inlet) → CatchesUp s.slack old new → IsFew rows s old → IsFew rows s new
-few_caught rows s old new c few = by_items c.items
+pub few_caught : (rows : Option ℕ) (s : Source) (old new : Inlet) → CatchesUp s.slack old new → IsFew rows s old → IsFew rows s new
+few_caught None s old new c few = tt
+few_caught (Some rows) s old new c few = by_items c.items
   where
-    by_items : IsCaughtUp s.slack old new → IsFew rows s new
+    by_items : IsCaughtUp s.slack old new → IsFew (Some rows) s new
     by_items (Stays items goal) =
         let e : count_above new.goal new.items ≡ count_above old.goal old.items = (λ i. count_above (goal i) (items i)) in omega (arith, e, few)
     by_items (Drops t goal goes at lt was now items) =
@@ -239,15 +241,16 @@ few_caught rows s old new c few = by_items c.items
         let f : count_above old.goal old.items ≡ length later = ap (λ o. count_above o old.items) was in
         omega (arith, e, f, few)
 
-pub few_dropped : (rows time : ℕ) (s : Source) (old new : Inlet) → DropsTo time old new → IsFew rows s old → IsFew rows s new
+pub few_dropped : (rows time : ℕ) (s : Source) (old new : Inlet) → DropsTo time old new → IsFew (Some rows) s old → IsFew (Some rows) s new
 few_dropped rows time s old new d few =
     let e : count_above new.goal new.items ≡ count_above old.goal (filter (λ (item : Item). nat_lt time (item_time item)) old.items) =
     (λ i. count_above (d.goal i) (d.items i)) in
     let less = fewer_again (λ (item : Item). is_above old.goal (item_time item)) (λ (item : Item). nat_lt time (item_time item)) old.items in
     omega (arith, e, less, few)
 
-pub few_same : (rows : ℕ) (s : Source) (old new : Inlet) → new.items ≡ old.items → new.goal ≡ old.goal → IsFew rows s old → IsFew rows s new
-few_same rows s old new items goal few =
+pub few_same : (rows : Option ℕ) (s : Source) (old new : Inlet) → new.items ≡ old.items → new.goal ≡ old.goal → IsFew rows s old → IsFew rows s new
+few_same None s old new items goal few = tt
+few_same (Some rows) s old new items goal few =
     let e : count_above new.goal new.items ≡ count_above old.goal old.items = (λ i. count_above (goal i) (items i)) in omega (arith, e, few)
 
 -- ---- what is held of all sources
@@ -261,29 +264,35 @@ holds_few p rows border stage inlets well caught i s at source is =
     let f : length source.items ≡ length k.0.items = ap (λ (h : HeldSource). length h.items) k.2 in
     omega (arith, few, e, f)
 
-pub holds_most : (p : Program) (rows : ℕ) (border : Option ℕ) (stage : Stage) (inlets : List Inlet) → HoldsAtMost 64096 (holding p rows border stage inlets)
-holds_most p rows border stage inlets i source is =
+pub holds_most : (p : Program) (rows : ℕ) (border : Option ℕ) (stage : Stage) (inlets : List Inlet) → AreUncounted inlets
+    → HoldsAtMost 64096 (holding p rows border stage inlets)
+holds_most p rows border stage inlets free i source is =
     let k = from_mapped source_of inlets i source is in
     let f : length source.items ≡ length k.0.items = ap (λ (h : HeldSource). length h.items) k.2 in
-    omega (arith, f, k.0.few)
+    omega (arith, f, k.0.few (free i k.0 k.1))
 
 pub still_caught_up : (time : ℕ) (olds news : List Inlet) → AreCaughtUp olds → AreDropped time olds news → AreCaughtUp news
 still_caught_up time olds news caught dropped i h is =
     let old = slice_get-there olds i (rw (← dropped.size) (slice_get_within news i h is)) in
     (dropped.each i old.0 h old.1 is).goal ∙ caught i old.0 old.1
 
+pub still_uncounted : (time : ℕ) (olds news : List Inlet) → AreUncounted olds → AreDropped time olds news → AreUncounted news
+still_uncounted time olds news free dropped i h is =
+    let old = slice_get-there olds i (rw (← dropped.size) (slice_get_within news i h is)) in
+    ap is_some (dropped.each i old.0 h old.1 is).held ∙ free i old.0 old.1
+
 -- the lists of the items of a source up to a border
 pub few_lists : (lists : Vec (Vec Item Global) Global) (n first : ℕ) (end : Border) (h : Inlet) → vec_len lists ≡ n
     → ((i : ℕ) → i < n → items_of_list lists i ≡ filter_map (item_for (first + i)) (taken_by end h.items) ++ EndItem ∷ [])
-    → HaveAtMost 64096 (lists_in lists)
-few_lists lists n first end h len each =
+    → is_some h.held ≡ false → HaveAtMost 64096 (lists_in lists)
+few_lists lists n first end h len each free =
     let size : length (lists_in lists) ≡ n = simp length-map (omega (arith, lists.ok.0, len)) in
     All-from_get_or (λ (items : List Item). length items ≤ 64096 + 1) (lists_in lists) [] (λ i lt.
     let own = filter_map (item_for (first + i)) (taken_by end h.items) in
     let mapped = fewer_mapped (item_for (first + i)) (taken_by end h.items) in
     let taken = fewer (λ (item : Item). is_up_to end (item_time item)) h.items in
     let e : length (items_of_list lists i) ≡ length own + 1 = ap length (each i (rw size at lt)) ∙ length-append own (EndItem ∷ []) in
-    omega (arith, e, mapped, taken, h.few))
+    omega (arith, e, mapped, taken, h.few free))
 
 -- the slack of a source of a job
 slack_fits : (kinds : List Kind) (sources : List Source) (i : ℕ) (s : Source) → list_all (source_fits kinds) sources ≡ true → slice_get sources i ≡ Some s

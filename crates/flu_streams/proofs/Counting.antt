@@ -104,9 +104,6 @@ count_enough u low (x ∷ xs) (suc n) up lt in_time =
     omega (arith, e, rest)
 
 -- ---- whether so many items are settled
-pub not_settled : (rows slack last : ℕ) (items : List Item) → last < slack → enough_of rows slack (Some last) items ≡ None
-not_settled rows slack last items lt = let e : nat_le slack last ≡ false = grind (arith, nat_tests) in rw e refl
-
 pub few_settled : (rows slack last : ℕ) (items : List Item) → slack ≤ last → nat_le rows (count_to (last - slack) items) ≡ false
     → enough_of rows slack (Some last) items ≡ None
 few_settled rows slack last items le few = let e : nat_le slack last ≡ true = grind (arith, nat_tests) in rw (e, few) refl

@@ -32,7 +32,7 @@ use Rattle.flu_streams.specs.Before.{each_with_before}
 use Rattle.flu_streams.specs.Good.{in_time_order, items_at, lists_of_rows}
 use Rattle.flu_streams.specs.Holding.{HeldSource, Holding, IsHeldBehind, AreHeldBehind, Cuts, first_itag, still}
 use Rattle.flu_streams.specs.Lists.{lists_in, items_of_list, item_time, item_for}
-use Rattle.flu_streams.specs.LoopHeld.{source_of, taken_by, DropsTo, AreDropped, IsSettledAt, IsSettledBy, AreWell, AreCaughtUp, IsWell, AreBehind}
+use Rattle.flu_streams.specs.LoopHeld.{source_of, taken_by, DropsTo, AreDropped, IsSettledAt, IsSettledBy, AreWell, AreCaughtUp, IsWellIn, IsWell, AreBehind}
 use Rattle.flu_streams.specs.Rounds.{rows_between, is_above, is_up_to, settled, lists_between}
 use Rattle.flu_streams.specs.Tags.{width}
 use Rattle.flu_streams.specs.Tests.{rows_of}
@@ -222,12 +222,12 @@ dropped_more t n olds news mid new at same drops done i o m lt was is =
 -- ---- what is so where a cut may be called, and where a refill may be
 pub well_filling : (p : Program) (rows : ℕ) (border : Option ℕ) (stage : Stage) (inlets : List Inlet) → IsWell p rows border stage inlets
     → stage ≡ Filling → AreWell p rows border inlets
-well_filling p rows border stage inlets is e = subst (λ s. IsWell p rows border s inlets) e is
+well_filling p rows border stage inlets is e = subst (λ s. IsWellIn p rows border s inlets) e is.0
 
 pub well_filled : (p : Program) (rows : ℕ) (border : Option ℕ) (stage : Stage) (b : Border) (inlets : List Inlet) → IsWell p rows border stage inlets
     → stage ≡ Filled b
     → AreWell p rows border inlets × IsSettledBy p border b inlets × AreCaughtUp inlets
-well_filled p rows border stage b inlets is e = subst (λ s. IsWell p rows border s inlets) e is
+well_filled p rows border stage b inlets is e = subst (λ s. IsWellIn p rows border s inlets) e is.0
 
 pub closed_if_not : (b : Border) → ((t : ℕ) → b ≡ At t → ⊥) → b ≡ Closed
 closed_if_not Closed other = refl

@@ -5,9 +5,8 @@ use Rattle.std.specs.Prelude.{Result, Err, IsErrOf, IsSome, is_some, unwrap_or, 
 use Rattle.std.specs.List.{flat_map, list_any, Contains}
 use Rattle.std.specs.Cmp.Lexicographic.{bytes_decides}
 use Rattle.std.proofs.lemmas.Bool.{cases_Bool}
-use Rattle.std.proofs.lemmas.List.{ext_get_or, length-map, map-append, append-nil, take-append-drop, drop_more}
+use Rattle.std.proofs.lemmas.List.{length-map, map-append, append-nil, take-append-drop, drop_more}
 use Rattle.std.proofs.lemmas.List.Elements.{Contains-append_left, Contains-append_right, Contains-append_cases}
-use Rattle.std.proofs.lemmas.List.FromFn.{length-map-range_with_len, get_or-map-range_with_len}
 use Rattle.std.proofs.lemmas.List.Sums.{sum_by-append}
 use Rattle.std.proofs.lemmas.Grind.{flat_map-append}
 use Rattle.flu_lemmas.proofs.Containing.{contains_one, one_contains}
@@ -21,45 +20,25 @@ use Rattle.flu_model.specs.Rules.{is_same_text, are_distinct}
 use Rattle.flu_model.specs.Streaming.{are_streams}
 use Rattle.flu_outside.specs.Outside.{Contents, WhereTold, Rose, IsThere, CountApart}
 use Rattle.flu_rows.specs.declared.row.RowForm.{RowForm}
-use Rattle.flu_rows.specs.declared.row.Row.{Row}
 use Rattle.flu_rows.specs.declared.rows.Next.{Next}
 use Rattle.flu_rows.specs.Row.{form_of}
 use Rattle.flu_rows.specs.Reading.{ahead, read_file}
 use Rattle.flu_outside.specs.Taking.{bytes_left, TakesFrom, CountsOf, IsReadOut}
-use Rattle.flu_lemmas.proofs.Told.{told_then, told_same, told_both}
+use Rattle.flu_lemmas.proofs.Told.{told_then, told_both}
 use Rattle.flu_streams.specs.declared.faults.GatherFault.{GatherFault}
 use Rattle.flu_streams.specs.declared.faults.GatherFault.TheVariants.{Source as SourceFaulty, ReadFault, NoMemory}
 use Rattle.flu_streams.specs.declared.faults.SourceFault.{SourceFault}
 use Rattle.flu_streams.specs.declared.gathered.Gathered.{Gathered}
-use Rattle.flu_streams.specs.declared.intake.Intake.{Intake}
 use Rattle.flu_streams.specs.Before.{with_before, each_with_before, first_some}
 use Rattle.flu_streams.specs.Tags.{width}
-use Rattle.flu_streams.specs.Tests.{rows_of, has_ended, items_of, first_of, first_defect}
-use Rattle.flu_streams.specs.Good.{items_at, lists_of_rows, rows_in, items_held, fault_of_source, first_fault}
+use Rattle.flu_streams.specs.Tests.{rows_of, items_of, first_of, first_defect}
+use Rattle.flu_streams.specs.Good.{lists_of_rows, rows_in, items_held, fault_of_source, first_fault}
 use Rattle.flu_streams.specs.Files.{files_of, LeavesOthers, CountsOfNames, AreReadOut}
 use Rattle.flu_streams.specs.Lists.{lists_in}
-use Rattle.flu_streams.specs.LoopIntake.{Holds}
-use Rattle.flu_streams.specs.LoopSource.{HidesNoDefect}
 use Rattle.flu_streams.specs.Faults.{WasRead, IsFirstFault, HidesNothing, StopsWithout}
-use Rattle.flu_streams.specs.LoopGathering.{AddsSource, IsFaultOf, IsGathered, lists_of_sources}
+use Rattle.flu_streams.specs.LoopGathering.{AddsSource, IsFaultOf, HidesNoDefect, IsGathered, lists_of_sources}
 use Rattle.flu_streams.proofs.Befores.{with_before-append, first_some-append}
-use Rattle.flu_streams.proofs.Streamings.{streams_of_range, are_streams-append}
-
-pub lists_held : (kinds : List Kind) (s : Source) (number before : ℕ) (rows : List Row) (intake : Intake) → Holds kinds s number before rows intake
-    → has_ended rows ≡ true → lists_in intake.lists ≡ lists_of_rows kinds s number rows
-lists_held kinds s number before rows intake h ended =
-    let size : length (lists_in intake.lists) ≡ width s = simp length-map (omega (arith, intake.lists.ok.0, h.len)) in
-    let same : length (lists_in intake.lists) ≡ length (lists_of_rows kinds s number rows) =
-    size ∙ sym (length-map-range_with_len (items_at kinds s number rows) 0 (width s)) in
-    ext_get_or [] (lists_in intake.lists) (lists_of_rows kinds s number rows) same
-    (λ i lt. (h.closed ended).lists i (rw size at lt) ∙ sym
-    (get_or-map-range_with_len (items_at kinds s number rows) 0 (width s) i i [] (rw size at lt) (omega arith)))
-
-pub streams_held : (kinds : List Kind) (s : Source) (number before : ℕ) (rows : List Row) (intake : Intake) → Holds kinds s number before rows intake
-    → has_ended rows ≡ true → are_streams number (lists_of_rows kinds s number rows) ≡ true
-streams_held kinds s number before rows intake h ended =
-    let closed = h.closed ended in
-    streams_of_range number (width s) (items_at kinds s number rows) (λ i lt. rw (← closed.lists i lt) (closed.streams i lt))
+use Rattle.flu_streams.proofs.Streamings.{are_streams-append}
 
 -- ---- how many itags there are
 pub total_width : (n : ℕ) (sources : List Source) → length (itags_of_sources n sources) ≡ sum_by width sources
@@ -189,11 +168,6 @@ gathered_more form kinds earlier s old new a b c told adds taken len apart =
     told_then (IsGathered form kinds earlier old) (λ x y. WasRead form s adds.read [] x × TakesFrom s.file x y) (IsGathered form kinds (earlier ++ (s ∷ [])) new) a b c
     (λ x y z p q. gathered_join form kinds earlier s adds.read old new x y z adds.passes adds.lists adds.held len apart p q) told
     (told_both (λ was now. WasRead form s adds.read [] was) (TakesFrom s.file) b c adds.told taken)
-
-pub gathered_none : (form : RowForm) (kinds : List Kind) (gathered : Gathered) (a : Option Contents) → lists_in gathered.lists ≡ [] → gathered.held ≡ 0
-    → WhereTold a a (IsGathered form kinds [] gathered)
-gathered_none form kinds gathered a lists held =
-    told_same (IsGathered form kinds [] gathered) a (λ x. record { good = refl; lists = lists; held = held; others = λ other apart. refl })
 
 pub streams_more : (form : RowForm) (kinds : List Kind) (s : Source) (b c : Option Contents) (old new : Gathered) → AddsSource form kinds s b c old new
     → are_streams 0 (lists_in old.lists) ≡ true → are_streams 0 (lists_in new.lists) ≡ true

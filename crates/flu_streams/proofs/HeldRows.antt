@@ -29,16 +29,17 @@ use Rattle.flu_streams.specs.declared.inlet.Inlet.{Inlet}
 use Rattle.flu_streams.specs.Before.{first_some}
 use Rattle.flu_streams.specs.Good.{time_at, in_time_order}
 use Rattle.flu_outside.specs.Outside.{Contents}
-use Rattle.flu_streams.specs.Holding.{HeldSource, IsHeldBehind, IsUpTo, still}
+use Rattle.flu_streams.specs.Holding.{HeldSource, IsHeldBehind, IsUpTo, item_of, still}
 use Rattle.flu_streams.specs.Lists.{item_time, times_in}
 use Rattle.flu_streams.specs.LoopHeld.{source_of, count_to, enough_of, enough_in, without, IsShort, CatchesUp, IsCaughtUp, Stays, Drops, Comes, test_late}
-use Rattle.flu_streams.specs.LoopHeld.{fault_behind, put_timed, later_of, PutsIn, IsWellAt, taken_by}
-use Rattle.flu_streams.specs.LoopIntake.{item_of}
-use Rattle.flu_streams.specs.LoopSource.{defect_behind}
+use Rattle.flu_streams.specs.LoopHeld.{are_enough, test_held, tests_behind, fault_behind, put_timed, later_of, PutsIn, IsWellAt, taken_by}
+use Rattle.flu_streams.specs.LoopStop.{defect_behind}
 use Rattle.flu_streams.specs.Rounds.{row_fault, line_defect, settled, settled_time, is_above, is_between, rows_between, is_enough}
-use Rattle.flu_streams.specs.Tests.{rows_of, has_ended, is_end, time_in, times_of, greatest, where_true, test_tag, test_fields, test_behind, test_times}
+use Rattle.flu_streams.specs.Tags.{width}
+use Rattle.flu_streams.specs.Tests.{rows_of, has_ended, is_end, time_in, items_in, times_of, greatest, where_true, test_tag, test_fields, test_behind, test_times}
 use Rattle.flu_streams.specs.Tests.{test_time}
 use Rattle.flu_streams.proofs.Cutting.{not_not, later_is, all_kept}
+use Rattle.flu_streams.proofs.Counted.{fault_parts}
 use Rattle.flu_streams.proofs.Counting.{enough_is, none_enough, all_late}
 use Rattle.flu_streams.proofs.RoundLaws.{or_else-none, defect_in-more, not_late, settled_is, settled_some, line_settles, Exceeds, parts_at, early_between}
 use Rattle.flu_streams.proofs.RoundLaws.{late_between, none_between, kept_first, kept_second}
@@ -146,9 +147,9 @@ enough_held kinds s first rows u above lines h is found =
     le_is : (a b : ℕ) → a ≤ b → nat_le a b ≡ true
     le_is a b le = grind (arith, nat_tests)
 
-pub not_enough_held : (kinds : List Kind) (s : Source) (first rows : ℕ) (above : Option ℕ) (lines : List Next) (h : HeldSource) → 1 ≤ rows
+not_enough_held : (kinds : List Kind) (s : Source) (first rows : ℕ) (above : Option ℕ) (lines : List Next) (h : HeldSource) → 1 ≤ rows
     → IsHeldBehind kinds first s above lines h
-    → IsShort rows s h → is_enough rows above s lines ≡ false
+    → IsShort (Some rows) s h → is_enough rows above s lines ≡ false
 not_enough_held kinds s first rows above lines h one is short = by_goal h.goal refl
   where
     lt_is : (a b : ℕ) → b < a → nat_le a b ≡ false
@@ -181,10 +182,16 @@ not_enough_held kinds s first rows above lines h one is short = by_goal h.goal r
     by_goal None e = by_time e (ap (λ g. without g (enough_of rows s.slack h.last h.items)) (sym e) ∙ short.0) (settled s.slack h.last) refl
     by_goal (Some g) e = before_goal g (settled s.slack h.last) e refl
 
+pub not_enough : (kinds : List Kind) (s : Source) (first : ℕ) (rows above : Option ℕ) (lines : List Next) (h : HeldSource) → 1 ≤ unwrap_or rows 1
+    → IsHeldBehind kinds first s above lines h → IsShort rows s h → are_enough rows above s lines ≡ false
+not_enough kinds s first None above lines h one is short = refl
+not_enough kinds s first (Some rows) above lines h one is short = not_enough_held kinds s first rows above lines h one is short
+
 -- what is no row changes nothing
-pub enough_still : (rows : ℕ) (above : Option ℕ) (s : Source) (lines : List Next) (next : Next) → IsNoRow next
-    → is_enough rows above s (lines ++ next ∷ []) ≡ is_enough rows above s lines
-enough_still rows above s lines next other =
+pub enough_still : (rows above : Option ℕ) (s : Source) (lines : List Next) (next : Next) → IsNoRow next
+    → are_enough rows above s (lines ++ next ∷ []) ≡ are_enough rows above s lines
+enough_still None above s lines next other = refl
+enough_still (Some rows) above s lines next other =
     ap (λ (r : List Row). nat_le rows (option_map_or (λ u. length (rows_between above (At u) r)) (settled s.slack (greatest (times_of r))) 0))
     (no_row_more lines next other)
 
@@ -286,7 +293,7 @@ border_settled kinds s first above lines h is goes = λ t e.
 pub fault_held : (kinds : List Kind) (s : Source) (first : ℕ) (above : Option ℕ) (lines : List Next) (h : HeldSource) (mid : Inlet) (row : Row)
     → IsHeldBehind kinds first s above lines h
     → h.closed ≡ false → mid.items ≡ h.items → mid.last ≡ h.last → mid.ended ≡ h.ended
-    → row_fault kinds s (has_ended (rows_of lines)) (times_of (rows_of lines)) row ≡ fault_behind kinds s mid row
+    → row_fault kinds s (has_ended (rows_of lines)) (times_of (rows_of lines)) row ≡ first_some (λ test. test) (tests_behind kinds s mid row)
 fault_held kinds s first above lines h mid row is goes items last ended =
     let at : IsSettled s.slack is.low h.last = border_settled kinds s first above lines h is goes in
     let same = test_same kinds s first is.low h.last (rows_of lines) h.items (time_in row) is.items is.last at in
@@ -343,7 +350,7 @@ passes_late kinds s h row e =
     let one = (or_else-none (where_true h.ended AfterEnd) _ e).1 in
     let two = (or_else-none (test_tag kinds s row) _ one).1 in
     let three = (or_else-none (test_fields kinds row) _ two).1 in
-    (or_else-none (test_late s.slack (times_in h.items) h.last (time_in row)) None three).0
+    (or_else-none (test_late s.slack (times_in h.items) h.last (time_in row)) _ three).0
 
 row_above : (slack : ℕ) (above last : Option ℕ) (times : List ℕ) (row : Row) → IsSettled slack above last → test_late slack times last (time_in row) ≡ None
     → (time : ℕ) → time_in row ≡ Some time → is_above above time ≡ true
@@ -365,7 +372,8 @@ pub behind_row : (kinds : List Kind) (s : Source) (first : ℕ) (above : Option 
     → IsHeldBehind kinds first s above (lines ++ RowNext line row ∷ []) (source_of new)
 behind_row kinds s first above lines h mid new line row is goes items last ended goal file puts =
     let at : IsSettled s.slack is.low h.last = border_settled kinds s first above lines h is goes in
-    let fault = fault_held kinds s first above lines h mid row is goes items last ended ∙ puts.passes in
+    let tests = (or_else-none _ (test_held mid.held (items_in (width s) row)) (sym (fault_parts kinds s mid row) ∙ puts.passes)).0 in
+    let fault = fault_held kinds s first above lines h mid row is goes items last ended ∙ tests in
     let passes : line_defect kinds s lines (RowNext line row) ≡ None = ap (option_map (λ (why : Why). (line, why))) fault in
     let late = passes_late kinds s mid row puts.passes in
     let up = row_above s.slack is.low mid.last (times_in mid.items) row (rw last at) late in

@@ -13,8 +13,10 @@ pub mod RoundLaws
 pub mod CountLaws
 pub mod RoundEnds
 pub mod Counting
+pub mod Counted
 pub mod HeldRows
 pub mod Refilling
+pub mod Whole
 pub mod Starts
 pub mod Rounding
 pub mod RoundOf

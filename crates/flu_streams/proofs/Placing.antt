@@ -1,6 +1,6 @@
 -- The place of a time among items in order of time.
-use Rattle.std.proofs.Common.{◌≡◌, inl, inr, ℕ, ◌-◌, ◌<◌, ◌≤◌, true, false, eqb, List, [], ◌∷◌, length, get_or, None}
-use Rattle.std.proofs.Common.{refl, sym, ◌∙◌, arith}
+use Rattle.std.proofs.Common.{◌≡◌, inl, inr, ℕ, ◌-◌, ◌<◌, ◌≤◌, true, false, eqb, List, length, get_or}
+use Rattle.std.proofs.Common.{sym, ◌∙◌, arith}
 use Rattle.std.specs.List.{list_any}
 use Rattle.std.proofs.lemmas.Bool.{cases_lt}
 use Rattle.flu_lemmas.specs.Late.{put_late, rises_from}
@@ -8,7 +8,6 @@ use Rattle.flu_lemmas.proofs.Late.{rising, rises_at, is_rising, rises_late}
 use Rattle.flu_model.specs.declared.events.Item.{Item}
 use Rattle.flu_model.specs.declared.events.Item.TheVariants.{End}
 use Rattle.flu_streams.specs.Lists.{item_time, times_in}
-use Rattle.flu_streams.specs.Tests.{greatest}
 use Rattle.flu_streams.proofs.Taken.{any_time}
 
 -- the times before a place are at most that of the last one before it
@@ -26,8 +25,3 @@ pub still_rising : (items : List Item) (item : Item) → rises_from item_time 0 
 still_rising items item up apart =
     is_rising item_time 0 (put_late item_time item items)
     (rises_late item_time 0 item items (omega arith) (sym (any_time (item_time item) items) ∙ apart) (rising item_time 0 items up))
-
--- ---- no item
-pub none_held : (items : List Item) → greatest (times_in items) ≡ None → items ≡ []
-none_held [] e = refl
-none_held (z ∷ zs) e = absurd cc

@@ -1,6 +1,6 @@
 -- What a refill leaves, where it is done and where it stops.
 use Rattle.std.proofs.Common.{◌≡◌, ℕ, ◌≤◌, true, false, List, ◌∷◌, ◌++◌, length, take, map, Option, Some, None, refl, sym, ap, subst, ◌∙◌, append_assoc, arith}
-use Rattle.std.specs.Prelude.{slice_get}
+use Rattle.std.specs.Prelude.{is_some, slice_get}
 use Rattle.std.specs.List.{list_all}
 use Rattle.std.proofs.lemmas.List.{length-map, take_all}
 use Rattle.std.proofs.lemmas.Option.{slice_get_within}
@@ -22,15 +22,18 @@ use Rattle.flu_streams.specs.declared.faults.Why.{Why}
 use Rattle.flu_streams.specs.declared.held.Stage.{Stage}
 use Rattle.flu_streams.specs.declared.held.Stage.TheVariants.{Filled}
 use Rattle.flu_streams.specs.declared.inlet.Inlet.{Inlet}
-use Rattle.flu_streams.specs.declared.source.Stop.{Stop}
-use Rattle.flu_streams.specs.declared.source.Stop.TheVariants.{Defect, ReadFault, NoMemory}
+use Rattle.flu_streams.specs.declared.stop.Stop.{Stop}
+use Rattle.flu_streams.specs.declared.stop.Stop.TheVariants.{Defect, ReadFault, NoMemory}
 use Rattle.flu_streams.specs.Holding.{HeldSource, AreHeldBehind, AreClosed, ClosedAreReadOut, IsNewBorder, IsRefillFault, HidesNoRoundFault, first_itag}
 use Rattle.flu_streams.specs.Holding.{unread_source, still}
 use Rattle.flu_streams.specs.Lists.{item_time}
-use Rattle.flu_streams.specs.LoopGathering.{fault_of_stop}
+use Rattle.flu_streams.specs.LoopStop.{fault_of_stop}
 use Rattle.flu_streams.specs.LoopHeld.{source_of, IsRefilled, MeetsDefect, IsStopOf, HasRefilled, StopsAtSource, IsSettledAt, IsSettledBy, IsTurnOf, IsWellAt}
-use Rattle.flu_streams.specs.LoopHeld.{AreWell, AreCaughtUp, IsWell, IsFew, count_above}
-use Rattle.flu_streams.specs.Rounds.{Reads, Meets, IsWithin, defect_in, is_above, is_enough}
+use Rattle.flu_streams.specs.LoopHeld.{AreWell, AreCaughtUp, AreUncounted, IsWell, IsFew, count_above}
+use Rattle.flu_streams.specs.Before.{or_else}
+use Rattle.flu_streams.specs.Rounds.{Reads, Meets, IsWithin, line_defect, defect_in, is_above, is_enough}
+use Rattle.flu_streams.proofs.Counted.{never_many}
+use Rattle.flu_streams.proofs.RoundLaws.{or_none}
 use Rattle.flu_streams.proofs.RoundOf.{told_from, at_told, choose, reads_at, turn_of, passed, holding, behind_at, all_closed, earliest_within, earliest_among}
 use Rattle.flu_lemmas.proofs.Mapped.{from_mapped}
 use Rattle.flu_streams.proofs.Starts.{to_mapped, one_there, fresh_at}
@@ -44,7 +47,7 @@ record IsOne (p : Program) (rows : ℕ) (olds news : List Inlet) (a b : Option C
   pub at_end : slice_get ends i ≡ Some end
   pub was : slice_get olds i ≡ Some old
   pub is : slice_get news i ≡ Some new
-  pub done : IsRefilled p.kinds s (first_itag p i) rows old new a b end
+  pub done : IsRefilled p.kinds s (first_itag p i) (Some rows) old new a b end
 
 one_of : (p : Program) (rows : ℕ) (olds news : List Inlet) (a b : Option Contents) (end : Border) → length olds ≡ length p.sources
     → (has : HasRefilled p rows olds news a b end)
@@ -78,7 +81,7 @@ refill_keeps p rows border olds news a b end well has = record {
       ap (λ (g : Inlet). g.rows.form) (sym (one_there news i one.new h one.is f)) ∙ one.done.form ∙ well.forms i one.old one.was;
   few = λ i s at h f.
       let one = one_of p rows olds news a b end well.count has i s at in
-      subst (IsFew rows s) (one_there news i one.new h one.is f) (one.done.few (well.few i s at one.old one.was));
+      subst (IsFew (Some rows) s) (one_there news i one.new h one.is f) (one.done.few (well.few i s at one.old one.was));
   each = λ i s at h f.
       let one = one_of p rows olds news a b end well.count has i s at in
       subst (IsWellAt s border) (one_there news i one.new h one.is f) (one.done.keeps border (well.each i s at one.old one.was));
@@ -107,11 +110,14 @@ refill_caught p rows border olds news a b end well has i h f =
     ap (λ (g : Inlet). g.goal) (sym (one_there news i one.new h one.is f)) ∙ one.done.caught
 
 pub refill_well : (p : Program) (rows : ℕ) (border : Option ℕ) (olds news : List Inlet) (a b : Option Contents) (end : Border)
-    → AreWell p rows border olds → HasRefilled p rows olds news a b end → IsWell p rows border (Filled end) news
-refill_well p rows border olds news a b end well has = (
-  refill_keeps p rows border olds news a b end well has,
-  refill_settles p rows border olds news a b end well has,
-  refill_caught p rows border olds news a b end well has,
+    → AreWell p rows border olds → HasRefilled p rows olds news a b end → AreUncounted news → IsWell p rows border (Filled end) news
+refill_well p rows border olds news a b end well has free = (
+  (
+    refill_keeps p rows border olds news a b end well has,
+    refill_settles p rows border olds news a b end well has,
+    refill_caught p rows border olds news a b end well has,
+  ),
+  free,
 )
 
 pub refill_out : (p : Program) (rows : ℕ) (border : Option ℕ) (stage stage' : Stage) (olds news : List Inlet) (a b : Option Contents) (end : Border)
@@ -147,12 +153,16 @@ few_last : (s : Source) (rows : ℕ) (border : Option ℕ) (before more : List N
 few_last s rows border before more few =
     ap (λ (l : List Next). is_enough rows border s (before ++ l)) (sym (take_all (length more) more (omega arith))) ∙ few (length more) (omega arith)
 
-meets_reads : (p : Program) (s : Source) (rows : ℕ) (border : Option ℕ) (before whole now : List Next) (old : HeldSource) (a b : Option Contents)
+meets_reads : (p : Program) (s : Source) (rows : ℕ) (border : Option ℕ) (before whole now : List Next) (old : Inlet) (a b : Option Contents)
     (x y : Contents) (row : ℕ) (why : Why)
-    → (m : MeetsDefect p.kinds s rows border before old a b row why) → a ≡ Some x → b ≡ Some y → whole ≡ before ++ still old x → now ≡ before ++ m.more
+    → (m : MeetsDefect p.kinds s (Some rows) border before old a b row why) → is_some old.held ≡ false → a ≡ Some x → b ≡ Some y
+    → whole ≡ before ++ still (source_of old) x → now ≡ before ++ m.more
     → Reads p.kinds s rows border whole before now (Meets row why)
-meets_reads p s rows border before whole now old a b x y row why m e f all is =
-    let told = at_told (λ was at. (rest : List Next) × (still old was ≡ m.more ++ (m.next ∷ rest))) a b x y e f m.told in
+meets_reads p s rows border before whole now old a b x y row why m free e f all is =
+    let told = at_told (λ was at. (rest : List Next) × (still (source_of old) was ≡ m.more ++ (m.next ∷ rest))) a b x y e f m.told in
+    let line_is = line_defect p.kinds s (before ++ m.more) m.next in
+    let defect : line_is ≡ Some (row, why) =
+    sym (ap (or_else line_is) (never_many old.held s m.more m.next free) ∙ or_none line_is) ∙ m.defect in
     let line : whole ≡ (before ++ m.more) ++ (m.next ∷ told.0) = all ∙ ap (λ (rest : List Next). before ++ rest) told.1
     ∙ sym (append_assoc before m.more (m.next ∷ told.0)) in
     subst (λ l. Reads p.kinds s rows border whole before l (Meets row why)) (sym is) (record {
@@ -160,17 +170,17 @@ meets_reads p s rows border before whole now old a b x y row why m e f all is =
       further = refl;
       sound = m.sound;
       shortest = λ k lt. m.few k (omega (arith, lt));
-      stops = ((m.next, told.0, line, m.defect), few_last s rows border before m.more m.few);
+      stops = ((m.next, told.0, line, defect), few_last s rows border before m.more m.few);
     })
 
 pub refill_fault : (p : Program) (rows : ℕ) (border : Option ℕ) (stage : Stage) (olds : List Inlet) (a b : Option Contents)
     (Q : Contents → Contents → Type 0) (fault : GatherFault) (faults faults' : List ℕ → ℕ) → length olds ≡ length p.sources
-    → WhereTold a b Q → StopsAtSource p rows olds a b faults faults' fault → IsRefillFault (holding p rows border stage olds) a b fault
-refill_fault p rows border stage olds a b Q fault faults faults' count told st =
+    → AreUncounted olds → WhereTold a b Q → StopsAtSource p rows olds a b faults faults' fault → IsRefillFault (holding p rows border stage olds) a b fault
+refill_fault p rows border stage olds a b Q fault faults faults' count free told st =
     subst (IsRefillFault (holding p rows border stage olds) a b) (sym st.cause) (by_stop st.stop st.own)
   where
     by_stop : (stop : Stop) → ((old : Inlet) → slice_get olds (length st.ends) ≡ Some old
-        → IsStopOf p.kinds st.source (first_itag p (length st.ends)) rows old a b stop)
+        → IsStopOf p.kinds st.source (first_itag p (length st.ends)) (Some rows) old a b stop)
         → IsRefillFault (holding p rows border stage olds) a b (fault_of_stop (length st.ends) stop)
     by_stop (Defect row why) own = (
       slice_get_within p.sources (length st.ends) st.source st.is,
@@ -192,7 +202,7 @@ refill_fault p rows border stage olds a b Q fault faults faults' count told st =
               st.source,
               st.is,
               meets_reads p st.source rows border (before (length st.ends)) (whole (length st.ends)) (picked.0 (length st.ends))
-                  (source_of old.0) a b x y row why m e f
+                  old.0 a b x y row why m (free (length st.ends) old.0 old.1) e f
                   (all (length st.ends) (source_of old.0) (to_mapped source_of olds (length st.ends) old.0 old.1))
                   ((picked.1 (length st.ends) st.source st.is).1 refl),
             );
@@ -200,6 +210,9 @@ refill_fault p rows border stage olds a b Q fault faults faults' count told st =
     )
     by_stop ReadFault own = tt
     by_stop NoMemory own = tt
+
+front_more : (before more rest now : List Next) → now ≡ before ++ more → before ++ (more ++ rest) ≡ now ++ rest
+front_more before more rest now is = sym (append_assoc before more rest) ∙ ap (λ (l : List Next). l ++ rest) (sym is)
 
 pub refill_hides : (p : Program) (rows : ℕ) (border : Option ℕ) (stage : Stage) (olds : List Inlet) (a b : Option Contents)
     (Q : Contents → Contents → Type 0) (fault : GatherFault) (faults faults' : List ℕ → ℕ) → length olds ≡ length p.sources
@@ -210,7 +223,7 @@ pub refill_hides : (p : Program) (rows : ℕ) (border : Option ℕ) (stage : Sta
 refill_hides p rows border stage olds a b Q fault faults faults' count forms told st is before behind = by_stop st.stop st.own st.rose (sym st.cause ∙ is)
   where
     by_stop : (stop : Stop) → ((old : Inlet) → slice_get olds (length st.ends) ≡ Some old
-        → IsStopOf p.kinds st.source (first_itag p (length st.ends)) rows old a b stop)
+        → IsStopOf p.kinds st.source (first_itag p (length st.ends)) (Some rows) old a b stop)
         → (stop ≡ ReadFault → Rose (faults st.source.file) (faults' st.source.file))
         → fault_of_stop (length st.ends) stop ≡ ReadFaulty → HidesNoRoundFault (holding p rows border stage olds) a b faults faults' before
     by_stop (Defect row why) own rose e = absurd cc
@@ -246,7 +259,7 @@ refill_hides p rows border stage olds a b Q fault faults faults' count forms tol
             all (length st.ends) (source_of old.0) (to_mapped source_of olds (length st.ends) old.0 old.1)
                 ∙ ap (λ (rest : List Next). before (length st.ends) ++ rest)
                 (at_told (λ was at. still (source_of old.0) was ≡ m.more ++ ahead m.place at) a b x y e f m.told)
-                ∙ sym (append_assoc (before (length st.ends)) m.more (ahead m.place y)) ∙ ap (λ (l : List Next). l ++ ahead m.place y) (sym now_is),
+                ∙ front_more (before (length st.ends)) m.more (ahead m.place y) (picked.0 (length st.ends)) now_is,
           ));
         }
 

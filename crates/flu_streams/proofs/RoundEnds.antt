@@ -127,6 +127,11 @@ timed_lists kinds s first rows (inr (front, is, goes)) =
     ap (lists_of_rows kinds s first) timed ∙ (λ i. map (λ place. sym (items_at-end kinds s first place front) i) (range_with_len 0 (width s)))
     ∙ ap (lists_of_rows kinds s first) (sym is)
 
+-- the lists of lines without a defect are those of their rows with a time
+pub whole_rows : (kinds : List Kind) (s : Source) (first : ℕ) (lines : List Next) → defect_in kinds s lines ≡ None
+    → lists_of_rows kinds s first (rows_between None Closed (rows_of lines)) ≡ lists_of_rows kinds s first (rows_of lines)
+whole_rows kinds s first lines sound = timed_lists kinds s first (rows_of lines) (ends_last kinds s [] lines refl sound)
+
 -- ---- all lines of the sources
 sound_rows : (p : Program) (whole : ℕ → List Next) (left : Contents) → LinesIn p left whole → AtEach (λ i s. defect_in p.kinds s (whole i) ≡ None) p.sources
     → AtEach (λ i s. (rows_of (whole i) ≡ rows_in (form_of p.version) left s) × EndsLast (rows_of (whole i))) p.sources

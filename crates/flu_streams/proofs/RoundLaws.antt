@@ -60,7 +60,7 @@ defect_in-append kinds s read more =
 pub sound_front : (kinds : List Kind) (s : Source) (read more : List Next) → defect_in kinds s (read ++ more) ≡ None → defect_in kinds s read ≡ None
 sound_front kinds s read more e = (or_else-none (defect_in kinds s read) _ (sym (defect_in-append kinds s read more) ∙ e)).0
 
-or_none : {X : Type 0} (a : Option X) → or_else a None ≡ a
+pub or_none : {X : Type 0} (a : Option X) → or_else a None ≡ a
 or_none None = refl
 or_none (Some x) = refl
 

@@ -108,19 +108,22 @@ earliest_among (b ∷ ends) t e = elim (earliest_cases b (earliest ends) t e) [
 ]
 
 -- ---- one source
-reads_of : (kinds : List Kind) (s : Source) (first rows : ℕ) (above : Option ℕ) (whole before : List Next) (old new : HeldSource)
+reads_of : (kinds : List Kind) (s : Source) (first rows : ℕ) (above : Option ℕ) (whole before : List Next) (old new : Inlet)
     (a b : Option Contents) (x y : Contents) (end : Border)
-    → (r : Refills kinds s first rows above before old new a b end) → a ≡ Some x → b ≡ Some y → whole ≡ before ++ still old x
+    → (r : Refills kinds s first (Some rows) above before old new a b end) → a ≡ Some x → b ≡ Some y
+    → whole ≡ before ++ still (source_of old) x
     → Reads kinds s rows above whole before (before ++ r.so_far.more) (turn_of end)
 reads_of kinds s first rows above whole before old new a b x y end r e f all =
     let more = r.so_far.more in
-    let told : still old x ≡ more ++ still new y = at_told (λ was at. still old was ≡ more ++ still new at) a b x y e f r.so_far.told in
-    let line : whole ≡ (before ++ more) ++ still new y = all ∙ ap (λ (rest : List Next). before ++ rest) told ∙ sym (append_assoc before more (still new y)) in
+    let rest = still (source_of new) y in
+    let told : still (source_of old) x ≡ more ++ rest =
+    at_told (λ was at. still (source_of old) was ≡ more ++ still (source_of new) at) a b x y e f r.so_far.told in
+    let line : whole ≡ (before ++ more) ++ rest = all ∙ ap (λ (l : List Next). before ++ l) told ∙ sym (append_assoc before more rest) in
     record { more = more; further = refl; sound = r.so_far.behind.sound; shortest = r.so_far.shortest; stops = stops_of end line r.ends }
   where
-    stops_of : (end : Border) → whole ≡ (before ++ r.so_far.more) ++ still new y → EndsAt s rows above (before ++ r.so_far.more) new end
+    stops_of : (end : Border) → whole ≡ (before ++ r.so_far.more) ++ still (source_of new) y → EndsAt s (Some rows) above (before ++ r.so_far.more) new end
         → StopsAt kinds s rows above whole (before ++ r.so_far.more) (turn_of end)
-    stops_of (At u) line ends = ((still new y, line), ends.0, ends.1)
+    stops_of (At u) line ends = ((still (source_of new) y, line), ends.0, ends.1)
     stops_of Closed line ends =
         (line ∙ ap (λ (rest : List Next). (before ++ r.so_far.more) ++ rest) (rw ends.0 refl) ∙ append-nil (before ++ r.so_far.more), ends.1)
 
@@ -137,7 +140,7 @@ pub record IsReadAt (p : Program) (rows : ℕ) (border : Option ℕ) (before : �
   pub at_end : slice_get ends i ≡ Some end
   pub was : slice_get olds i ≡ Some old
   pub is : slice_get news i ≡ Some new
-  pub reads : Refills p.kinds s (first_itag p i) rows border (before i) (source_of old) (source_of new) a b end
+  pub reads : Refills p.kinds s (first_itag p i) (Some rows) border (before i) old new a b end
   pub now_is : now ≡ before i ++ reads.so_far.more
 
 abbrev pub IsChosen : Program → ℕ → Option ℕ → (ℕ → List Next) → List Inlet → List Inlet → Option Contents → Option Contents → List Border
@@ -171,7 +174,7 @@ pub reads_at : (p : Program) (rows : ℕ) (border : Option ℕ) (before : ℕ �
     → Reads p.kinds s rows border whole (before i) now (turn_of r.end)
 reads_at p rows border before olds news a b ends i s now whole x y r e f all =
     subst (λ l. Reads p.kinds s rows border whole (before i) l (turn_of r.end)) (sym r.now_is)
-    (reads_of p.kinds s (first_itag p i) rows border whole (before i) (source_of r.old) (source_of r.new) a b x y r.end r.reads e f all)
+    (reads_of p.kinds s (first_itag p i) rows border whole (before i) r.old r.new a b x y r.end r.reads e f all)
 
 -- ---- all sources
 abbrev pub holding : Program → ℕ → Option ℕ → Stage → List Inlet → Holding

@@ -19,11 +19,11 @@ use Rattle.flu_streams.specs.declared.border.Border.{Border}
 use Rattle.flu_streams.specs.declared.border.Border.TheVariants.{At, Closed}
 use Rattle.flu_streams.specs.declared.faults.GatherFault.{GatherFault}
 use Rattle.flu_streams.specs.declared.inlet.Inlet.{Inlet}
-use Rattle.flu_streams.specs.declared.source.Stop.{Stop}
-use Rattle.flu_streams.specs.declared.source.Stop.TheVariants.{Defect, ReadFault, NoMemory}
+use Rattle.flu_streams.specs.declared.stop.Stop.{Stop}
+use Rattle.flu_streams.specs.declared.stop.Stop.TheVariants.{Defect, ReadFault, NoMemory}
 use Rattle.flu_streams.specs.Files.{files_of, LeavesOthers}
 use Rattle.flu_streams.specs.Holding.{HeldSource, first_itag, still}
-use Rattle.flu_streams.specs.LoopGathering.{fault_of_stop}
+use Rattle.flu_streams.specs.LoopStop.{fault_of_stop}
 use Rattle.flu_streams.specs.LoopHeld.{source_of, earlier_of, earliest, Refills, IsRefilled, IsStopOf, AreRefilled, StopsAtSource}
 use Rattle.flu_streams.proofs.Gatherings.{still_out, files_more, leaves_more, leaves_wider}
 use Rattle.flu_streams.proofs.Turns.{IsTurn}
@@ -44,7 +44,7 @@ read_out_before names name None (Some y) others apart out = absurd others
 read_out_before names name (Some x) None others apart out = absurd others
 read_out_before names name (Some x) (Some y) others apart out = others name apart ∙ out
 
-refills_later : (kinds : List Kind) (s : Source) (first rows : ℕ) (above : Option ℕ) (before : List Next) (old new : HeldSource) (name : List ℕ)
+refills_later : (kinds : List Kind) (s : Source) (first : ℕ) (rows above : Option ℕ) (before : List Next) (old new : Inlet) (name : List ℕ)
     (a b c : Option Contents) (end : Border) → s.file ≢ name
     → WhereTold b c (TakesFrom name) → Refills kinds s first rows above before old new a b end → Refills kinds s first rows above before old new a c end
 refills_later kinds s first rows above before old new name a b c end ne taken r =
@@ -54,14 +54,17 @@ refills_later kinds s first rows above before old new name a b c end ne taken r 
         more = f.more;
         behind = f.behind;
         shortest = f.shortest;
-        told = told_then (λ was at. still old was ≡ f.more ++ still new at) (TakesFrom name) (λ was at. still old was ≡ f.more ++ still new at) a b c
-            (λ x y z p q. p ∙ ap (λ (rest : List Next). f.more ++ rest) (sym (still_apart new name y z (λ e. ne (sym f.behind.file ∙ e)) q))) f.told taken;
+        held = f.held;
+        told = told_then (λ was at. still (source_of old) was ≡ f.more ++ still (source_of new) at) (TakesFrom name)
+            (λ was at. still (source_of old) was ≡ f.more ++ still (source_of new) at) a b c
+            (λ x y z p q. p ∙ ap (λ (rest : List Next). f.more ++ rest) (sym (still_apart (source_of new) name y z (λ e. ne (sym f.behind.file ∙ e)) q)))
+            f.told taken;
       };
       ends = r.ends;
     }
 
-refilled_later : (kinds : List Kind) (s : Source) (first rows : ℕ) (old new : Inlet) (name : List ℕ) (a b c : Option Contents) (end : Border) → s.file ≢ name
-    → WhereTold b c (TakesFrom name) → IsRefilled kinds s first rows old new a b end → IsRefilled kinds s first rows old new a c end
+refilled_later : (kinds : List Kind) (s : Source) (first : ℕ) (rows : Option ℕ) (old new : Inlet) (name : List ℕ) (a b c : Option Contents) (end : Border)
+    → s.file ≢ name → WhereTold b c (TakesFrom name) → IsRefilled kinds s first rows old new a b end → IsRefilled kinds s first rows old new a c end
 refilled_later kinds s first rows old new name a b c end ne taken r = record {
   form = r.form;
   keeps = r.keeps;
@@ -70,7 +73,7 @@ refilled_later kinds s first rows old new name a b c end ne taken r = record {
   border = r.border;
   turn = r.turn;
   out = λ was closed. still_out name s.file b c taken ne (r.out was closed);
-  reads = λ above before is. refills_later kinds s first rows above before (source_of old) (source_of new) name a b c end ne taken (r.reads above before is);
+  reads = λ above before is. refills_later kinds s first rows above before old new name a b c end ne taken (r.reads above before is);
 }
 
 told_before : (old : HeldSource) (names : List (List ℕ)) (P : List Next → Contents → Type 0) (a b c : Option Contents)
@@ -80,7 +83,7 @@ told_before old names P a b c apart others told =
     told_then (LeavesOthers names) (λ was at. P (still old was) at) (λ was at. P (still old was) at) a b c
     (λ x y z p q. subst (λ l. P l z) (still_before old names x y apart p) q) others told
 
-pub refilled_earlier : (kinds : List Kind) (s : Source) (first rows : ℕ) (old new : Inlet) (names : List (List ℕ)) (a b c : Option Contents)
+pub refilled_earlier : (kinds : List Kind) (s : Source) (first : ℕ) (rows : Option ℕ) (old new : Inlet) (names : List (List ℕ)) (a b c : Option Contents)
     (end : Border) → (Contains names s.file → ⊥)
     → WhereTold a b (LeavesOthers names) → IsRefilled kinds s first rows old new b c end → IsRefilled kinds s first rows old new a c end
 refilled_earlier kinds s first rows old new names a b c end apart others r = record {
@@ -99,6 +102,7 @@ refilled_earlier kinds s first rows old new names a b c end apart others r = rec
           more = f.more;
           behind = f.behind;
           shortest = f.shortest;
+          held = f.held;
           told = told_before (source_of old) names (λ l at. l ≡ f.more ++ still (source_of new) at) a b c
               (subst (λ n. Contains names n → ⊥) (sym is.file) apart) others f.told;
         };
@@ -106,7 +110,7 @@ refilled_earlier kinds s first rows old new names a b c end apart others r = rec
       };
 }
 
-pub stop_earlier : (kinds : List Kind) (s : Source) (first rows : ℕ) (old : Inlet) (names : List (List ℕ)) (a b c : Option Contents) (stop : Stop)
+pub stop_earlier : (kinds : List Kind) (s : Source) (first : ℕ) (rows : Option ℕ) (old : Inlet) (names : List (List ℕ)) (a b c : Option Contents) (stop : Stop)
     → (Contains names s.file → ⊥)
     → WhereTold a b (LeavesOthers names) → IsStopOf kinds s first rows old b c stop → IsStopOf kinds s first rows old a c stop
 stop_earlier kinds s first rows old names a b c (Defect row why) apart others r = λ above before is.
@@ -116,6 +120,7 @@ stop_earlier kinds s first rows old names a b c (Defect row why) apart others r 
       next = k.next;
       sound = k.sound;
       few = k.few;
+      fits = k.fits;
       defect = k.defect;
       told = told_before (source_of old) names (λ l at. (rest : List Next) × (l ≡ k.more ++ (k.next ∷ rest))) a b c
           (subst (λ n. Contains names n → ⊥) (sym is.file) apart) others k.told;
@@ -127,6 +132,7 @@ stop_earlier kinds s first rows old names a b c ReadFault apart others r = λ ab
       place = k.place;
       sound = k.sound;
       few = k.few;
+      fits = k.fits;
       form = k.form;
       file = k.file;
       undecided = k.undecided;
@@ -174,14 +180,15 @@ refilled_still p rows i s olds news a b c ends turn count taken all = record {
   size = all.size;
   each = λ j t at end old new here was is.
       let lt : j < i = omega (arith, slice_get_within ends j end here, count) in
-      refilled_later p.kinds t (first_itag p j) rows old new s.file a b c end (apart_file p i j s t turn at lt) taken (all.each j t at end old new here was is);
+      refilled_later p.kinds t (first_itag p j) (Some rows) old new s.file a b c end (apart_file p i j s t turn at lt) taken
+      (all.each j t at end old new here was is);
 }
 
 pub refilled_more : (p : Program) (rows i : ℕ) (s : Source) (olds news : List Inlet) (old new : Inlet) (a b c : Option Contents) (ends : List Border)
     (end : Border) → IsTurn p i s → length ends ≡ i
     → slice_get p.sources i ≡ Some s → slice_get olds i ≡ Some old → WhereTold a b (LeavesOthers (files_of (take i p.sources)))
     → WhereTold b c (TakesFrom s.file)
-    → AreRefilled p rows olds news a b ends → IsRefilled p.kinds s (first_itag p i) rows old new b c end
+    → AreRefilled p rows olds news a b ends → IsRefilled p.kinds s (first_itag p i) (Some rows) old new b c end
     → AreRefilled p rows olds (set news i new) a c (ends ++ end ∷ [])
 refilled_more p rows i s olds news old new a b c ends end turn count at was others taken all one =
     let still_all = refilled_still p rows i s olds news a b c ends turn count taken all in
@@ -197,7 +204,7 @@ refilled_more p rows i s olds news old new a b c ends end turn count at was othe
             let t_is : s ≡ t = one_at (sym at ∙ ap (slice_get p.sources) (sym here_i) ∙ here) in
             let o_is : old ≡ o = one_at (sym was ∙ ap (slice_get olds) (sym here_i) ∙ was_old) in
             let n_is : n ≡ new = set_here news i new n (ap (slice_get (set news i new)) (sym here_i) ∙ is_new) in
-            let k = refilled_earlier p.kinds s (first_itag p i) rows old new (files_of (take i p.sources)) a b c end turn.apart others one in
+            let k = refilled_earlier p.kinds s (first_itag p i) (Some rows) old new (files_of (take i p.sources)) a b c end turn.apart others one in
             rw (here_i, ← t_is, ← o_is, n_is, ← last.1) k
       ];
     }
@@ -233,7 +240,7 @@ pub stops_at : (p : Program) (rows i : ℕ) (s : Source) (olds news : List Inlet
     (stop : Stop) (fault : GatherFault) (faults faults' : List ℕ → ℕ) → IsTurn p i s → length ends ≡ i
     → slice_get p.sources i ≡ Some s → slice_get olds i ≡ Some mid → WhereTold a b (LeavesOthers (files_of (take i p.sources)))
     → WhereTold b c (TakesFrom s.file)
-    → AreRefilled p rows olds news a b ends → IsStopOf p.kinds s (first_itag p i) rows mid b c stop → fault ≡ fault_of_stop i stop
+    → AreRefilled p rows olds news a b ends → IsStopOf p.kinds s (first_itag p i) (Some rows) mid b c stop → fault ≡ fault_of_stop i stop
     → (stop ≡ ReadFault → Rose (faults s.file) (faults' s.file)) → StopsAtSource p rows olds a c faults faults' fault
 stops_at p rows i s olds news mid a b c ends stop fault faults faults' turn count at was others taken all one is rose = record {
   ends = ends;
@@ -246,9 +253,9 @@ stops_at p rows i s olds news mid a b c ends stop fault faults faults' turn coun
   rose = rose;
   own = λ old e.
       let same : mid ≡ old = same_one (sym was ∙ ap (slice_get olds) (sym count) ∙ e) in
-      subst (λ n. IsStopOf p.kinds s (first_itag p n) rows old a c stop) (sym count)
-      (subst (λ h. IsStopOf p.kinds s (first_itag p i) rows h a c stop) same
-      (stop_earlier p.kinds s (first_itag p i) rows mid (files_of (take i p.sources)) a b c stop turn.apart others one));
+      subst (λ n. IsStopOf p.kinds s (first_itag p n) (Some rows) old a c stop) (sym count)
+      (subst (λ h. IsStopOf p.kinds s (first_itag p i) (Some rows) h a c stop) same
+      (stop_earlier p.kinds s (first_itag p i) (Some rows) mid (files_of (take i p.sources)) a b c stop turn.apart others one));
 }
   where
     same_one : {X : Type 0} {x y : X} → Some x ≡ Some y → x ≡ y

@@ -7,9 +7,11 @@ use Rattle.std.proofs.lemmas.List.{length-map}
 use Rattle.std.proofs.lemmas.Option.{slice_get-map, slice_get_within}
 use Rattle.flu_lemmas.proofs.Mapped.{from_mapped}
 use Rattle.flu_lemmas.proofs.Places.{slice_get-there}
+use Rattle.flu_model.specs.declared.jobs.Kind.{Kind}
 use Rattle.flu_model.specs.declared.jobs.Source.{Source}
 use Rattle.flu_model.specs.declared.jobs.Program.{Program}
 use Rattle.flu_outside.specs.Taking.{IsReadOut}
+use Rattle.flu_rows.specs.declared.row.RowForm.{RowForm}
 use Rattle.flu_rows.specs.Row.{form_of}
 use Rattle.flu_streams.specs.Files.{files_of}
 use Rattle.flu_streams.specs.Holding.{HeldSource, IsHeldBehind, unread_source, first_itag, still, LawOfStart, LawOfEnds}
@@ -27,9 +29,9 @@ among (y ∷ xs) x (zero, lt, e) = (zero, ap Some e)
 among (y ∷ xs) x (suc k, lt, e) = let rest = among xs x (k, omega (arith, lt), e) in (suc rest.0, rest.1)
 
 -- ---- the start
-fresh_behind : (p : Program) (border : Option ℕ) (i : ℕ) (s : Source) (source : HeldSource) → source ≡ unread_source (form_of p.version) border s
-    → IsHeldBehind p.kinds (first_itag p i) s border [] source
-fresh_behind p border i s source is = subst (λ h. IsHeldBehind p.kinds (first_itag p i) s border [] h) (sym is) (record {
+pub fresh_behind : (form : RowForm) (kinds : List Kind) (first : ℕ) (border : Option ℕ) (s : Source) (source : HeldSource)
+    → source ≡ unread_source form border s → IsHeldBehind kinds first s border [] source
+fresh_behind form kinds first border s source is = subst (λ h. IsHeldBehind kinds first s border [] h) (sym is) (record {
   file = refl;
   sound = refl;
   low = None;
@@ -54,7 +56,7 @@ pub law_of_start : LawOfStart
 law_of_start p rows border = record {
   behind = record {
     count = length-map p.sources (unread_source (form_of p.version) border);
-    each = λ i s source e f. fresh_behind p border i s source (fresh_at p border i s source e f);
+    each = λ i s source e f. fresh_behind (form_of p.version) p.kinds (first_itag p i) border s source (fresh_at p border i s source e f);
   };
   all = λ left whole lines i source f.
       let k = from_mapped (unread_source (form_of p.version) border) p.sources i source f in

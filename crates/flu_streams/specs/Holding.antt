@@ -1,15 +1,18 @@
 -- What is held of the sources between rounds, and after which lines it is held (`docs/MODEL.md`, "Rounds").
 use Rattle.std.specs.Prelude.{◌≡◌, ℕ, ◌+◌, ◌<◌, ◌≤◌, ◌^◌, Bool, true, false, Result, Ok, Option, Some, None, List, [], ◌++◌, length, map, take, slice_get, sum_by}
-use Rattle.std.specs.Prelude.{if◌then◌else◌, ⊤}
+use Rattle.std.specs.Prelude.{if◌then◌else◌, unwrap_or, ⊤}
 use Rattle.std.specs.List.{All}
 use Rattle.flu_lemmas.specs.Elements.{AtEach}
 use Rattle.flu_model.specs.declared.events.Item.{Item}
+use Rattle.flu_model.specs.declared.events.Item.TheVariants.{Event as EventItem, Beat as BeatItem, End as EndItem}
 use Rattle.flu_model.specs.declared.jobs.Kind.{Kind}
 use Rattle.flu_model.specs.declared.jobs.Source.{Source}
 use Rattle.flu_model.specs.declared.jobs.Program.{Program}
 use Rattle.flu_model.specs.Itags.{count_of_itags}
 use Rattle.flu_outside.specs.Outside.{Contents, WhereTold, Rose}
 use Rattle.flu_outside.specs.Taking.{IsReadOut}
+use Rattle.flu_rows.specs.declared.row.Row.{Row}
+use Rattle.flu_rows.specs.declared.row.Row.TheVariants.{Event, Beat, End}
 use Rattle.flu_rows.specs.declared.row.RowForm.{RowForm}
 use Rattle.flu_rows.specs.declared.rows.Next.{Next}
 use Rattle.flu_rows.specs.Row.{form_of}
@@ -22,10 +25,9 @@ use Rattle.flu_streams.specs.declared.faults.GatherFault.TheVariants.{Source as 
 use Rattle.flu_streams.specs.declared.held.Stage.{Stage}
 use Rattle.flu_streams.specs.declared.held.Stage.TheVariants.{Filling, Filled, Over}
 use Rattle.flu_streams.specs.Files.{files_of, AreReadOut}
-use Rattle.flu_streams.specs.Good.{in_time_order}
-use Rattle.flu_streams.specs.LoopIntake.{item_of}
+use Rattle.flu_streams.specs.Good.{event_of, in_time_order}
 use Rattle.flu_streams.specs.Rounds.{Turn, Reads, IsPassed, IsRound, IsRoundFault, LinesIn, defect_in, is_above, is_enough, rows_between, settled_time}
-use Rattle.flu_streams.specs.Tags.{width}
+use Rattle.flu_streams.specs.Tags.{place_named, given_to, width}
 use Rattle.flu_streams.specs.Tests.{rows_of, times_of, greatest, has_ended}
 
 -- ---- what is held
@@ -64,6 +66,13 @@ fresh p rows = unread p rows None
 -- the number of the first itag of the source with a number
 abbrev pub first_itag : Program → ℕ → ℕ
 first_itag p number = sum_by width (take number p.sources)
+
+-- the item that a row is; for an event of a tag that the source does not list, its itag is none of the source's
+abbrev pub item_of : List Kind → Source → ℕ → Row → Item
+item_of kinds s first (Event time name key fields) =
+    EventItem (event_of time (first + unwrap_or (place_named kinds s name key) (width s)) (given_to kinds name fields))
+item_of kinds s first (Beat time) = BeatItem time
+item_of kinds s first End = EndItem
 
 -- a border is not above another
 abbrev pub IsUpTo : Option ℕ → Option ℕ → Type 0

@@ -5,8 +5,7 @@ pub mod Good
 pub mod Faults
 pub mod Files
 pub mod Lists
-pub mod LoopIntake
-pub mod LoopSource
+pub mod LoopStop
 pub mod LoopGathering
 pub mod Borders
 pub mod Rounds

@@ -1,4 +1,4 @@
--- How sources are read, one after another.
+-- How sources are read whole, one after another.
 use Rattle.std.specs.Prelude.{◌≡◌, ℕ, ◌+◌, true, Option, Some, None, List, [], ◌++◌, sum_by, vec_len, ⊤}
 use Rattle.std.specs.List.{flat_map}
 use Rattle.flu_model.specs.declared.jobs.Kind.{Kind}
@@ -8,15 +8,15 @@ use Rattle.flu_model.specs.Streaming.{are_streams}
 use Rattle.flu_outside.specs.Outside.{Contents, WhereTold}
 use Rattle.flu_rows.specs.declared.row.RowForm.{RowForm}
 use Rattle.flu_rows.specs.declared.rows.Next.{Next}
+use Rattle.flu_rows.specs.Lines.{IsUndecided}
+use Rattle.flu_rows.specs.Reading.{Place, ahead}
 use Rattle.flu_outside.specs.Taking.{bytes_left}
 use Rattle.flu_streams.specs.declared.faults.GatherFault.{GatherFault}
 use Rattle.flu_streams.specs.declared.faults.GatherFault.TheVariants.{Source as SourceFaulty, ReadFault, NoMemory}
 use Rattle.flu_streams.specs.declared.gathered.Gathered.{Gathered}
-use Rattle.flu_streams.specs.declared.source.Stop.{Stop}
-use Rattle.flu_streams.specs.declared.source.Stop.TheVariants.{Defect, ReadFault as ReadStop, NoMemory as NoMemoryStop}
 use Rattle.flu_streams.specs.Before.{each_with_before, first_some}
 use Rattle.flu_streams.specs.Tags.{width}
-use Rattle.flu_streams.specs.Tests.{rows_of, has_ended, items_of, first_of, first_defect}
+use Rattle.flu_streams.specs.Tests.{rows_of, items_of, first_of, first_defect}
 use Rattle.flu_streams.specs.Good.{rows_in, items_held, fault_of_source, lists_of_rows}
 use Rattle.flu_streams.specs.Lists.{lists_in}
 use Rattle.flu_streams.specs.Faults.{WasRead}
@@ -26,7 +26,6 @@ use Rattle.flu_streams.specs.Files.{files_of, LeavesOthers}
 pub record AddsSource (form : RowForm) (kinds : List Kind) (s : Source) (left left' : Option Contents) (old new : Gathered) : Type 0 where
   pub read : List Next
   pub passes : first_of kinds s old.held read ≡ None
-  pub ended : has_ended (rows_of read) ≡ true
   pub told : WhereTold left left' (λ was now. WasRead form s read [] was)
   pub lists : lists_in new.lists ≡ lists_in old.lists ++ lists_of_rows kinds s (vec_len old.lists) (rows_of read)
   pub streams : are_streams (vec_len old.lists) (lists_of_rows kinds s (vec_len old.lists) (rows_of read)) ≡ true
@@ -34,17 +33,22 @@ pub record AddsSource (form : RowForm) (kinds : List Kind) (s : Source) (left le
   pub held : new.held ≡ old.held + items_of (width s) (rows_of read)
   pub number : new.number ≡ old.number + 1
 
-abbrev pub fault_of_stop : ℕ → Stop → GatherFault
-fault_of_stop number (Defect row why) = SourceFaulty (record { source = number; row = row; why = why })
-fault_of_stop number ReadStop = ReadFault
-fault_of_stop number NoMemoryStop = NoMemory
-
 -- a fault of a source is this one's, by its first defect
 abbrev pub IsFaultOf : RowForm → List Kind → Source → ℕ → ℕ → Option Contents → Option Contents → GatherFault → Type 0
 IsFaultOf form kinds s number held left left' (SourceFaulty f) =
     (f.source ≡ number) × WhereTold left left' (λ was now. first_defect form kinds s held (bytes_left was s.file) ≡ Some (f.row, f.why))
 IsFaultOf form kinds s number held left left' ReadFault = ⊤
 IsFaultOf form kinds s number held left left' NoMemory = ⊤
+
+-- the reading of a source stops after rows without a defect, and whatever else was taken of it decides nothing
+pub record HidesNoDefect (form : RowForm) (kinds : List Kind) (s : Source) (before : ℕ) (old new : Option Contents) : Type 0 where
+  pub read : List Next
+  pub place : Place
+  pub form_is : place.form ≡ form
+  pub file : place.file ≡ s.file
+  pub passes : first_of kinds s before read ≡ None
+  pub undecided : IsUndecided place.taken
+  pub told : WhereTold old new (λ was now. WasRead form s read (ahead place now) was)
 
 -- the lists of some sources that come first
 abbrev pub lists_of_sources : RowForm → List Kind → Contents → List Source → List (List Item)

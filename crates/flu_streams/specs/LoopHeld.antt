@@ -1,6 +1,6 @@
--- What is held of one source, and how it is read in a round.
+-- What is held of one source, and how it is read in a round, or whole.
 use Rattle.std.specs.Prelude.{◌≡◌, ℕ, ◌+◌, ◌<◌, ◌≤◌, max, min, true, false, ◌||◌, nat_lt, nat_le, Option, Some, None, option_and_then, unwrap_or, List, [], ◌∷◌}
-use Rattle.std.specs.Prelude.{◌++◌, length, take, slice_get, if◌then◌else◌, ⊤}
+use Rattle.std.specs.Prelude.{◌++◌, length, take, slice_get, if◌then◌else◌, ⊤, Bool, is_some, option_map}
 use Rattle.std.specs.List.{filter, list_all}
 use Rattle.flu_lemmas.specs.Elements.{AtEach}
 use Rattle.flu_lemmas.specs.Late.{put_late}
@@ -12,6 +12,7 @@ use Rattle.flu_outside.specs.Outside.{Contents, WhereTold, Rose}
 use Rattle.flu_outside.specs.Taking.{IsReadOut}
 use Rattle.flu_rows.specs.declared.row.Row.{Row}
 use Rattle.flu_rows.specs.declared.rows.Next.{Next}
+use Rattle.flu_rows.specs.declared.rows.Next.TheVariants.{Row as RowNext, Bad, TooManyLines, Done}
 use Rattle.flu_rows.specs.Lines.{IsUndecided}
 use Rattle.flu_rows.specs.Row.{form_of}
 use Rattle.flu_rows.specs.Reading.{Place, ahead}
@@ -19,19 +20,19 @@ use Rattle.flu_streams.specs.declared.border.Border.{Border}
 use Rattle.flu_streams.specs.declared.border.Border.TheVariants.{At, Closed}
 use Rattle.flu_streams.specs.declared.faults.GatherFault.{GatherFault}
 use Rattle.flu_streams.specs.declared.faults.Why.{Why}
-use Rattle.flu_streams.specs.declared.faults.Why.TheVariants.{AfterEnd}
+use Rattle.flu_streams.specs.declared.faults.Why.TheVariants.{AfterEnd, TooMany}
 use Rattle.flu_streams.specs.declared.held.Stage.{Stage}
 use Rattle.flu_streams.specs.declared.held.Stage.TheVariants.{Filling, Filled, Over}
 use Rattle.flu_streams.specs.declared.inlet.Inlet.{Inlet}
-use Rattle.flu_streams.specs.declared.source.Stop.{Stop}
-use Rattle.flu_streams.specs.declared.source.Stop.TheVariants.{Defect, ReadFault, NoMemory}
-use Rattle.flu_streams.specs.Before.{first_some}
-use Rattle.flu_streams.specs.Holding.{HeldSource, IsHeldBehind, IsNewBorder, first_itag, still}
+use Rattle.flu_streams.specs.declared.stop.Stop.{Stop}
+use Rattle.flu_streams.specs.declared.stop.Stop.TheVariants.{Defect, ReadFault, NoMemory}
+use Rattle.flu_streams.specs.Before.{first_some, or_else}
+use Rattle.flu_streams.specs.Holding.{HeldSource, IsHeldBehind, IsNewBorder, first_itag, item_of, still}
 use Rattle.flu_streams.specs.Lists.{item_time, times_in}
-use Rattle.flu_streams.specs.LoopGathering.{fault_of_stop}
-use Rattle.flu_streams.specs.LoopIntake.{item_of}
+use Rattle.flu_streams.specs.LoopStop.{fault_of_stop}
 use Rattle.flu_streams.specs.Rounds.{defect_in, line_defect, is_above, is_up_to, is_enough, settled, settled_time}
-use Rattle.flu_streams.specs.Tests.{is_end, time_in, where_true, test_tag, test_fields, test_behind}
+use Rattle.flu_streams.specs.Tags.{width}
+use Rattle.flu_streams.specs.Tests.{rows_of, is_end, time_in, items_in, items_of, where_true, test_tag, test_fields, test_behind}
 
 -- what contracts see of it
 abbrev pub source_of : Inlet → HeldSource
@@ -54,13 +55,23 @@ without (Some goal) found = None
 abbrev pub enough_in : ℕ → ℕ → HeldSource → Option ℕ
 enough_in rows slack h = without h.goal (enough_of rows slack h.last h.items)
 
+-- the same where no number is given: then nothing is enough
+abbrev pub enough_for : Option ℕ → ℕ → HeldSource → Option ℕ
+enough_for None slack h = None
+enough_for (Some rows) slack h = enough_in rows slack h
+
+-- whether these lines are enough
+abbrev pub are_enough : Option ℕ → Option ℕ → Source → List Next → Bool
+are_enough None above s lines = false
+are_enough (Some rows) above s lines = is_enough rows above s lines
+
 -- a border that is still to be reached is not settled
 abbrev pub IsBefore : ℕ → HeldSource → Type 0
 IsBefore slack h = (t u : ℕ) → h.goal ≡ Some t → settled slack h.last ≡ Some u → u < t
 
 -- what is held is not enough
-abbrev pub IsShort : ℕ → Source → HeldSource → Type 0
-IsShort rows s h = (enough_in rows s.slack h ≡ None) × IsBefore s.slack h
+abbrev pub IsShort : Option ℕ → Source → HeldSource → Type 0
+IsShort rows s h = (enough_for rows s.slack h ≡ None) × IsBefore s.slack h
 
 -- ---- how many items are held
 -- how many are of the run: those above the border that is still to be reached, and all if there is none
@@ -68,12 +79,35 @@ abbrev pub count_above : Option ℕ → List Item → ℕ
 count_above goal items = length (filter (λ item. is_above goal (item_time item)) items)
 
 -- as many as a round needs, and one for each time within the slack
-abbrev pub IsFew : ℕ → Source → Inlet → Type 0
-IsFew rows s h = count_above h.goal h.items ≤ rows + s.slack
+abbrev pub IsFew : Option ℕ → Source → Inlet → Type 0
+IsFew None s h = ⊤
+IsFew (Some rows) s h = count_above h.goal h.items ≤ rows + s.slack
 
 -- of a source whose border is still to be reached, one more item may be held
 abbrev pub HasRoom : Inlet → Type 0
 HasRoom h = (t : ℕ) → h.goal ≡ Some t → length h.items < 64096
+
+-- how many are held with some more, where they are counted
+abbrev pub held_with : Option ℕ → ℕ → Option ℕ
+held_with None more = None
+held_with (Some held) more = Some (held + more)
+
+-- the test of that many
+abbrev pub test_held : Option ℕ → ℕ → Option Why
+test_held None more = None
+test_held (Some held) more = where_true (nat_lt 16777216 (held + more)) (TooMany 16777217)
+
+-- the defect of a line by that test, after these lines of the source
+abbrev pub too_many : Option ℕ → Source → List Next → Next → Option (ℕ × Why)
+too_many held s read (RowNext line row) =
+    option_map (λ why. (line, why)) (test_held held (items_of (width s) (rows_of read) + items_in (width s) row))
+too_many held s read (Bad line) = None
+too_many held s read TooManyLines = None
+too_many held s read (Done lines) = None
+
+-- there are no more than may be held, where they are counted
+abbrev pub Fits : Option ℕ → Source → List Next → Type 0
+Fits held s read = (n : ℕ) → held ≡ Some n → n + items_of (width s) (rows_of read) ≤ 16777216
 
 -- ---- a row
 -- the test of a time after these items, with this as the greatest time that was read
@@ -81,11 +115,18 @@ abbrev pub test_late : ℕ → List ℕ → Option ℕ → Option ℕ → Option
 test_late slack times last None = None
 test_late slack times last (Some time) = test_behind slack times last time
 
+-- the tests of a row after these items, except the one on how many are held
+abbrev pub tests_behind : List Kind → Source → Inlet → Row → List (Option Why)
+tests_behind kinds s h row =
+    where_true h.ended AfterEnd ∷ test_tag kinds s row ∷ test_fields kinds row ∷ test_late s.slack (times_in h.items) h.last (time_in row) ∷ []
+
 -- which rule a row breaks after these items
 abbrev pub fault_behind : List Kind → Source → Inlet → Row → Option Why
-fault_behind kinds s h row =
-    first_some (λ test. test) (where_true h.ended AfterEnd ∷ test_tag kinds s row ∷ test_fields kinds row ∷ test_late s.slack (times_in h.items) h.last
-    (time_in row) ∷ [])
+fault_behind kinds s h row = first_some (λ test. test) (tests_behind kinds s h row ++ test_held h.held (items_in (width s) row) ∷ [])
+
+-- which rule an item breaks at a time, if it counts as this many
+abbrev pub fault_at : ℕ → List ℕ → Option ℕ → Option ℕ → ℕ → ℕ → Option Why
+fault_at slack times last held time count = first_some (λ test. test) (test_late slack times last (Some time) ∷ test_held held count ∷ [])
 
 -- an event or a heartbeat is put where its time belongs, and the end is not held
 abbrev pub put_timed : Option ℕ → Item → List Item → List Item
@@ -105,15 +146,17 @@ pub record PutsIn (kinds : List Kind) (s : Source) (first : ℕ) (row : Row) (ol
   pub ended : new.ended ≡ (old.ended || is_end row)
   pub closed : new.closed ≡ old.closed
   pub goal : new.goal ≡ old.goal
+  pub held : new.held ≡ held_with old.held (items_in (width s) row)
 
--- an item is put where its time belongs
-pub record PutsItem (item : Item) (old new : Inlet) : Type 0 where
+-- an item, which counts as this many, is put where its time belongs
+pub record PutsItem (item : Item) (count : ℕ) (old new : Inlet) : Type 0 where
   pub items : new.items ≡ put_late item_time item old.items
   pub rows : new.rows ≡ old.rows
   pub last : new.last ≡ Some (max (unwrap_or old.last 0) (item_time item))
   pub ended : new.ended ≡ old.ended
   pub closed : new.closed ≡ old.closed
   pub goal : new.goal ≡ old.goal
+  pub held : new.held ≡ held_with old.held count
 
 -- ---- what holds between rounds
 -- if more is to be read, a border is settled
@@ -132,7 +175,7 @@ pub record AreWell (p : Program) (rows : ℕ) (border : Option ℕ) (inlets : Li
   pub most : rows ≤ 4096
   pub count : length inlets ≡ length p.sources
   pub forms : AtEach (λ i h. h.rows.form ≡ form_of p.version) inlets
-  pub few : AtEach (λ i s. (h : Inlet) → slice_get inlets i ≡ Some h → IsFew rows s h) p.sources
+  pub few : AtEach (λ i s. (h : Inlet) → slice_get inlets i ≡ Some h → IsFew (Some rows) s h) p.sources
   pub each : AtEach (λ i s. (h : Inlet) → slice_get inlets i ≡ Some h → IsWellAt s border h) p.sources
 
 -- a new border is above the last one, and settled
@@ -144,11 +187,18 @@ IsSettledBy p border Closed inlets = ⊤
 abbrev pub AreCaughtUp : List Inlet → Type 0
 AreCaughtUp inlets = (i : ℕ) (h : Inlet) → slice_get inlets i ≡ Some h → h.goal ≡ None
 
+-- of no source the items are counted: a round holds few
+abbrev pub AreUncounted : List Inlet → Type 0
+AreUncounted inlets = AtEach (λ i h. is_some h.held ≡ false) inlets
+
 -- nothing more is required after a call that failed
+abbrev pub IsWellIn : Program → ℕ → Option ℕ → Stage → List Inlet → Type 0
+IsWellIn p rows border Filling inlets = AreWell p rows border inlets
+IsWellIn p rows border (Filled b) inlets = AreWell p rows border inlets × IsSettledBy p border b inlets × AreCaughtUp inlets
+IsWellIn p rows border Over inlets = ⊤
+
 abbrev pub IsWell : Program → ℕ → Option ℕ → Stage → List Inlet → Type 0
-IsWell p rows border Filling inlets = AreWell p rows border inlets
-IsWell p rows border (Filled b) inlets = AreWell p rows border inlets × IsSettledBy p border b inlets × AreCaughtUp inlets
-IsWell p rows border Over inlets = ⊤
+IsWell p rows border stage inlets = IsWellIn p rows border stage inlets × AreUncounted inlets
 
 -- ---- the earliest border
 abbrev pub earlier_of : Border → Border → Border
@@ -174,6 +224,7 @@ pub record CatchesUp (slack : ℕ) (old new : Inlet) : Type 0 where
   pub last : new.last ≡ old.last
   pub ended : new.ended ≡ old.ended
   pub closed : new.closed ≡ old.closed
+  pub held : new.held ≡ old.held
   pub items : IsCaughtUp slack old new
   pub before : IsBefore slack (source_of new)
   pub shut : new.closed ≡ true → new.goal ≡ None
@@ -181,19 +232,20 @@ pub record CatchesUp (slack : ℕ) (old new : Inlet) : Type 0 where
 
 -- ---- one source in a refill
 -- what more was read of a source, after these lines: before its last line they were not enough
-pub record IsRefilling (kinds : List Kind) (s : Source) (first rows : ℕ) (above : Option ℕ) (before : List Next) (old new : HeldSource)
+pub record IsRefilling (kinds : List Kind) (s : Source) (first : ℕ) (rows above : Option ℕ) (before : List Next) (old new : Inlet)
     (left left' : Option Contents) : Type 0 where
   pub more : List Next
-  pub behind : IsHeldBehind kinds first s above (before ++ more) new
-  pub shortest : (k : ℕ) → k < length more → is_enough rows above s (before ++ take k more) ≡ false
-  pub told : WhereTold left left' (λ was is. still old was ≡ more ++ still new is)
+  pub behind : IsHeldBehind kinds first s above (before ++ more) (source_of new)
+  pub shortest : (k : ℕ) → k < length more → are_enough rows above s (before ++ take k more) ≡ false
+  pub held : new.held ≡ held_with old.held (items_of (width s) (rows_of more))
+  pub told : WhereTold left left' (λ was is. still (source_of old) was ≡ more ++ still (source_of new) is)
 
 -- where the reading stops: the rows are enough, up to this time; or the source is closed
-abbrev pub EndsAt : Source → ℕ → Option ℕ → List Next → HeldSource → Border → Type 0
-EndsAt s rows above now new (At u) = (is_enough rows above s now ≡ true) × (settled_time s now ≡ Some u)
-EndsAt s rows above now new Closed = (new.closed ≡ true) × (is_enough rows above s now ≡ false)
+abbrev pub EndsAt : Source → Option ℕ → Option ℕ → List Next → Inlet → Border → Type 0
+EndsAt s rows above now new (At u) = (are_enough rows above s now ≡ true) × (settled_time s now ≡ Some u)
+EndsAt s rows above now new Closed = (new.closed ≡ true) × (are_enough rows above s now ≡ false)
 
-pub record Refills (kinds : List Kind) (s : Source) (first rows : ℕ) (above : Option ℕ) (before : List Next) (old new : HeldSource)
+pub record Refills (kinds : List Kind) (s : Source) (first : ℕ) (rows above : Option ℕ) (before : List Next) (old new : Inlet)
     (left left' : Option Contents) (end : Border) : Type 0 where
   pub so_far : IsRefilling kinds s first rows above before old new left left'
   pub ends : EndsAt s rows above (before ++ so_far.more) new end
@@ -203,7 +255,8 @@ abbrev pub IsTurnOf : Source → Inlet → Border → Type 0
 IsTurnOf s h (At u) = settled s.slack h.last ≡ Some u
 IsTurnOf s h Closed = h.closed ≡ true
 
-pub record IsRefilled (kinds : List Kind) (s : Source) (first rows : ℕ) (old new : Inlet) (left left' : Option Contents) (end : Border) : Type 0 where
+pub record IsRefilled (kinds : List Kind) (s : Source) (first : ℕ) (rows : Option ℕ) (old new : Inlet) (left left' : Option Contents)
+    (end : Border) : Type 0 where
   pub form : new.rows.form ≡ old.rows.form
   pub keeps : (border : Option ℕ) → IsWellAt s border old → IsWellAt s border new
   pub few : IsFew rows s old → IsFew rows s new
@@ -212,35 +265,37 @@ pub record IsRefilled (kinds : List Kind) (s : Source) (first rows : ℕ) (old n
   pub turn : IsTurnOf s new end
   pub out : (old.closed ≡ true → IsReadOut s.file left) → new.closed ≡ true → IsReadOut s.file left'
   pub reads : (above : Option ℕ) (before : List Next) → IsHeldBehind kinds first s above before (source_of old)
-      → Refills kinds s first rows above before (source_of old) (source_of new) left left' end
+      → Refills kinds s first rows above before old new left left' end
 
 -- a defect is met after lines that are not enough
-pub record MeetsDefect (kinds : List Kind) (s : Source) (rows : ℕ) (above : Option ℕ) (before : List Next) (old : HeldSource) (left left' : Option Contents)
+pub record MeetsDefect (kinds : List Kind) (s : Source) (rows above : Option ℕ) (before : List Next) (old : Inlet) (left left' : Option Contents)
     (row : ℕ) (why : Why) : Type 0 where
   pub more : List Next
   pub next : Next
   pub sound : defect_in kinds s (before ++ more) ≡ None
-  pub few : (k : ℕ) → k ≤ length more → is_enough rows above s (before ++ take k more) ≡ false
-  pub defect : line_defect kinds s (before ++ more) next ≡ Some (row, why)
-  pub told : WhereTold left left' (λ was is. (rest : List Next) × (still old was ≡ more ++ next ∷ rest))
+  pub few : (k : ℕ) → k ≤ length more → are_enough rows above s (before ++ take k more) ≡ false
+  pub fits : Fits old.held s more
+  pub defect : or_else (line_defect kinds s (before ++ more) next) (too_many old.held s more next) ≡ Some (row, why)
+  pub told : WhereTold left left' (λ was is. (rest : List Next) × (still (source_of old) was ≡ more ++ next ∷ rest))
 
 -- a read fails after lines that are not enough
-pub record StopsBehind (kinds : List Kind) (s : Source) (rows : ℕ) (above : Option ℕ) (before : List Next) (old : HeldSource)
+pub record StopsBehind (kinds : List Kind) (s : Source) (rows above : Option ℕ) (before : List Next) (old : Inlet)
     (left left' : Option Contents) : Type 0 where
   pub more : List Next
   pub place : Place
   pub sound : defect_in kinds s (before ++ more) ≡ None
-  pub few : (k : ℕ) → k ≤ length more → is_enough rows above s (before ++ take k more) ≡ false
-  pub form : place.form ≡ old.place.form
+  pub few : (k : ℕ) → k ≤ length more → are_enough rows above s (before ++ take k more) ≡ false
+  pub fits : Fits old.held s more
+  pub form : place.form ≡ old.rows.form
   pub file : place.file ≡ s.file
   pub undecided : IsUndecided place.taken
-  pub told : WhereTold left left' (λ was is. still old was ≡ more ++ ahead place is)
+  pub told : WhereTold left left' (λ was is. still (source_of old) was ≡ more ++ ahead place is)
 
-abbrev pub IsStopOf : List Kind → Source → ℕ → ℕ → Inlet → Option Contents → Option Contents → Stop → Type 0
+abbrev pub IsStopOf : List Kind → Source → ℕ → Option ℕ → Inlet → Option Contents → Option Contents → Stop → Type 0
 IsStopOf kinds s first rows old left left' (Defect row why) = (above : Option ℕ) (before : List Next) → IsHeldBehind kinds first s above before (source_of old)
-    → MeetsDefect kinds s rows above before (source_of old) left left' row why
+    → MeetsDefect kinds s rows above before old left left' row why
 IsStopOf kinds s first rows old left left' ReadFault = (above : Option ℕ) (before : List Next) → IsHeldBehind kinds first s above before (source_of old)
-    → StopsBehind kinds s rows above before (source_of old) left left'
+    → StopsBehind kinds s rows above before old left left'
 IsStopOf kinds s first rows old left left' NoMemory = ⊤
 
 -- ---- all sources in a refill
@@ -248,7 +303,7 @@ IsStopOf kinds s first rows old left left' NoMemory = ⊤
 pub record AreRefilled (p : Program) (rows : ℕ) (olds news : List Inlet) (left left' : Option Contents) (ends : List Border) : Type 0 where
   pub size : length news ≡ length olds
   pub each : AtEach (λ i s. (end : Border) (old new : Inlet) → slice_get ends i ≡ Some end → slice_get olds i ≡ Some old → slice_get news i ≡ Some new
-      → IsRefilled p.kinds s (first_itag p i) rows old new left left' end) p.sources
+      → IsRefilled p.kinds s (first_itag p i) (Some rows) old new left left' end) p.sources
 
 -- all were read, and this is the earliest border
 pub record HasRefilled (p : Program) (rows : ℕ) (olds news : List Inlet) (left left' : Option Contents) (end : Border) : Type 0 where
@@ -268,7 +323,7 @@ pub record StopsAtSource (p : Program) (rows : ℕ) (olds : List Inlet) (left le
   pub stop : Stop
   pub cause : fault ≡ fault_of_stop (length ends) stop
   pub rose : stop ≡ ReadFault → Rose (faults source.file) (faults' source.file)
-  pub own : (old : Inlet) → slice_get olds (length ends) ≡ Some old → IsStopOf p.kinds source (first_itag p (length ends)) rows old left left' stop
+  pub own : (old : Inlet) → slice_get olds (length ends) ≡ Some old → IsStopOf p.kinds source (first_itag p (length ends)) (Some rows) old left left' stop
 
 -- ---- a cut
 -- the items that a round takes
@@ -283,6 +338,7 @@ pub record DropsTo (time : ℕ) (old new : Inlet) : Type 0 where
   pub ended : new.ended ≡ old.ended
   pub closed : new.closed ≡ old.closed
   pub goal : new.goal ≡ old.goal
+  pub held : new.held ≡ old.held
 
 pub record AreDropped (time : ℕ) (olds news : List Inlet) : Type 0 where
   pub size : length news ≡ length olds

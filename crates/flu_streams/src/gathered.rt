@@ -1,6 +1,6 @@
 //! What was read of the sources so far.
 
-ghost use Rattle.std.specs.Prelude.{◌≡◌, ◌≤◌};
+ghost use Rattle.std.specs.Prelude.{◌≤◌};
 
 use flu_model::Item;
 
@@ -11,13 +11,4 @@ pub(crate) struct Gathered {
     pub(crate) held: u64,
     pub(crate) number: u32,
     pub(crate) ghost few: { held ≤ 16777216 },
-}
-
-impl Gathered {
-    /// The items of each itag.
-    pub(crate) fn into_lists(self) -> Vec<Vec<Item>>
-        ensures { result ≡ self.lists }
-    {
-        self.lists
-    }
 }

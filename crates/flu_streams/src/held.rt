@@ -15,13 +15,13 @@ ghost use Rattle.flu_lemmas.specs.Elements.{AtEach};
 ghost use Rattle.flu_model.specs.Streaming.{are_streams};
 ghost use Rattle.flu_streams.specs.Lists.{lists_in};
 ghost use Rattle.flu_streams.specs.Holding.{unread_source};
-ghost use Rattle.flu_streams.specs.LoopHeld.{source_of, earlier_of, HasRefilled, StopsAtSource, AreDropped, AreBehind, AreCaughtUp};
+ghost use Rattle.flu_streams.specs.LoopHeld.{source_of, earlier_of, HasRefilled, StopsAtSource, AreDropped, AreBehind, AreCaughtUp, AreUncounted};
 ghost use Rattle.flu_streams.specs.Rounds.{lists_between};
 
 use crate::border::Border;
 use crate::faults::GatherFault;
 use crate::inlet::Inlet;
-use crate::reading::fault_of;
+use crate::stop::fault_of;
 use crate::tags::tag_count;
 use flu_model::{Item, Program, Streams};
 use flu_outside::Files;
@@ -208,12 +208,13 @@ impl Held {
 
 // Nothing of each source.
 fn new_inlets(alloc: Global, p: &Program, border: Option<u64>) -> Result<Vec<Inlet>, AllocError>
-    ensures { IfOk result (λ inlets. map source_of inlets.items ≡ map (unread_source (form_of p.now.version) border) p.now.sources) }
+    ensures unread { IfOk result (λ inlets. map source_of inlets.items ≡ map (unread_source (form_of p.now.version) border) p.now.sources) }
+    ensures uncounted { IfOk result (λ inlets. AreUncounted inlets.items) }
 {
     let form = form_of(p.version);
     let mut inlets = Vec::new(alloc);
     for source in p.sources.items() {
-        inlets.push(Inlet::new(alloc, form, source, border)?)?;
+        inlets.push(Inlet::new(alloc, form, source, border, None)?)?;
     }
     Ok(inlets)
 }
@@ -228,7 +229,9 @@ fn refill_all<F: Files>(
     requires some { 1 ≤ rows }
     requires most { rows ≤ 4096 }
     requires count { length inlets.old.items ≡ length p.now.sources }
+    requires uncounted { AreUncounted inlets.old.items }
     requires files { AtEach (λ i s. (h : Inlet) → slice_get inlets.old.items i ≡ Some h → h.rows.file ≡ s.file) p.now.sources }
+    ensures uncounted { AreUncounted inlets.new.items }
     ensures filled { IfOk result (λ end. HasRefilled p.now rows inlets.old.items inlets.new.items (F.left files.old) (F.left files.new) end) }
     ensures stop { IfErr result (StopsAtSource p.now rows inlets.old.items (F.left files.old) (F.left files.new) (F.faults files.old) (F.faults files.new)) }
     ensures fronts { WhereTold (F.left files.old) (F.left files.new) TookFronts }
@@ -243,7 +246,7 @@ fn refill_all<F: Files>(
     let mut number = 0;
     for source in p.sources.items() {
         let inlet = &mut inlets[number];
-        match inlet.refill(p.kinds.items(), source, first, rows, files) {
+        match inlet.refill(p.kinds.items(), source, first, Some(rows), files) {
             Ok(turn) => end = earlier(end, turn),
             Err(stop) => return Err(fault_of(number as u32, stop)),
         }
@@ -273,6 +276,7 @@ fn lists_to(
 ) -> Result<Vec<Vec<Item>>, AllocError>
     requires count { length inlets.now ≡ length p.now.sources }
     requires caught { AreCaughtUp inlets.now }
+    requires uncounted { AreUncounted inlets.now }
     ensures len { IfOk result (λ lists. vec_len lists ≡ count_of_itags p.now) }
     ensures streams { IfOk result (λ lists. IsTrue (are_streams 0 (lists_in lists))) }
     ensures few { IfOk result (λ lists. HaveAtMost 64096 (lists_in lists)) }

@@ -1,7 +1,7 @@
-//! What is held of one source from round to round.
+//! What is held of one source from round to round, and the loop over its rows.
 
 ghost use Rattle.std.specs.Prelude.{◌≡◌, ◌≢◌, ◌≤◌, ◌<◌, ◌+◌, ◌^◌, ◌++◌, ◌∷◌, [], ℕ, None, Some, length, unwrap_or, vec_len, IsTrue, OnOk, IfOk, IfErr, IsErrOf};
-ghost use Rattle.std.specs.Prelude.{nat_le, Err};
+ghost use Rattle.std.specs.Prelude.{is_some, true, false, nat_le, Err};
 ghost use Rattle.std.specs.List.{filter_map, list_all};
 ghost use Rattle.flu_lemmas.specs.Late.{rises_from};
 ghost use Rattle.flu_outside.specs.Outside.{WhereTold, Rose, SameCounts};
@@ -13,11 +13,10 @@ ghost use Rattle.flu_streams.specs.Tags.{width};
 
 use crate::border::Border;
 use crate::faults::Why;
-use crate::intake::RowRefusal;
 use crate::items::{empty_lists, time_of};
-use crate::late::{put_item, test_time};
-use crate::source::{Stop, defect_behind, stop_at, stop_of};
-use crate::tags::found_of;
+use crate::late::{count_more, put_item, test_time};
+use crate::stop::{RowRefusal, Stop, defect_behind, stop_at, stop_of};
+use crate::tags::{found_of, tag_count};
 use crate::timed::TimedItems;
 use flu_model::{Event, Itag, Item, Kind, Source};
 use flu_outside::Files;
@@ -30,6 +29,9 @@ const MOST_ITEMS: usize = 64_096;
 
 /// What is held of a source: the items with a time above the last border, in order of time; its reader; the greatest time that
 /// was read; and whether `end` was, and all of its file. In a resumed run, `goal` is its border until the reading has reached it.
+///
+/// `held` is how many items are held, those of earlier sources and one for each itag of a heartbeat included, where a source is
+/// read whole: there it has a limit, and no other. A round needs few items, so for rounds they are not counted.
 #[derive(Drop)]
 pub(crate) struct Inlet {
     pub(crate) rows: Rows,
@@ -38,27 +40,35 @@ pub(crate) struct Inlet {
     pub(crate) ended: bool,
     pub(crate) closed: bool,
     pub(crate) goal: Option<u64>,
+    pub(crate) held: Option<u64>,
     pub(crate) ghost rising: { IsTrue (rises_from item_time 0 items) },
     pub(crate) ghost none: { last ≡ None → items ≡ [] },
     pub(crate) ghost range: { unwrap_or last 0 < 2 ^ 63 },
     pub(crate) ghost within: { IsTrue (list_all (λ item. nat_le (item_time item) (unwrap_or last 0)) items) },
-    pub(crate) ghost few: { length items ≤ 64096 },
+    pub(crate) ghost few: { is_some held ≡ false → length items ≤ 64096 },
+    pub(crate) ghost limit: { unwrap_or held 0 ≤ 16777216 },
+    pub(crate) ghost alone: { (t : ℕ) → goal ≡ Some t → is_some held ≡ false },
 }
 
 impl Inlet {
     ghost use Rattle.flu_streams.specs.Holding.{unread_source};
-    ghost use Rattle.flu_streams.specs.LoopHeld.{source_of, enough_in, CatchesUp, fault_behind, test_late, taken_by, PutsIn, PutsItem, DropsTo, IsRefilled};
+    ghost use Rattle.flu_streams.specs.LoopHeld.{source_of, enough_for, CatchesUp, fault_behind, fault_at, taken_by, PutsIn, PutsItem, DropsTo, IsRefilled};
     ghost use Rattle.flu_streams.specs.LoopHeld.{IsStopOf};
-    ghost use Rattle.flu_streams.specs.LoopIntake.{IsRefusal};
+    ghost use Rattle.flu_streams.specs.LoopStop.{IsRefusal};
 
-    /// Nothing of a source, whose rows have this form and are run from a border on, if there is one.
+    /// Nothing of a source, whose rows have this form and are run from a border on, if there is one; or are read whole, while this
+    /// many items are held of other sources.
     pub(crate) fn new(
         alloc: Global,
         form: RowForm,
         source: &Source,
         border: Option<u64>,
+        held: Option<u64>,
     ) -> Result<Inlet, AllocError>
-        ensures { IfOk result (λ h. source_of h ≡ unread_source form border source.now) }
+        requires limit { unwrap_or held 0 ≤ 16777216 }
+        requires alone { (t : ℕ) → border ≡ Some t → is_some held ≡ false }
+        ensures source { IfOk result (λ h. source_of h ≡ unread_source form border source.now) }
+        ensures held { IfOk result (λ h. h.held ≡ held) }
     {
         Ok(Inlet {
             rows: Rows::new(alloc, form, &source.file)?,
@@ -67,10 +77,12 @@ impl Inlet {
             ended: false,
             closed: false,
             goal: border,
+            held,
         })
     }
 
-    /// Reads the source until this many of its items are settled, and answers the settled time; or to the end of its file.
+    /// Reads the source until this many of its items are settled, and answers the settled time; or to the end of its file. Where no
+    /// number is given, nothing is enough, and the source is read whole: for that its items are counted.
     ///
     /// Whether the items are enough is tested before anything is read, so nothing is read of a source that needs nothing.
     pub(crate) fn refill<F: Files>(
@@ -78,17 +90,19 @@ impl Inlet {
         kinds: &[Kind],
         source: &Source,
         first: u32,
-        rows: u32,
+        rows: Option<u32>,
         files: &mut F,
     ) -> Result<Border, Stop>
         requires kinds { length kinds.now ≤ 64 }
         requires numbered { first + width source.now ≤ 256 }
-        requires some { 1 ≤ rows }
-        requires most { rows ≤ 4096 }
+        requires some { 1 ≤ unwrap_or rows 1 }
+        requires most { unwrap_or rows 0 ≤ 4096 }
+        requires counted { rows ≡ None → is_some self.old.held ≡ true }
         requires slack { source.now.slack ≤ 60000 }
         requires file { self.old.rows.file ≡ source.now.file }
         ensures filled { IfOk result (λ end. IsRefilled kinds.now source.now first rows self.old self.new (F.left files.old) (F.left files.new) end) }
         ensures stop { IfErr result (IsStopOf kinds.now source.now first rows self.old (F.left files.old) (F.left files.new)) }
+        ensures counted { is_some self.new.held ≡ is_some self.old.held }
         ensures taken { WhereTold (F.left files.old) (F.left files.new) (TakesFrom source.now.file) }
         ensures counts { CountsOf (F.left files.old) source.now.file (F.faults files.old) (F.faults files.new) }
         ensures quiet { result ≢ Err Stop.ReadFault → SameCounts (F.faults files.old) (F.faults files.new) }
@@ -138,7 +152,7 @@ impl Inlet {
         ensures len { IfOk result (λ lists. vec_len lists ≡ width) }
         ensures each { IfOk result (λ lists. (i : ℕ) → i < width
             → items_of_list lists i ≡ filter_map (item_for (first + i)) (taken_by end self.now.items) ++ Item.End ∷ []) }
-        ensures few { IfOk result (λ lists. HaveAtMost 64096 (lists_in lists)) }
+        ensures few { is_some self.now.held ≡ false → IfOk result (λ lists. HaveAtMost 64096 (lists_in lists)) }
     {
         let mut lists = empty_lists(alloc, width)?;
         self.items.push_to(&mut lists, first, end)?;
@@ -182,10 +196,11 @@ impl Inlet {
     }
 
     // The settled time, if this many of the items come no later.
-    fn enough(&self, rows: u32, slack: u64) -> Option<u64>
-        requires { 1 ≤ rows }
-        ensures { result ≡ enough_in rows slack (source_of self.now) }
+    fn enough(&self, rows: Option<u32>, slack: u64) -> Option<u64>
+        requires { 1 ≤ unwrap_or rows 1 }
+        ensures { result ≡ enough_for rows slack (source_of self.now) }
     {
+        let rows = rows?;
         if self.goal.is_some() {
             return None;
         }
@@ -211,8 +226,9 @@ impl Inlet {
         requires few { length kinds.now ≤ 64 }
         requires numbered { first + width source.now ≤ 256 }
         requires range { IsInRange row }
-        requires room { length self.old.items < 64096 }
+        requires room { is_some self.old.held ≡ false → length self.old.items < 64096 }
         ensures taken { OnOk result (PutsIn kinds.now source.now first row self.old self.new) }
+        ensures counted { is_some self.new.held ≡ is_some self.old.held }
         ensures refused { IfErr result (IsRefusal (fault_behind kinds.now source.now self.old row)) }
     {
         if self.ended {
@@ -223,13 +239,16 @@ impl Inlet {
                 self.ended = true;
                 Ok(())
             }
-            Row::Beat(time) => self.insert(source.slack, Item::Beat(time)),
+            Row::Beat(time) => {
+                let count = tag_count(source.tags.items());
+                self.insert(source.slack, Item::Beat(time), count)
+            }
             Row::Event {
                 time,
                 name,
                 key,
                 fields,
-            } => match found_of(kinds, source, name.as_str(), key, fields) {
+            } => match found_of(kinds, source, name.as_bytes(), key, fields) {
                 Ok(found) => {
                     let event = Event {
                         time,
@@ -237,28 +256,31 @@ impl Inlet {
                         item: found.item,
                         value: found.value,
                     };
-                    self.insert(source.slack, Item::Event(event))
+                    self.insert(source.slack, Item::Event(event), 1)
                 }
                 Err(why) => Err(RowRefusal::Fault(why)),
             },
         }
     }
 
-    // Takes in an event or a heartbeat.
-    fn insert(&mut self, slack: u64, item: Item) -> Result<(), RowRefusal>
+    // Takes in an event or a heartbeat, which counts as this many items.
+    fn insert(&mut self, slack: u64, item: Item, count: u32) -> Result<(), RowRefusal>
         requires time { item_time item < 2 ^ 63 }
-        requires room { length self.old.items < 64096 }
-        ensures passes { OnOk result (test_late slack (times_in self.old.items) self.old.last (Some (item_time item)) ≡ None) }
-        ensures taken { OnOk result (PutsItem item self.old self.new) }
-        ensures refused { IfErr result (IsRefusal (test_late slack (times_in self.old.items) self.old.last (Some (item_time item)))) }
+        requires room { is_some self.old.held ≡ false → length self.old.items < 64096 }
+        ensures passes { OnOk result (fault_at slack (times_in self.old.items) self.old.last self.old.held (item_time item) count ≡ None) }
+        ensures taken { OnOk result (PutsItem item count self.old self.new) }
+        ensures counted { is_some self.new.held ≡ is_some self.old.held }
+        ensures refused { IfErr result (IsRefusal (fault_at slack (times_in self.old.items) self.old.last self.old.held (item_time item) count)) }
     {
         let time = time_of(&item);
         test_time(&mut self.items, self.last, slack, time)?;
+        let held = count_more(self.held, count)?;
         let last = self.last.unwrap_or(0).max(time);
         if put_item(&mut self.items, item, last, slack).is_err() {
             return Err(RowRefusal::NoMemory);
         }
         self.last = Some(last);
+        self.held = held;
         Ok(())
     }
 }

@@ -1,17 +1,21 @@
-//! How a time is tested, and an item inserted, among those that are held of a source.
+//! How a time is tested, and an item inserted, among those that are held of a source; and how items are counted.
 
-ghost use Rattle.std.specs.Prelude.{◌≡◌, ◌==◌, false, [], IsTrue, None, OnOk, OnErr, IfErr};
+ghost use Rattle.std.specs.Prelude.{◌≡◌, ◌==◌, ◌≤◌, false, [], is_some, unwrap_or, IsTrue, None, OnOk, OnErr, IfOk, IfErr};
 ghost use Rattle.std.specs.List.{list_any};
 ghost use Rattle.flu_lemmas.specs.Late.{put_late, rises_from};
 ghost use Rattle.flu_streams.specs.Lists.{item_time, times_in};
-ghost use Rattle.flu_streams.specs.LoopIntake.{IsRefusal};
+ghost use Rattle.flu_streams.specs.LoopHeld.{held_with, test_held};
+ghost use Rattle.flu_streams.specs.LoopStop.{IsRefusal};
 ghost use Rattle.flu_streams.specs.Tests.{test_behind};
 
 use crate::faults::Why;
-use crate::intake::RowRefusal;
+use crate::stop::RowRefusal;
 use crate::timed::TimedItems;
 use flu_model::Item;
 use std::alloc::AllocError;
+
+/// The most items that are held at once, where they are counted.
+const MOST_ITEMS: u64 = 16_777_216;
 
 /// Tests a time among the items that are held: none of them has it, and it is above the greatest one that was read, `last`, less
 /// the slack.
@@ -58,4 +62,25 @@ pub(crate) fn put_item(
         items.settle(last - slack)?;
     }
     items.put(item)
+}
+
+/// How many items are held with this many more, where they are counted; or the fault of too many.
+pub(crate) fn count_more(held: Option<u64>, more: u32) -> Result<Option<u64>, RowRefusal>
+    requires { unwrap_or held 0 ≤ 16777216 }
+    ensures passes { OnOk result (test_held held more ≡ None) }
+    ensures counted { IfOk result (λ now. now ≡ held_with held more) }
+    ensures limit { IfOk result (λ now. unwrap_or now 0 ≤ 16777216) }
+    ensures same { IfOk result (λ now. is_some now ≡ is_some held) }
+    ensures refused { IfErr result (IsRefusal (test_held held more)) }
+{
+    let Some(held) = held else {
+        return Ok(None);
+    };
+    let more = u64::from(more);
+    if more > MOST_ITEMS - held {
+        return Err(RowRefusal::Fault(Why::TooMany {
+            count: MOST_ITEMS + 1,
+        }));
+    }
+    Ok(Some(held + more))
 }

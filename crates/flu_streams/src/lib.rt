@@ -6,12 +6,11 @@ mod faults;
 mod gathered;
 mod held;
 mod inlet;
-mod intake;
 mod items;
 mod late;
 mod laws;
 mod reading;
-mod source;
+mod stop;
 mod tags;
 mod timed;
 

@@ -7,14 +7,15 @@ ghost use Rattle.flu_outside.specs.Outside.{WhereTold, Rose, SameCounts};
 ghost use Rattle.flu_outside.specs.Taking.{TakesFrom, TookFronts, CountsOf, IsReadOut};
 ghost use Rattle.flu_streams.specs.Files.{files_of, LeavesOthers, CountsOfNames, OneRose, AreReadOut};
 ghost use Rattle.flu_streams.specs.Faults.{IsFirstFault, HidesNothing};
-ghost use Rattle.flu_streams.specs.LoopGathering.{AddsSource, IsFaultOf, fault_of_stop};
+ghost use Rattle.flu_streams.specs.LoopGathering.{AddsSource, IsFaultOf, HidesNoDefect};
 ghost use Rattle.flu_streams.specs.Good.{AreGood, lists_of};
-ghost use Rattle.flu_streams.specs.LoopSource.{HidesNoDefect};
 ghost use Rattle.flu_streams.specs.Tags.{width};
 
-use crate::faults::{GatherFault, SourceFault};
+use crate::border::Border;
+use crate::faults::GatherFault;
 use crate::gathered::Gathered;
-use crate::source::{Stop, read_source};
+use crate::inlet::Inlet;
+use crate::stop::fault_of;
 use crate::tags::tag_count;
 use flu_model::{Kind, Program, Source, Streams};
 use flu_outside::Files;
@@ -55,10 +56,10 @@ pub fn gather<F: Files>(alloc: Global, p: &Program, files: &mut F) -> Result<Str
             return Err(fault);
         }
     }
-    Ok(Streams::new(gathered.into_lists()))
+    Ok(Streams::new(gathered.lists))
 }
 
-// Reads one more source.
+// Reads one more source, whole.
 fn add_source<F: Files>(
     alloc: Global,
     form: RowForm,
@@ -70,6 +71,7 @@ fn add_source<F: Files>(
     requires kinds { length kinds.now ≤ 64 }
     requires numbered { vec_len gathered.old.lists + width source.now ≤ 256 }
     requires counted { gathered.old.number + 1 < 2 ^ 32 }
+    requires slack { source.now.slack ≤ 60000 }
     ensures added { OnOk result (AddsSource form kinds.now source.now (F.left files.old) (F.left files.new) gathered.old gathered.new) }
     ensures read_out { OnOk result (IsReadOut source.now.file (F.left files.new)) }
     ensures fault { IfErr result (IsFaultOf form kinds.now source.now gathered.old.number gathered.old.held (F.left files.old) (F.left files.new)) }
@@ -80,42 +82,21 @@ fn add_source<F: Files>(
     ensures hides { IsErrOf result GatherFault.ReadFault → HidesNoDefect form kinds.now source.now gathered.old.held (F.left files.old) (F.left files.new) }
     ensures cause { IsErrOf result GatherFault.ReadFault → Rose (F.faults files.old source.now.file) (F.faults files.new source.now.file) }
 {
-    let width = tag_count(source.tags.items());
-    let first = gathered.lists.len() as u32;
-    let intake = match read_source(
-        alloc,
-        form,
-        kinds,
-        source,
-        width,
-        first,
-        gathered.held,
-        files,
-    ) {
-        Ok(intake) => intake,
-        Err(stop) => return Err(fault_of(gathered.number, stop)),
+    let Ok(mut inlet) = Inlet::new(alloc, form, source, None, Some(gathered.held)) else {
+        return Err(GatherFault::NoMemory);
     };
-    let held = intake.held;
-    let mut lists = intake.into_lists();
+    let first = gathered.lists.len() as u32;
+    if let Err(stop) = inlet.refill(kinds, source, first, None, files) {
+        return Err(fault_of(gathered.number, stop));
+    }
+    let width = tag_count(source.tags.items());
+    let Ok(mut lists) = inlet.lists(alloc, first, width, Border::Closed) else {
+        return Err(GatherFault::NoMemory);
+    };
     if gathered.lists.append(&mut lists).is_err() {
         return Err(GatherFault::NoMemory);
     }
-    gathered.held = held;
+    gathered.held = inlet.held.unwrap_or(0);
     gathered.number += 1;
     Ok(())
-}
-
-/// The fault of the source with this number.
-pub(crate) fn fault_of(number: u32, stop: Stop) -> GatherFault
-    ensures { result ≡ fault_of_stop number stop }
-{
-    match stop {
-        Stop::Defect { row, why } => GatherFault::Source(SourceFault {
-            source: number,
-            row,
-            why,
-        }),
-        Stop::ReadFault => GatherFault::ReadFault,
-        Stop::NoMemory => GatherFault::NoMemory,
-    }
 }

@@ -23,7 +23,7 @@ pub(crate) struct Found {
 pub(crate) fn found_of(
     kinds: &[Kind],
     source: &Source,
-    name: &str,
+    name: &[u8],
     key: Option<u32>,
     fields: Fields,
 ) -> Result<Found, Why>
@@ -75,7 +75,7 @@ fn given(has_item: bool, has_value: bool, fields: Fields) -> Option<(u16, i64)>
 }
 
 // The tag of a name and an optional key.
-fn tag_named(kinds: &[Kind], name: &str, key: Option<u32>) -> Option<Tag>
+fn tag_named(kinds: &[Kind], name: &[u8], key: Option<u32>) -> Option<Tag>
     requires { length kinds.now ≤ 64 }
     ensures value { result ≡ tag_named kinds.now name.now key }
     ensures declared { IfSome result (λ tag. kind_named kinds.now name.now ≡ Some tag.kind) }
@@ -88,11 +88,13 @@ fn tag_named(kinds: &[Kind], name: &str, key: Option<u32>) -> Option<Tag>
     })
 }
 
-fn kind_named(kinds: &[Kind], name: &str) -> Option<usize>
+fn kind_named(kinds: &[Kind], name: &[u8]) -> Option<usize>
     ensures value { result ≡ kind_named kinds.now name.now }
     ensures declared { IfSome result (λ number. number < length kinds.now) }
 {
-    kinds.iter().position(|kind| kind.name.as_str() == name)
+    kinds
+        .iter()
+        .position(|kind| kind.name.as_str().as_bytes() == name)
 }
 
 fn key_named(keyed: bool, key: Option<u32>) -> Option<u32>

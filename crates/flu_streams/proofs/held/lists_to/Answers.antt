@@ -68,7 +68,8 @@ loop-source-preserved c =
     record {
       number = omega (arith, inv.number);
       len = omega (arith, len, one, w, inv.len, c.in_ok-own.ensures.len);
-      few = rw both (All-append (λ (items : List Item). length items ≤ 64096 + 1) (lists_in lists) (lists_in own) inv.few c.in_ok-own.ensures.few);
+      few = rw both (All-append (λ (items : List Item). length items ≤ 64096 + 1) (lists_in lists) (lists_in own) inv.few
+          (c.in_ok-own.ensures.few (c.requires.uncounted i h here)));
       streams = rw both (streams_both (lists_in lists) (lists_in own) first size inv.streams
           (own_streams own first c.tag_count-width.result end h.items c.in_ok-own.ensures.len c.in_ok-own.ensures.each h.rising));
       lists = λ border lines behind.

@@ -1,31 +1,27 @@
-use Rattle.std.proofs.Common.{◌≡◌, ◌+◌, ◌<◌, ◌++◌, ◌∷◌, [], ℕ, Err, Some, length, length-append, take, drop, refl, sym, ap, ◌∙◌, rules, arith}
-use Rattle.std.specs.Prelude.{slice_get, sum_by}
+use Rattle.std.proofs.Common.{false, ◌≡◌, ◌+◌, ◌<◌, ◌++◌, ◌∷◌, [], ℕ, Err, Some, length, length-append, take, drop, refl, sym, ap, ◌∙◌, rules, arith}
+use Rattle.std.specs.Prelude.{is_some, slice_get, sum_by}
 use Rattle.std.specs.List.{flat_map}
 use Rattle.std.proofs.lemmas.List.Sums.{sum_by-append}
 use Rattle.std.proofs.lemmas.Option.{slice_get_read}
 use Rattle.flu_lemmas.proofs.Named.{rose_behind, fronts_at, fronts_then}
+use Rattle.flu_lemmas.proofs.Elements.{each_set}
 use Rattle.flu_lemmas.proofs.Replaced.{slice_get-set_other}
 use Rattle.flu_lemmas.proofs.Told.{told_same}
 use Rattle.flu_model.specs.Listing.{listed_tags}
 use Rattle.flu_outside.specs.Taking.{TookFronts}
 use Rattle.flu_streams.specs.declared.faults.GatherFault.TheVariants.{ReadFault}
-use Rattle.flu_streams.specs.declared.source.Stop.{Stop}
-use Rattle.flu_streams.specs.declared.source.Stop.TheVariants.{Defect, ReadFault as ReadStop, NoMemory}
+use Rattle.flu_streams.specs.declared.stop.Stop.TheVariants.{ReadFault as ReadStop}
 use Rattle.flu_streams.specs.Files.{files_of, LeavesOthers}
-use Rattle.flu_streams.specs.LoopGathering.{fault_of_stop}
+use Rattle.flu_streams.specs.LoopStop.{fault_of_stop}
+use Rattle.flu_streams.specs.declared.inlet.Inlet.{Inlet}
 use Rattle.flu_streams.specs.LoopHeld.{earlier_of}
 use Rattle.flu_streams.specs.Tags.{width}
 use Rattle.flu_streams.proofs.Bounds.{slack_of}
 use Rattle.flu_streams.proofs.Gatherings.{err_same, counts_at, there_more, counts_more, files_more, among_sources}
 use Rattle.flu_streams.proofs.Rounding.{refilled_more, earliest-push, others_more, others_end, stops_at, source_at}
 use Rattle.flu_streams.proofs.Turns.{turn}
+use Rattle.flu_streams.proofs.Whole.{read_stop}
 use Rattle.flu_streams.proofs.held.refill_all.Goals as goal
-
--- the fault of a failed read comes of one alone
-read_stop : (n : ℕ) (stop : Stop) → fault_of_stop n stop ≡ ReadFault → stop ≡ ReadStop
-read_stop n (Defect row why) e = absurd cc
-read_stop n ReadStop e = refl
-read_stop n NoMemory e = absurd cc
 
 pub loop-source-init : goal.loop-source-init
 loop-source-init g c =
@@ -37,6 +33,7 @@ loop-source-init g c =
       count = refl;
       end = refl;
       all = record { size = refl; each = λ i s at end old new here was is. absurd cc };
+      uncounted = c.requires.uncounted;
       rest = λ j le. refl;
       others = told_same (LeavesOthers []) left (λ x other apart. refl);
       fronts = told_same TookFronts left (λ x name rest e. ([], e));
@@ -200,6 +197,8 @@ loop-source-preserved g c =
       all = rw inv.number (refilled_more p c.args.rows i s c.args.inlets.now.items news mid c.refill.new.self (left old) (left b)
           (left new) inv.ends c.in-Ok.turn t inv.count at was inv.others taken inv.all
           (rw (c.items.ensures, inv.first) at c.in-Ok.ensures.filled));
+      uncounted = each_set (λ (j : ℕ) (h : Inlet). is_some h.held ≡ false) news n c.refill.new.self inv.uncounted
+          (c.in-Ok.ensures.counted ∙ inv.uncounted n mid is);
       rest = λ j le. slice_get-set_other news n j c.refill.new.self (λ e. omega (arith, e, le, inv.number)) ∙ inv.rest j (omega (arith, le));
       others = others_more p i s (left old) (left b) (left new) t inv.others taken;
       fronts = fronts_then (left old) (left b) (left new) inv.fronts (fronts_at s.file (left b) (left new) taken);

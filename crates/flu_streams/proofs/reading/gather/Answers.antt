@@ -14,6 +14,8 @@ use Rattle.flu_streams.specs.Lists.{lists_in}
 use Rattle.flu_streams.specs.Tags.{width}
 use Rattle.flu_streams.proofs.Gatherings.{err_same, total_width, gathered_more, gathered_fault, streams_more, others_at, counts_at, there_more, counts_more}
 use Rattle.flu_streams.proofs.Gatherings.{out_more, files_more, among_sources, hides_behind}
+use Rattle.flu_streams.proofs.Bounds.{slack_of}
+use Rattle.flu_streams.proofs.Rounding.{source_at}
 use Rattle.flu_streams.proofs.Turns.{turn}
 use Rattle.flu_streams.proofs.reading.gather.Goals as goal
 
@@ -23,6 +25,13 @@ add_source-requires-clause-numbered g c =
     let s = c.source-item.result in
     let t = turn p c.items-source-items.result.now c.loop-source.source-index s c.items-source-items.ensures c.loop-source-test.true c.source-item.is in
     omega (arith, t.narrow, c.loop-source.invariant.len)
+
+pub add_source-requires-clause-slack : goal.add_source-requires-clause-slack
+add_source-requires-clause-slack g c =
+    let p = c.args.p.now in
+    let i = c.loop-source.source-index in
+    let s = c.source-item.result in
+    slack_of p i s (source_at p c.items-source-items.result.now i s c.items-source-items.ensures c.loop-source-test.true c.source-item.is)
 
 pub returns-in-Err-clause-fault : goal.returns-in-Err-clause-fault
 returns-in-Err-clause-fault g c =
@@ -143,7 +152,7 @@ returns-clause-lists g c =
     let all : take c.loop-source.source-index p.sources ≡ p.sources =
     take_all c.loop-source.source-index p.sources (omega (arith, ap length c.items-source-items.ensures)) in
     let told = rw all at c.loop-source.invariant.told in
-    let same : listed c.new-2.result ≡ lists_in c.loop-source.gathered.lists = c.new-2.ensures ∙ ap lists_in c.into_lists.ensures in
+    let same : listed c.new-2.result ≡ lists_in c.loop-source.gathered.lists = c.new-2.ensures in
     told_weaker (IsGathered (form_of p.version) p.kinds p.sources c.loop-source.gathered) (λ old new. listed c.new-2.result ≡ lists_of p old) (left c.args.files.now)
     (left c.loop-source.files) (λ x y k. same ∙ k.lists) told
 
@@ -152,7 +161,7 @@ returns-clause-itags g c =
     let p = c.args.p.now in
     let all : take c.loop-source.source-index p.sources ≡ p.sources =
     take_all c.loop-source.source-index p.sources (omega (arith, ap length c.items-source-items.ensures)) in
-    let same : listed c.new-2.result ≡ lists_in c.loop-source.gathered.lists = c.new-2.ensures ∙ ap lists_in c.into_lists.ensures in
+    let same : listed c.new-2.result ≡ lists_in c.loop-source.gathered.lists = c.new-2.ensures in
     let len = rw all at c.loop-source.invariant.len in
     rw same (simp length-map (omega (arith, len, c.loop-source.gathered.lists.ok.0, total_width 0 p.sources)))
 

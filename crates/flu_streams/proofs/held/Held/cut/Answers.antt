@@ -3,7 +3,7 @@ use Rattle.flu_streams.specs.declared.border.Border.TheVariants.{At, Closed}
 use Rattle.flu_streams.specs.declared.held.Stage.TheVariants.{Filling, Filled, Over}
 use Rattle.flu_streams.specs.Holding.{Holding, Cuts}
 use Rattle.flu_streams.specs.Lists.{lists_in}
-use Rattle.flu_streams.proofs.Bounds.{holds_few, holds_most, still_caught_up}
+use Rattle.flu_streams.proofs.Bounds.{holds_few, holds_most, still_caught_up, still_uncounted}
 use Rattle.flu_streams.proofs.Cuts.{well_filled, cuts_at, cuts_closed, dropped_well, cut_lists, closed_if_not}
 use Rattle.flu_streams.proofs.RoundOf.{holding}
 use Rattle.flu_streams.proofs.held.Held.cut.Goals as goal
@@ -39,8 +39,10 @@ invariant_of-self-2 c =
     let h = c.self.inside in
     let t = c.in-At.time in
     let stage_is : h.stage ≡ Filled (At t) = ap (λ (v : Holding). v.stage) c.self.view_is ∙ c.requires.stage ∙ ap Filled c.in-At.is in
-    let well = well_filled h.program.value h.rows h.border h.stage (At t) h.sources.items c.self.invariant stage_is in
-    dropped_well h.program.value h.rows t h.border h.sources.items c.drop_all.new.inlets.items well.0 well.1 well.2 c.drop_all.ensures
+    let well = well_filled h.program.value h.rows h.border h.stage (At t) h.sources.items c.self.invariant stage_is in (
+      dropped_well h.program.value h.rows t h.border h.sources.items c.drop_all.new.inlets.items well.0 well.1 well.2 c.drop_all.ensures,
+      still_uncounted t h.sources.items c.drop_all.new.inlets.items c.self.invariant.1 c.drop_all.ensures,
+    )
 
 pub returns-clause-cut : goal.returns-clause-cut
 returns-clause-cut c =
@@ -60,6 +62,9 @@ lists_to-requires-clause-caught c =
     let well = well_filled h.program.value h.rows h.border h.stage c.args.b h.sources.items c.self.invariant stage_is in
     rw c.deref.ensures.value well.2
 
+pub lists_to-requires-clause-uncounted : goal.lists_to-requires-clause-uncounted
+lists_to-requires-clause-uncounted c = rw c.deref.ensures.value c.self.invariant.1
+
 pub returns-in_default-clause-few : goal.returns-in_default-clause-few
 returns-in_default-clause-few c =
     let h = c.self.inside in
@@ -70,7 +75,7 @@ returns-in_default-clause-few c =
 pub returns-in_default-clause-most : goal.returns-in_default-clause-most
 returns-in_default-clause-most c =
     let h = c.self.inside in
-    holds_most h.program.value h.rows h.border Over h.sources.items
+    holds_most h.program.value h.rows h.border Over h.sources.items c.self.invariant.1
 
 pub returns-clause-few : goal.returns-clause-few
 returns-clause-few c =
@@ -87,8 +92,9 @@ pub returns-clause-most : goal.returns-clause-most
 returns-clause-most c =
     let h = c.self.inside in
     holds_most h.program.value h.rows (Some c.in-At.time) Filling c.drop_all.new.inlets.items
+    (still_uncounted c.in-At.time h.sources.items c.drop_all.new.inlets.items c.self.invariant.1 c.drop_all.ensures)
 
 pub returns-in_err-lists-clause-most : goal.returns-in_err-lists-clause-most
 returns-in_err-lists-clause-most c =
     let h = c.self.inside in
-    holds_most h.program.value h.rows h.border Over h.sources.items
+    holds_most h.program.value h.rows h.border Over h.sources.items c.self.invariant.1

@@ -30,12 +30,12 @@ refill_all-requires-clause-most g c =
 pub returns-in-Err-clause-most : goal.returns-in-Err-clause-most
 returns-in-Err-clause-most g c =
     let h = c.self.inside in
-    holds_most h.program.value h.rows h.border Over c.refill_all.new.inlets.items
+    holds_most h.program.value h.rows h.border Over c.refill_all.new.inlets.items c.refill_all.ensures.uncounted
 
 pub returns-clause-most : goal.returns-clause-most
 returns-clause-most g c =
     let h = c.self.inside in
-    holds_most h.program.value h.rows h.border (Filled c.in-Ok.end) c.refill_all.new.inlets.items
+    holds_most h.program.value h.rows h.border (Filled c.in-Ok.end) c.refill_all.new.inlets.items c.refill_all.ensures.uncounted
 
 pub returns-clause-few : goal.returns-clause-few
 returns-clause-few g c =
@@ -47,8 +47,8 @@ returns-clause-few g c =
     let program_is : h.program.value ≡ c.args.p.now = ap (λ (v : Holding). v.program) c.self.view_is ∙ c.requires.program in
     let well = well_filling h.program.value h.rows h.border h.stage h.sources.items c.self.invariant stage_is in
     let has = subst (λ p. HasRefilled p h.rows h.sources.items news a b c.in-Ok.end) (sym program_is) c.in-Ok.ensures.filled in
-    let now = refill_well h.program.value h.rows h.border h.sources.items news a b c.in-Ok.end well has in
-    holds_few h.program.value h.rows h.border (Filled c.in-Ok.end) news now.0 now.2
+    let now = refill_well h.program.value h.rows h.border h.sources.items news a b c.in-Ok.end well has c.refill_all.ensures.uncounted in
+    holds_few h.program.value h.rows h.border (Filled c.in-Ok.end) news now.0.0 now.0.2
 
 pub returns-in-Err-clause-fault : goal.returns-in-Err-clause-fault
 returns-in-Err-clause-fault g c =
@@ -62,7 +62,8 @@ returns-in-Err-clause-fault g c =
     let is = g.F.Files.faults c.refill_all.new.files in
     let stop = subst (λ p. StopsAtSource p h.rows h.sources.items a b was is c.in-Err.fault) (sym program_is) c.in-Err.ensures.stop in
     subst (λ v. IsRefillFault v a b c.in-Err.fault) c.self.view_is
-    (refill_fault h.program.value h.rows h.border h.stage h.sources.items a b TookFronts c.in-Err.fault was is well.count c.in-Err.ensures.fronts stop)
+    (refill_fault h.program.value h.rows h.border h.stage h.sources.items a b TookFronts c.in-Err.fault was is well.count c.self.invariant.1
+    c.in-Err.ensures.fronts stop)
 
 pub returns-in-Err-clause-hides : goal.returns-in-Err-clause-hides
 returns-in-Err-clause-hides g c = λ is_fault before behind.
@@ -89,7 +90,7 @@ invariant_of-self-2 g c =
     let program_is : h.program.value ≡ c.args.p.now = ap (λ (v : Holding). v.program) c.self.view_is ∙ c.requires.program in
     let well = well_filling h.program.value h.rows h.border h.stage h.sources.items c.self.invariant stage_is in
     let has = subst (λ p. HasRefilled p h.rows h.sources.items c.refill_all.new.inlets.items a b c.in-Ok.end) (sym program_is) c.in-Ok.ensures.filled in
-    refill_well h.program.value h.rows h.border h.sources.items c.refill_all.new.inlets.items a b c.in-Ok.end well has
+    refill_well h.program.value h.rows h.border h.sources.items c.refill_all.new.inlets.items a b c.in-Ok.end well has c.refill_all.ensures.uncounted
 
 pub returns-clause-round : goal.returns-clause-round
 returns-clause-round g c = λ before behind.

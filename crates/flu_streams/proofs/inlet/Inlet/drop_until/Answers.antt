@@ -18,5 +18,7 @@ invariant_of-self c =
       range = search rules;
       within = rw now (all_still (λ (item : Item). nat_le (item_time item) (unwrap_or c.args.self.now.last 0))
           (λ (item : Item). nat_lt t (item_time item)) items c.args.self.now.within);
-      few = rw now (let less = fewer (λ (item : Item). nat_lt t (item_time item)) items in omega (arith, less, c.args.self.now.few));
+      few = λ free. rw now (let less = fewer (λ (item : Item). nat_lt t (item_time item)) items in omega (arith, less, c.args.self.now.few free));
+      limit = search rules;
+      alone = search rules;
     }

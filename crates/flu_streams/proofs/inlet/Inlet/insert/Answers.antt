@@ -31,7 +31,10 @@ invariant_of-self-2 c =
       none = λ e. absurd cc;
       range = search rules;
       within = rw put (all_within c.args.self.now item (Some c.max-last.result) (search rules));
-      few = rw put (let longer = one_longer item_time item items in omega (arith, longer, c.requires.room));
+      few = λ free. rw put (let longer = one_longer item_time item items in
+          omega (arith, longer, c.requires.room (sym c.in_ok-held.ensures.same ∙ free)));
+      limit = c.in_ok-held.ensures.limit;
+      alone = λ t e. c.in_ok-held.ensures.same ∙ c.args.self.now.alone t e;
     }
 
 pub returns-clause-taken : goal.returns-clause-taken
@@ -40,4 +43,4 @@ returns-clause-taken c =
     let item = c.args.item in
     let after : c.put_item.new.items ≡ put_late item_time item c.test_time.new.items = grind (arith, common_steps) in
     let put : c.put_item.new.items ≡ put_late item_time item items = after ∙ ap (put_late item_time item) c.test_time.ensures.same in
-    record { items = put; rows = refl; last = search rules; ended = refl; closed = refl; goal = refl }
+    record { items = put; rows = refl; last = search rules; ended = refl; closed = refl; goal = refl; held = c.in_ok-held.ensures.counted }

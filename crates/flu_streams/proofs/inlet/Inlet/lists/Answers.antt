@@ -14,5 +14,5 @@ returns-clause-each c = λ i lt.
     ∙ ap (λ l. (l ++ filter_map (item_for (c.args.first + i)) (taken_by c.args.end c.args.self.now.items)) ++ (End ∷ [])) (c.in_ok-lists.ensures.empty i)
 
 pub returns-clause-few : goal.returns-clause-few
-returns-clause-few c = few_lists c.push_to.new.lists c.args.width c.args.first c.args.end c.args.self.now
-    (c.in_ok-push_to.ensures.len ∙ c.in_ok-lists.ensures.len) (returns-clause-each c)
+returns-clause-few c = λ free. few_lists c.push_to.new.lists c.args.width c.args.first c.args.end c.args.self.now
+    (c.in_ok-push_to.ensures.len ∙ c.in_ok-lists.ensures.len) (returns-clause-each c) free

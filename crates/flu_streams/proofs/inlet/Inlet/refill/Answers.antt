@@ -1,10 +1,11 @@
 use Rattle.std.proofs.Common.{◌≡◌, ◌∙◌, refl, sym, ap, rules}
 use Rattle.flu_lemmas.proofs.Named.{taken_then, counts_then, none_taken, no_counts}
 use Rattle.flu_lemmas.proofs.Tests.{not_both}
+use Rattle.std.specs.Prelude.{is_some}
 use Rattle.flu_outside.specs.Taking.{IsReadOut}
 use Rattle.flu_outside.specs.declared.files.TakeFault.{TakeFault}
 use Rattle.flu_outside.specs.declared.files.TakeFault.TheVariants.{Failed, NoMemory}
-use Rattle.flu_streams.specs.LoopHeld.{source_of, IsStopOf}
+use Rattle.flu_streams.specs.LoopHeld.{IsStopOf}
 use Rattle.flu_streams.proofs.Bounds.{few_caught, few_row, room_here}
 use Rattle.flu_streams.proofs.HeldRows.{well_row, well_caught}
 use Rattle.flu_streams.proofs.Refilling.{refilling_none, refilling_row, refused_row, meets_last, stops_behind, refilled_open, refilled_shut, refilled_end}
@@ -20,14 +21,15 @@ loop-time-init g c =
       form = ap (λ place. place.form) c.catch_up.ensures.rows;
       file = ap (λ place. place.file) c.catch_up.ensures.rows ∙ c.requires.file;
       so_far = λ above before is. refilling_caught c.args.kinds.now c.args.source.now c.args.first c.args.rows above before
-          (source_of c.args.self.now) c.args.self.now c.catch_up.new.self left left c.catch_up.ensures
-          (refilling_none c.args.kinds.now c.args.source.now c.args.first c.args.rows above before (source_of c.args.self.now) left is);
+          c.args.self.now c.args.self.now c.catch_up.new.self left left c.catch_up.ensures
+          (refilling_none c.args.kinds.now c.args.source.now c.args.first c.args.rows above before c.args.self.now left is);
       well = λ border was. well_caught c.args.source.now border c.args.self.now c.catch_up.new.self c.catch_up.ensures was;
       out = λ was closed. was (sym c.catch_up.ensures.closed ∙ closed);
       few = few_caught c.args.rows c.args.source.now c.args.self.now c.catch_up.new.self c.catch_up.ensures;
       room = c.catch_up.ensures.room;
       before_goal = c.catch_up.ensures.before;
       shut = c.catch_up.ensures.shut;
+      counted = ap is_some c.catch_up.ensures.held;
       taken = none_taken file left;
       counts = no_counts file left (g.F.Files.faults c.args.files.now);
       quiet = λ n. refl;
@@ -37,7 +39,7 @@ loop-time-init g c =
 pub returns-in-Some-clause-filled : goal.returns-in-Some-clause-filled
 returns-in-Some-clause-filled g c =
     let left = g.F.Files.left in
-    refilled_open c.args.kinds.now c.args.source.now c.args.first c.args.rows c.in-Some.time c.args.self.now c.loop-time.self (left c.args.files.now)
+    refilled_open c.args.kinds.now c.args.source.now c.args.first c.in-Some.time c.args.rows c.args.self.now c.loop-time.self (left c.args.files.now)
     (left c.loop-time.files)
     c.requires.some c.loop-time.invariant.so_far c.loop-time.invariant.well c.loop-time.invariant.out c.loop-time.invariant.few
     c.loop-time.invariant.form (sym c.in-Some.ensures)
@@ -72,7 +74,8 @@ returns-in-Err-clause-taken g c = taken_then c.args.source.now.file (g.F.Files.l
 
 pub take-requires-clause-room : goal.take-requires-clause-room
 take-requires-clause-room g c =
-    room_here c.args.rows c.args.source.now c.loop-time.self c.requires.some c.requires.most c.requires.slack
+    room_here c.args.rows c.args.source.now c.loop-time.self c.requires.some c.requires.most
+    (λ none. c.loop-time.invariant.counted ∙ c.requires.counted none) c.requires.slack
     (sym c.in_default.ensures, c.loop-time.invariant.before_goal) c.loop-time.invariant.room
 
 pub returns-in-Err-take-clause-stop : goal.returns-in-Err-take-clause-stop
@@ -83,7 +86,10 @@ returns-in-Err-take-clause-stop g c =
     (record c.loop-time.self { rows = c.next_row.new.self }) (left c.args.files.now) (left c.loop-time.files)
     (left c.next_row.new.files) c.in-Row.line c.in-Row.row c.in-Err-take.refusal
     c.requires.some c.loop-time.invariant.so_far c.if-self.false
-    (sym c.in_default.ensures, c.loop-time.invariant.before_goal) refl refl refl told c.in-Err-take.ensures.refused)
+    (sym c.in_default.ensures, c.loop-time.invariant.before_goal) refl refl refl refl told c.in-Err-take.ensures.refused)
+
+pub returns-in-Err-take-clause-counted : goal.returns-in-Err-take-clause-counted
+returns-in-Err-take-clause-counted g c = c.take.ensures.counted ∙ c.loop-time.invariant.counted
 
 pub returns-in-Err-take-clause-taken : goal.returns-in-Err-take-clause-taken
 returns-in-Err-take-clause-taken g c = taken_then c.args.source.now.file (g.F.Files.left c.args.files.now) (g.F.Files.left c.loop-time.files)
@@ -107,11 +113,11 @@ loop-time-preserved g c =
       form = ap (λ place. place.form) catches.rows ∙ ap (λ place. place.form) puts.rows ∙ form_here;
       file = ap (λ place. place.file) catches.rows ∙ ap (λ place. place.file) puts.rows ∙ here;
       so_far = λ above before is. refilling_caught c.args.kinds.now c.args.source.now c.args.first c.args.rows above before
-          (source_of c.args.self.now) c.take.new.self caught (left old) (left new) catches
-          (refilling_row c.args.kinds.now c.args.source.now c.args.first c.args.rows (source_of c.args.self.now) c.loop-time.self _ c.take.new.self (left old)
+          c.args.self.now c.take.new.self caught (left old) (left new) catches
+          (refilling_row c.args.kinds.now c.args.source.now c.args.first c.args.rows c.args.self.now c.loop-time.self _ c.take.new.self (left old)
           (left mid) (left new) c.in-Row.line c.in-Row.row
           c.requires.some c.loop-time.invariant.so_far c.if-self.false
-          (sym c.in_default.ensures, c.loop-time.invariant.before_goal) refl refl refl refl refl here told puts above before is);
+          (sym c.in_default.ensures, c.loop-time.invariant.before_goal) refl refl refl refl refl refl here told puts above before is);
       well = λ border was. well_caught c.args.source.now border c.take.new.self caught catches
           (well_row c.args.kinds.now c.args.source.now c.args.first border c.loop-time.self _ c.take.new.self c.in-Row.row
           (c.loop-time.invariant.well border was) c.if-self.false refl refl refl here puts);
@@ -122,6 +128,7 @@ loop-time-preserved g c =
       room = catches.room;
       before_goal = catches.before;
       shut = catches.shut;
+      counted = ap is_some catches.held ∙ c.take.ensures.counted ∙ c.loop-time.invariant.counted;
       taken = taken_then file (left old) (left mid) (left new) c.loop-time.invariant.taken (rw c.loop-time.invariant.file at c.in-Ok.ensures.taken);
       counts = counts_then file (left old) (left mid) (faults old) (faults mid) (faults new) c.loop-time.invariant.taken c.loop-time.invariant.counts
           (rw c.loop-time.invariant.file at c.in-Ok.ensures.counts);
@@ -143,6 +150,7 @@ returns-in-Some-defect_behind g c =
           (left new) c.in-Ok.next c.in-Some-defect_behind.row c.in-Some-defect_behind.why
           c.requires.some c.loop-time.invariant.so_far c.if-self.false (sym c.in_default.ensures, c.loop-time.invariant.before_goal) c.in-Ok.ensures.told
           c.in_default-next.not-Row (sym c.in-Some-defect_behind.ensures);
+      counted = c.loop-time.invariant.counted;
       taken = taken_then file (left old) (left mid) (left new) c.loop-time.invariant.taken (rw c.loop-time.invariant.file at c.in-Ok.ensures.taken);
       counts = counts_then file (left old) (left mid) (faults old) (faults mid) (faults new) c.loop-time.invariant.taken c.loop-time.invariant.counts
           (rw c.loop-time.invariant.file at c.in-Ok.ensures.counts);
@@ -167,9 +175,11 @@ returns-in_default-next g c =
     record {
       filled = refilled_end c.args.kinds.now c.args.source.now c.args.first c.args.rows c.args.self.now c.loop-time.self _ c.catch_up-in_default-next.new.self
           (left old) (left mid) (left new) c.in-Ok.next
-          c.requires.some c.loop-time.invariant.so_far c.loop-time.invariant.well c.loop-time.invariant.few c.if-self.false (sym c.in_default.ensures, c.loop-time.invariant.before_goal)
-          c.in-Ok.ensures.told c.in_default-next.not-Row none out refl refl refl refl refl form_here here c.catch_up-in_default-next.ensures;
+          c.requires.some c.loop-time.invariant.so_far c.loop-time.invariant.well c.loop-time.invariant.few c.if-self.false
+          (sym c.in_default.ensures, c.loop-time.invariant.before_goal) c.in-Ok.ensures.told c.in_default-next.not-Row none out
+          refl refl refl refl refl refl form_here here c.catch_up-in_default-next.ensures;
       stop = tt;
+      counted = ap is_some c.catch_up-in_default-next.ensures.held ∙ c.loop-time.invariant.counted;
       taken = taken_then file (left old) (left mid) (left new) c.loop-time.invariant.taken (rw c.loop-time.invariant.file at c.in-Ok.ensures.taken);
       counts = counts_then file (left old) (left mid) (faults old) (faults mid) (faults new) c.loop-time.invariant.taken c.loop-time.invariant.counts
           (rw c.loop-time.invariant.file at c.in-Ok.ensures.counts);

@@ -1,4 +1,5 @@
 use Rattle.std.proofs.Common.{◌≡◌, ◌-◌, ◌^◌, ℕ, List, Option, None, true}
+use Rattle.std.specs.Prelude.{is_some}
 use Rattle.flu_outside.specs.Outside.{WhereTold, SameCounts}
 use Rattle.flu_outside.specs.Taking.{TakesFrom, CountsOf, IsReadOut}
 use Rattle.flu_rows.specs.declared.rows.Next.{Next}
@@ -15,13 +16,14 @@ invariant-loop-time g l =
       form : l.self.rows.form ≡ l.fn.self.rows.form;
       file : l.self.rows.file ≡ l.source.file;
       so_far : (above : Option ℕ) (before : List Next) → IsHeldBehind l.kinds l.first l.source above before (source_of l.fn.self)
-          → IsRefilling l.kinds l.source l.first l.rows above before (source_of l.fn.self) (source_of l.self) (left l.fn.files) (left l.files);
+          → IsRefilling l.kinds l.source l.first l.rows above before l.fn.self l.self (left l.fn.files) (left l.files);
       well : (border : Option ℕ) → IsWellAt l.source border l.fn.self → IsWellAt l.source border l.self;
       out : (l.fn.self.closed ≡ true → IsReadOut l.source.file (left l.fn.files)) → l.self.closed ≡ true → IsReadOut l.source.file (left l.files);
       few : IsFew l.rows l.source l.fn.self → IsFew l.rows l.source l.self;
       room : HasRoom l.self;
       before_goal : IsBefore l.source.slack (source_of l.self);
       shut : l.self.closed ≡ true → l.self.goal ≡ None;
+      counted : is_some l.self.held ≡ is_some l.fn.self.held;
       taken : WhereTold (left l.fn.files) (left l.files) (TakesFrom l.source.file);
       counts : CountsOf (left l.fn.files) l.source.file (faults l.fn.files) (faults l.files);
       quiet : SameCounts (faults l.fn.files) (faults l.files);
