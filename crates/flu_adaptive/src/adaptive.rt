@@ -16,9 +16,10 @@ ghost use Rattle.flu_adaptive.specs.Ways.{IsWayOf};
 use crate::choosing::Chooser;
 use crate::counting::{count_events, counts_of, no_counts};
 use crate::observing::observed_plan;
-use crate::ways::{Way, alone, on_tree};
+use crate::ways::{Way, in_way};
 use flu_cells::State;
 use flu_deps::{Checked, Valid};
+use flu_fork::TreeTables;
 use flu_model::{Outs, Streams, itag_count};
 use flu_seq::{Engine, Gate};
 use std::alloc::{AllocError, Global};
@@ -40,6 +41,8 @@ use std::thread::Threads;
 pub struct Adaptive<'a, G: Gate, R, B: Engine<R>> {
     checked: &'a Checked,
     valid: Valid,
+    // What the tree needs of the job and the plan in force, once a batch was run by it.
+    tables: Option<TreeTables>,
     gate: &'a G,
     // What runs a batch if a thread is refused. It is lent to each batch.
     backup: Option<B>,
@@ -57,10 +60,12 @@ impl<'a, G: Gate, R, B: Engine<R>> Model for Adaptive<'a, G, R, B> {
     ghost use Rattle.std.specs.Prelude.{◌≡◌, IsSome, IfSome};
     ghost use Rattle.std.specs.Coded.{codes};
     ghost use Rattle.flu_deps.specs.Checking.{program_of};
-    ghost use Rattle.flu_deps.specs.Validated.{IsValidFor};
+    ghost use Rattle.flu_deps.specs.Validated.{plan_of};
+    ghost use Rattle.flu_fork.specs.Tables.{AreTreeTablesOf};
     ghost use Rattle.flu_deps.specs.contracts.checked.Checked as c;
     ghost use Rattle.flu_deps.specs.contracts.valid.Valid as v;
     ghost use Rattle.flu_adaptive.specs.Notes.{AdaptiveNote, HasItsPlan};
+    ghost use Rattle.flu_adaptive.specs.Ways.{IsPlannedFor};
 
     ghost Value = { AdaptiveNote };
 
@@ -70,7 +75,8 @@ impl<'a, G: Gate, R, B: Engine<R>> Model for Adaptive<'a, G, R, B> {
 
     ghost invariant = { λ a. HasItsPlan (record { checked = a.checked.now; valid = a.valid; counts = a.counts.items; adapts = a.adapts }) × IsSome a.backup
         × IfSome a.backup (λ b. B.program_of b ≡ program_of a.checked.now)
-        × IfSome a.chooser (λ c. IfSome c.last (IsValidFor (program_of a.checked.now))) };
+        × IfSome a.chooser (λ c. IfSome c.last (IsPlannedFor (program_of a.checked.now)))
+        × IfSome a.tables (AreTreeTablesOf (program_of a.checked.now) (plan_of a.valid).nodes) };
 }
 
 impl<'a, G: Gate, R, B: Engine<R> + Drop> Adaptive<'a, G, R, B> {
@@ -99,6 +105,7 @@ impl<'a, G: Gate, R, B: Engine<R> + Drop> Adaptive<'a, G, R, B> {
         Ok(Adaptive {
             checked,
             valid: first,
+            tables: None,
             gate,
             backup: Some(backup),
             counts,
@@ -194,6 +201,7 @@ impl<'a, G: Gate, R: Threads + Wait + Sync, B: Engine<R> + Drop> Adaptive<'a, G,
         }
         count_events(self.checked.program(), &mut self.counts, s);
         let anew = observed_plan(alloc, self.checked, self.counts.as_slice())?;
+        self.tables = None;
         self.valid = anew;
         Ok(ran)
     }
@@ -214,28 +222,24 @@ impl<'a, G: Gate, R: Threads + Wait + Sync, B: Engine<R> + Drop> Adaptive<'a, G,
         ensures same { self.new ≡ self.old }
     {
         let way = self.way(alloc, s)?;
+        let tables = self.tables.take();
         let backup = self.backup.take().unwrap();
-        let checked = self.checked;
-        let (ran, backup) = match &way {
-            Way::InForce => on_tree(
-                rt,
-                alloc,
-                checked,
-                &self.valid,
-                self.gate,
-                backup,
-                opening,
-                s,
-            ),
-            Way::Planned(valid) => {
-                on_tree(rt, alloc, checked, valid, self.gate, backup, opening, s)
-            }
-            Way::Alone => alone(rt, alloc, checked, backup, opening, s),
-        };
+        let (ran, backup, tables, way) = in_way(
+            rt,
+            alloc,
+            self.checked,
+            &self.valid,
+            tables,
+            way,
+            self.gate,
+            backup,
+            opening,
+            s,
+        );
         self.backup = Some(backup);
-        let ran = ran?;
+        self.tables = tables;
         self.take_back(way);
-        Ok(ran)
+        ran
     }
 
     // How a batch of these streams is to be run.
@@ -249,7 +253,7 @@ impl<'a, G: Gate, R: Threads + Wait + Sync, B: Engine<R> + Drop> Adaptive<'a, G,
         };
         let counts = counts_of(alloc, self.checked.program(), s)?;
         match chooser.choose(alloc, self.checked, counts.as_slice())? {
-            Some(valid) => Ok(Way::Planned(valid)),
+            Some(planned) => Ok(Way::Planned(planned)),
             None => Ok(Way::Alone),
         }
     }
@@ -259,9 +263,9 @@ impl<'a, G: Gate, R: Threads + Wait + Sync, B: Engine<R> + Drop> Adaptive<'a, G,
         requires { IsWayOf (program_of self.old.checked) way }
         ensures { self.new ≡ self.old }
     {
-        if let Way::Planned(valid) = way {
+        if let Way::Planned(planned) = way {
             if let Some(chooser) = &mut self.chooser {
-                chooser.last = Some(valid);
+                chooser.last = Some(planned);
             }
         }
     }

@@ -3,10 +3,11 @@
 ghost use Rattle.std.specs.Prelude.{◌≡◌, ◌≤◌, length, IfOk, IfSome};
 ghost use Rattle.flu_model.specs.Itags.{count_of_itags};
 ghost use Rattle.flu_deps.specs.Checking.{program_of};
-ghost use Rattle.flu_deps.specs.Validated.{IsValidFor};
+ghost use Rattle.flu_adaptive.specs.Ways.{IsPlannedFor};
 
 use crate::observing::greedy_plan;
-use flu_deps::{Checked, Valid};
+use crate::ways::Planned;
+use flu_deps::Checked;
 use flu_estimate::{Costs, is_worth_it};
 use std::alloc::{AllocError, Global};
 use std::thread::{Threads, available_parallelism};
@@ -23,7 +24,7 @@ pub(crate) struct Chooser {
     // What the batches since the last plan was made cost by the fold, in nanoseconds.
     since: u64,
     // The plan that was made last, if it is not lent.
-    pub(crate) last: Option<Valid>,
+    pub(crate) last: Option<Planned>,
     ghost shallow: { depth ≤ 6 },
 }
 
@@ -36,7 +37,7 @@ impl Chooser {
         depth: u32,
     ) -> Result<Chooser, AllocError>
         requires { depth ≤ 6 }
-        ensures { IfOk result (λ chooser. IfSome chooser.last (IsValidFor (program_of checked.now))) }
+        ensures { IfOk result (λ chooser. IfSome chooser.last (IsPlannedFor (program_of checked.now))) }
     {
         Ok(Chooser {
             costs: Costs::new(alloc, checked, processors(rt))?,
@@ -52,28 +53,44 @@ impl Chooser {
         alloc: Global,
         checked: &Checked,
         counts: &[u64],
-    ) -> Result<Option<Valid>, AllocError>
+    ) -> Result<Option<Planned>, AllocError>
         requires counts { length counts.now ≡ count_of_itags (program_of checked.now) }
-        requires last { IfSome self.old.last (IsValidFor (program_of checked.now)) }
-        ensures plan { IfOk result (λ plan. IfSome plan (IsValidFor (program_of checked.now))) }
-        ensures last { IfSome self.new.last (IsValidFor (program_of checked.now)) }
+        requires last { IfSome self.old.last (IsPlannedFor (program_of checked.now)) }
+        ensures plan { IfOk result (λ plan. IfSome plan (IsPlannedFor (program_of checked.now))) }
+        ensures last { IfSome self.new.last (IsPlannedFor (program_of checked.now)) }
     {
         let fold = self.costs.fold(counts);
+        self.renew(alloc, checked, counts, fold)?;
+        let Some(plan) = self.last.take() else {
+            return Ok(None);
+        };
+        let tree = self.costs.tree(alloc, &plan.valid, counts)?;
+        if is_worth_it(tree, fold) {
+            return Ok(Some(plan));
+        }
+        self.last = Some(plan);
+        Ok(None)
+    }
+
+    // Makes the plan anew by the counts of a batch that costs this much by the fold, if the batches since the last time cost enough.
+    fn renew(
+        &mut self,
+        alloc: Global,
+        checked: &Checked,
+        counts: &[u64],
+        fold: u64,
+    ) -> Result<(), AllocError>
+        requires counts { length counts.now ≡ count_of_itags (program_of checked.now) }
+        requires last { IfSome self.old.last (IsPlannedFor (program_of checked.now)) }
+        ensures { IfSome self.new.last (IsPlannedFor (program_of checked.now)) }
+    {
         self.since = self.since.saturating_add(fold);
         if self.since >= self.costs.planning().saturating_mul(PLANNINGS) {
             self.since = 0;
             let anew = self.best(alloc, checked, counts)?;
             self.last = anew;
         }
-        let Some(plan) = self.last.take() else {
-            return Ok(None);
-        };
-        let tree = self.costs.tree(alloc, &plan, counts)?;
-        if is_worth_it(tree, fold) {
-            return Ok(Some(plan));
-        }
-        self.last = Some(plan);
-        Ok(None)
+        Ok(())
     }
 
     // The one of the greedy plans of these counts by which the tree costs least.
@@ -82,9 +99,9 @@ impl Chooser {
         alloc: Global,
         checked: &Checked,
         counts: &[u64],
-    ) -> Result<Option<Valid>, AllocError>
+    ) -> Result<Option<Planned>, AllocError>
         requires { length counts.now ≡ count_of_itags (program_of checked.now) }
-        ensures { IfOk result (λ plan. IfSome plan (IsValidFor (program_of checked.now))) }
+        ensures { IfOk result (λ plan. IfSome plan (IsPlannedFor (program_of checked.now))) }
     {
         let mut best = None;
         let mut least = u64::MAX;
@@ -93,7 +110,10 @@ impl Chooser {
             let cost = self.costs.tree(alloc, &plan, counts)?;
             if cost < least {
                 least = cost;
-                best = Some(plan);
+                best = Some(Planned {
+                    valid: plan,
+                    tables: None,
+                });
             }
         }
         Ok(best)

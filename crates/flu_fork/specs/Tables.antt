@@ -9,9 +9,11 @@ use Rattle.flu_model.specs.Itags.{count_of_itags}
 use Rattle.flu_deps.specs.Owned.{kids_at}
 use Rattle.flu_cells.specs.Sets.{is_in, is_in_but}
 use Rattle.flu_cells.specs.declared.sets.CellSet.{CellSet}
+use Rattle.flu_tables.specs.Tables.{AreTablesOf}
 use Rattle.flu_fork.specs.Classes.{below, some_has, is_needed, is_copied}
 use Rattle.flu_fork.specs.declared.rights.Copied.{Copied}
 use Rattle.flu_fork.specs.declared.rights.Right.{Right}
+use Rattle.flu_fork.specs.declared.tree_tables.TreeTables.{TreeTables}
 
 -- the cells on which some itag of a node's subtree has such a mode
 abbrev pub IsSetOf : Program → List Node → ℕ → (Mode → Bool) → CellSet → Type 0
@@ -39,6 +41,11 @@ IsRightAt p nodes w table = (left right : ℕ) → kids_at nodes w ≡ Some (lef
 pub record AreTables (p : Program) (nodes : List Node) (tables : List Right) : Type 0 where
   pub one_each : length tables ≡ length nodes
   pub right : (w : ℕ) (table : Right) → slice_get tables w ≡ Some table → IsRightAt p nodes w table
+
+-- what is kept of a job and of a plan with these nodes for their cases
+pub record AreTreeTablesOf (p : Program) (nodes : List Node) (t : TreeTables) : Type 0 where
+  pub rights : AreTables p nodes t.rights.items
+  pub tables : AreTablesOf p nodes t.tables
 
 -- the count of an itag: the right one if it is of the right ones, and else the left one
 abbrev pub count_by : List Bool → List ℕ → List ℕ → ℕ → ℕ

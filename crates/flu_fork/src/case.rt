@@ -11,7 +11,8 @@ ghost use Rattle.flu_tables.specs.Tables.{AreTablesOf};
 ghost use Rattle.flu_fork.specs.Tables.{AreTables};
 
 use crate::note::CaseNote;
-use crate::rights::{Right, rights};
+use crate::rights::Right;
+use crate::tree_tables::TreeTables;
 use flu_cells::State;
 use flu_deps::{Checked, Valid};
 use flu_model::Streams;
@@ -61,7 +62,7 @@ impl<'a> Model for Case<'a> {
 
 impl<'a> Case<'a> {
     ghost use Rattle.std.specs.Prelude.{ℕ, ◌<◌, Some, IfOk};
-    ghost use Rattle.flu_fork.specs.Tables.{IsRightAt};
+    ghost use Rattle.flu_fork.specs.Tables.{IsRightAt, AreTreeTablesOf};
     ghost use Rattle.flu_fork.specs.Lots.{IsCaseOf, job, nodes};
 
     /// The case of a job, a plan that is valid for it, its streams and the opening state.
@@ -81,16 +82,41 @@ impl<'a> Case<'a> {
         requires sorts { IsStateOf (program_of c.now).families (held opening) }
         ensures { IfOk result (IsCaseOf c.now v.now s.now opening) }
     {
-        let rights = rights(alloc, c.program(), v)?;
-        let tables = Tables::new(alloc, c, v)?;
-        Ok(Case {
+        let tables = TreeTables::new(alloc, c, v)?;
+        Ok(Case::with(tables, c, v, s, opening))
+    }
+
+    /// The same case, with what was computed of the job and the plan before. It takes no memory.
+    pub fn with(
+        tables: TreeTables,
+        c: &'a Checked,
+        v: &'a Valid,
+        s: &'a Streams,
+        opening: State,
+    ) -> Case<'a>
+        requires of { IsValidFor (program_of c.now) v.now }
+        requires tables { AreTreeTablesOf (program_of c.now) (plan_of v.now).nodes tables }
+        requires one_each { length (listed s.now) ≡ count_of_itags (program_of c.now) }
+        requires sorts { IsStateOf (program_of c.now).families (held opening) }
+        ensures { IsCaseOf c.now v.now s.now opening result }
+    {
+        let TreeTables { rights, tables } = tables;
+        Case {
             checked: c,
             valid: v,
             streams: s,
             opening,
             rights,
             tables,
-        })
+        }
+    }
+
+    /// What was computed of the job and the plan, for another case of both. It takes no memory.
+    pub fn into_tables(self) -> TreeTables
+        ensures { AreTreeTablesOf (job self.entry) (nodes self.entry) result }
+    {
+        let Case { rights, tables, .. } = self;
+        TreeTables { rights, tables }
     }
 
     /// The job.

@@ -10,6 +10,7 @@ mod lots;
 mod note;
 mod parting;
 mod rights;
+mod tree_tables;
 
 pub use case::Case;
 pub use content::Content;
@@ -17,3 +18,4 @@ pub use counts::Counts;
 pub use lots::{Ask, Lot};
 pub use note::CaseNote;
 pub use parting::{fork, join, opening_lot};
+pub use tree_tables::TreeTables;

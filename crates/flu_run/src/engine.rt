@@ -10,13 +10,14 @@ ghost use Rattle.flu_model.specs.Listed.{listed};
 ghost use Rattle.flu_model.specs.Sorts.{IsStateOf};
 ghost use Rattle.flu_cells.specs.Holding.{held};
 ghost use Rattle.flu_deps.specs.Checking.{program_of};
-ghost use Rattle.flu_deps.specs.Validated.{IsValidFor};
+ghost use Rattle.flu_deps.specs.Validated.{plan_of, IsValidFor};
+ghost use Rattle.flu_fork.specs.Tables.{AreTreeTablesOf};
 
 use crate::root::run_tree;
 use crate::sharing::{jobs_are_shared, plans_are_shared, streams_are_shared};
 use flu_cells::State;
 use flu_deps::{Checked, Valid};
-use flu_fork::Case;
+use flu_fork::{Case, TreeTables};
 use flu_model::{Outs, Streams};
 use flu_seq::{Engine, Gate};
 use std::alloc::{AllocError, Global};
@@ -89,10 +90,38 @@ impl<'a, G: Gate, R: Threads + Wait + Sync, B: Engine<R>> TreeEngine<'a, G, R, B
         ensures outputs { IfOk result (λ r. IsPermutation (final_outputs (program_of self.old.checked.now) (held opening) (listed s.now)) r.1) }
         ensures same { self.new.checked.now ≡ self.old.checked.now }
     {
+        let tables = TreeTables::new(alloc, self.checked, self.valid)?;
+        let (ran, _tables) = self.batch_with(rt, alloc, tables, opening, s);
+        ran
+    }
+
+    /// The same, with what was computed of the job and the plan before, which is given back for the next batch, also if this one fails.
+    ///
+    /// # Errors
+    ///
+    /// Only if memory runs out.
+    pub fn batch_with(
+        &mut self,
+        rt: &R,
+        alloc: Global,
+        tables: TreeTables,
+        opening: State,
+        s: &Streams,
+    ) -> (Result<(State, Outs), AllocError>, TreeTables)
+        requires tables { AreTreeTablesOf (program_of self.old.checked.now) (plan_of self.old.valid.now).nodes tables }
+        requires lists { length (listed s.now) ≡ count_of_itags (program_of self.old.checked.now) }
+        requires sorts { IsStateOf (program_of self.old.checked.now).families (held opening) }
+        ensures state { IfOk result.0 (λ r. held r.0 ≡ final_state (program_of self.old.checked.now) (held opening) (listed s.now)) }
+        ensures sorts { IfOk result.0 (λ r. IsStateOf (program_of self.old.checked.now).families (held r.0)) }
+        ensures outputs { IfOk result.0 (λ r. IsPermutation (final_outputs (program_of self.old.checked.now) (held opening) (listed s.now)) r.1) }
+        ensures tables { AreTreeTablesOf (program_of self.old.checked.now) (plan_of self.old.valid.now).nodes result.1 }
+        ensures same { self.new.checked.now ≡ self.old.checked.now }
+    {
         jobs_are_shared(self.checked);
         plans_are_shared(self.valid);
         streams_are_shared(s);
-        let case = Case::new(alloc, self.checked, self.valid, s, opening)?;
-        run_tree(rt, alloc, &case, self.gate, &mut self.backup)
+        let case = Case::with(tables, self.checked, self.valid, s, opening);
+        let ran = run_tree(rt, alloc, &case, self.gate, &mut self.backup);
+        (ran, case.into_tables())
     }
 }
