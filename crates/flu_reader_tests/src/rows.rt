@@ -124,6 +124,11 @@ end,1,, => bad 1
 end/\u{feff}end/ => 1: end, bad 2
 1,\"inc/2,inc\"/ => 1: 1 inc None None, bad 2
 1,inc%2,inc/ => bad 1
+1,inc/2,inc[5],-1/3,incs/4,inc/5,in/6,in[7]/7,inc => 1: 1 inc None None, 2: 2 inc Some(5) Some(-1), 3: 3 incs None None, 4: 4 inc None None, 5: 5 in None None, 6: 6 in Some(7) None, 7: 7 inc None None, done 7
+1,inc/2,\"inc\"/3,inc-/4,inc => 1: 1 inc None None, 2: 2 inc None None, bad 3
+1,inc/2,inc[/3,inc => 1: 1 inc None None, bad 2
+1,su/2,sum => 1: 1 su None None, bad 2
+1,abcdefghijklmnopqrstuvwxyz012345/2,abcdefghijklmnopqrstuvwxyz012345/3,abcdefghijklmnopqrstuvwxyz0123456 => 1: 1 abcdefghijklmnopqrstuvwxyz012345 None None, 2: 2 abcdefghijklmnopqrstuvwxyz012345 None None, bad 3
 1,inc%%/%%/end => 1: 1 inc None None, 3: end, done 3
 \"1\",\"in\"c/1,in\"c/ => 1: 1 inc None None, bad 2";
 

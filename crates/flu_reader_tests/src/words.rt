@@ -18,7 +18,7 @@ fn words_of(alloc: Global, line: &str) -> Result<Vec<String>, AllocError> {
     Ok(owned)
 }
 
-/// A command as a line of its words, with a depth if none was given, and a dash for what is left out of a run.
+/// A command as a line of its words, with a depth and the rows of a round if none were given, and a dash for what is left out of a run.
 fn told(alloc: Global, command: Command) -> Result<String, AllocError> {
     match command {
         Command::Fold { job } => format!(in alloc; "fold {job}"),
@@ -28,11 +28,12 @@ fn told(alloc: Global, command: Command) -> Result<String, AllocError> {
         Command::Run { job, plan, options } => {
             let plan = plan.unwrap_or("-");
             let depth = options.depth.levels;
+            let rows = options.rows.count;
             let adapt = if options.adapt { "adapt" } else { "-" };
             let save = options.save.unwrap_or("-");
             let flushes = if options.unflushed { "unflushed" } else { "-" };
             let resume = options.resume.unwrap_or("-");
-            format!(in alloc; "run {job} {plan} {depth} {adapt} {save} {flushes} {resume}")
+            format!(in alloc; "run {job} {plan} {depth} {rows} {adapt} {save} {flushes} {resume}")
         }
         Command::Simulate {
             job,
@@ -79,31 +80,40 @@ replay|J|P|T => replay J P T
 demo|0|1 => demo 0 1
 demo|1000000|0000000007 => demo 1000000 7
 fold|fold => fold fold
-run|J => run J - 3 - - - -
-run|J|P => run J P 3 - - - -
-run|J|J => run J J 3 - - - -
-run|J|--save|s => run J - 3 - s - -
-run|J|--resume|s => run J - 3 - - - s
-run|J|P|--save|s => run J P 3 - s - -
-run|J|P|--save|s|--resume|t => run J P 3 - s - t
-run|J|P|--save|s|--resume|s => run J P 3 - s - s
-run|J|--adapt => run J - 3 adapt - - -
-run|J|P|--adapt => run J P 3 adapt - - -
-run|J|--adapt|--save|s => run J - 3 adapt s - -
-run|J|P|--adapt|--resume|t => run J P 3 adapt - - t
-run|J|P|--adapt|--save|s|--resume|t => run J P 3 adapt s - t
-run|J|--depth|0 => run J - 0 - - - -
-run|J|--depth|0000000006 => run J - 6 - - - -
-run|J|--depth|3 => run J - 3 - - - -
-run|J|--depth|1|--adapt => run J - 1 adapt - - -
-run|J|--depth|2|--save|s => run J - 2 - s - -
-run|J|--depth|4|--resume|t => run J - 4 - - - t
-run|J|--save|s|--unflushed => run J - 3 - s unflushed -
-run|J|P|--save|s|--unflushed => run J P 3 - s unflushed -
-run|J|--adapt|--save|s|--unflushed => run J - 3 adapt s unflushed -
-run|J|--save|s|--unflushed|--resume|t => run J - 3 - s unflushed t
-run|J|P|--adapt|--save|s|--unflushed|--resume|t => run J P 3 adapt s unflushed t
-run|J|--depth|5|--adapt|--save|s|--unflushed|--resume|t => run J - 5 adapt s unflushed t";
+run|J => run J - 3 4096 - - - -
+run|J|P => run J P 3 4096 - - - -
+run|J|J => run J J 3 4096 - - - -
+run|J|--save|s => run J - 3 4096 - s - -
+run|J|--resume|s => run J - 3 4096 - - - s
+run|J|P|--save|s => run J P 3 4096 - s - -
+run|J|P|--save|s|--resume|t => run J P 3 4096 - s - t
+run|J|P|--save|s|--resume|s => run J P 3 4096 - s - s
+run|J|--adapt => run J - 3 4096 adapt - - -
+run|J|P|--adapt => run J P 3 4096 adapt - - -
+run|J|--adapt|--save|s => run J - 3 4096 adapt s - -
+run|J|P|--adapt|--resume|t => run J P 3 4096 adapt - - t
+run|J|P|--adapt|--save|s|--resume|t => run J P 3 4096 adapt s - t
+run|J|--depth|0 => run J - 0 4096 - - - -
+run|J|--depth|0000000006 => run J - 6 4096 - - - -
+run|J|--depth|3 => run J - 3 4096 - - - -
+run|J|--depth|1|--adapt => run J - 1 4096 adapt - - -
+run|J|--depth|2|--save|s => run J - 2 4096 - s - -
+run|J|--depth|4|--resume|t => run J - 4 4096 - - - t
+run|J|--save|s|--unflushed => run J - 3 4096 - s unflushed -
+run|J|P|--save|s|--unflushed => run J P 3 4096 - s unflushed -
+run|J|--adapt|--save|s|--unflushed => run J - 3 4096 adapt s unflushed -
+run|J|--save|s|--unflushed|--resume|t => run J - 3 4096 - s unflushed t
+run|J|P|--adapt|--save|s|--unflushed|--resume|t => run J P 3 4096 adapt s unflushed t
+run|J|--depth|5|--adapt|--save|s|--unflushed|--resume|t => run J - 5 4096 adapt s unflushed t
+run|J|--round|1 => run J - 3 1 - - - -
+run|J|--round|4096 => run J - 3 4096 - - - -
+run|J|--round|0000000007 => run J - 3 7 - - - -
+run|J|P|--round|2 => run J P 3 2 - - - -
+run|J|--depth|6|--round|100 => run J - 6 100 - - - -
+run|J|P|--round|5|--adapt => run J P 3 5 adapt - - -
+run|J|--round|9|--save|s|--unflushed|--resume|t => run J - 3 9 - s unflushed t
+run|J|P|--round|3|--adapt|--save|s|--unflushed|--resume|t => run J P 3 3 adapt s unflushed t
+run|J|--depth|5|--round|4095|--adapt|--save|s|--unflushed|--resume|t => run J - 5 4095 adapt s unflushed t";
 
 #[test]
 fn commands_are_read(rt: HostRuntime) -> Result<(), Fail> {
@@ -148,6 +158,31 @@ run|--save|s => bad words at 1
 run|J| => bad words at 2
 run|--adapt|J => bad words at 1
 run|J|--adap => bad words at 2
+run|J|--round => bad words at 3
+run|J|--round|0 => bad words at 3
+run|J|--round|0000000000 => bad words at 3
+run|J|--round|4097 => bad words at 3
+run|J|--round|99999999999 => bad words at 3
+run|J|--round|00000000001 => bad words at 3
+run|J|--round| => bad words at 3
+run|J|--round|-1 => bad words at 3
+run|J|--round|+1 => bad words at 3
+run|J|--round|1|--round|1 => bad words at 4
+run|J|--round|1|x => bad words at 4
+run|J|--round|1|--depth|2 => bad words at 4
+run|J|--round|1|P => bad words at 4
+run|J|P|--round => bad words at 4
+run|J|P|--round|0 => bad words at 4
+run|J|P|--round|4097 => bad words at 4
+run|J|P|--depth|1|--round|1 => bad words at 3
+run|J|--depth|1|--round => bad words at 5
+run|J|--depth|1|--round|0 => bad words at 5
+run|J|--adapt|--round|1 => bad words at 3
+run|J|--save|s|--round|1 => bad words at 4
+run|J|--depth|1|--round|1|--adapt|--save|s|--unflushed|--resume => bad words at 11
+run|J|--depth|1|--round|1|--adapt|--save|s|--unflushed|--resume|t|x => bad words at 12
+plan|J|--round|1 => bad words at 2
+simulate|J|P|1|--round|1 => bad words at 4
 run|J|--adapt|P => bad words at 3
 run|J|--adapt|--adapt => bad words at 3
 run|J|P|Q => bad words at 3

@@ -63,27 +63,42 @@ checkpoint_is_refused p name bytes f.OtherJob a b before now whole is = has_faul
 checkpoint_is_refused p name bytes f.NoMemory a b before now whole is = tt
 
 -- an opening that a run can have
-pub opening_saved : (p : Program) (t : ℕ) (s : Cells) (bytes : List ℕ) → IsSave p t s bytes → IsOpening p (record { border = Some t; cells = s })
-opening_saved p t s bytes is = record {
+pub opening_saved : (p : Program) (t : ℕ) (s : Cells) (rows : ℕ) (bytes : List ℕ) → IsSave p t s bytes → 1 ≤ rows → rows ≤ 4096
+    → IsOpening p (record { border = Some t; cells = s; rows = rows })
+opening_saved p t s rows bytes is some few = record {
   in_range = λ time same. let e : t ≡ time = cc in subst (λ (n : ℕ). n < 2 ^ 63) e is.checkpoint.border;
   sorts = is.checkpoint.state.sorts;
   empty = λ e. absurd (cc);
+  some = some;
+  few = few;
 }
 
-pub opening_fresh : (p : Program) (s : Cells) → s ≡ nothing_held → IsOpening p (record { border = None; cells = s })
-opening_fresh p s empty = record {
+pub opening_fresh : (p : Program) (s : Cells) (rows : ℕ) → s ≡ nothing_held → 1 ≤ rows → rows ≤ 4096
+    → IsOpening p (record { border = None; cells = s; rows = rows })
+opening_fresh p s rows empty some few = record {
   in_range = λ time same. absurd (cc);
   sorts = subst (λ (cells : Cells). IsStateOf p.families cells) (sym empty) (λ d. tt);
   empty = λ e. empty;
+  some = some;
+  few = few;
 }
 
-pub opened_saved : (p : Program) (name bytes : List ℕ) (t : ℕ) (s : Cells) (a b : Option Contents) → WhereTold a b (TookWhole name most_bytes bytes)
-    → WhereTold a b (TakesFrom name) → IsSave p t s bytes
-    → WhereTold a b (IsOpened (Some name) p (record { border = Some t; cells = s }))
-opened_saved p name bytes t s a b whole taken is =
-    told_weaker (λ x y. TookWhole name most_bytes bytes x y × TakesFrom name x y) (IsOpened (Some name) p (record { border = Some t; cells = s })) a b
+pub opened_saved : (p : Program) (name bytes : List ℕ) (t : ℕ) (s : Cells) (rows : ℕ) (a b : Option Contents)
+    → WhereTold a b (TookWhole name most_bytes bytes) → WhereTold a b (TakesFrom name) → IsSave p t s bytes → 1 ≤ rows
+    → WhereTold a b (IsOpened rows (Some name) p (record { border = Some t; cells = s; rows = rows }))
+opened_saved p name bytes t s rows a b whole taken is some =
+    told_weaker (λ x y. TookWhole name most_bytes bytes x y × TakesFrom name x y)
+    (IsOpened rows (Some name) p (record { border = Some t; cells = s; rows = rows })) a b
     (λ x y both. record {
-      opens = record { time = t; above = refl; save = subst (λ (all : List ℕ). IsSave p t s all) (sym (all_bytes name bytes x y both.0 is.short)) is };
+      opens = (
+        record {
+          time = t;
+          above = refl;
+          save = subst (λ (all : List ℕ). IsSave p t s all) (sym (all_bytes name bytes x y both.0 is.short)) is;
+          some = some;
+        },
+        refl,
+      );
       texts = one_text name x y (both.0.end is.short) both.1;
     })
     (told_both (TookWhole name most_bytes bytes) (TakesFrom name) a b whole taken)

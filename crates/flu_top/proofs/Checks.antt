@@ -26,12 +26,12 @@ is_checked job p text a b read checked =
           accepted = λ asked. checked.accepted;
           plan = λ plan named. absurd (cc);
           start =
-              can_start (Check job) x p (record { save = refl; resume = refl });
+              can_start (Check job) x p (record { save = refl; resume = refl; rows = refl });
           sources = tt;
         };
         ends = λ name found apart. ap y (sym (only_one job name found)) ∙ whole.end;
         trace = λ trace named. absurd (cc);
-        saved = has_saved (Check job) p x y (record { save = refl; resume = refl });
+        saved = has_saved (Check job) p x y (record { save = refl; resume = refl; rows = refl });
       },
       checked.is,
       refl,

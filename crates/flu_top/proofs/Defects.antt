@@ -8,7 +8,7 @@ use Rattle.flu_streams.specs.Fronts.{LawOfMeeting}
 use Rattle.flu_words.specs.Words.{Command}
 use Rattle.flu_top.specs.Causes.{IsMet}
 use Rattle.flu_top.specs.Openings.{Opening}
-use Rattle.flu_top.specs.Reading.{Reading, Unread, Whole, InRounds, AreSourcesGood, HasDefectIn, HasDefect, MeetsDefect, lines_behind, rows_in_round}
+use Rattle.flu_top.specs.Reading.{Reading, Unread, Whole, InRounds, AreSourcesGood, HasDefectIn, HasDefect, MeetsDefect, lines_behind}
 use Rattle.flu_top.specs.Wants.{texts_named}
 
 pub good_or_bad : (reading : Reading) (texts : List (List ℕ)) (left : Contents) (p : Program) → AreSourcesGood reading texts left p
@@ -26,7 +26,7 @@ met_in_round meeting p o lines text put fault met =
       is = found.1;
       row = fault.row;
       why = fault.why;
-      defect = meeting p.kinds found.0 rows_in_round met.border (lines fault.source) (met.ran.before fault.source) (met.meets.now fault.source)
+      defect = meeting p.kinds found.0 o.rows met.border (lines fault.source) (met.ran.before fault.source) (met.meets.now fault.source)
           fault.row fault.why found.2;
     }
 

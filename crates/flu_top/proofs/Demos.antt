@@ -54,12 +54,12 @@ is_shown n seed p text left demo accepted is = (
       accepted = λ asked. accepted;
       plan = λ plan named. absurd (cc);
       start =
-          can_start (Demo n seed) left p (record { save = refl; resume = refl });
+          can_start (Demo n seed) left p (record { save = refl; resume = refl; rows = refl });
       sources = tt;
     };
     ends = λ name found apart. absurd (none_among name found);
     trace = λ trace named. absurd (cc);
-    saved = has_saved (Demo n seed) p left left (record { save = refl; resume = refl });
+    saved = has_saved (Demo n seed) p left left (record { save = refl; resume = refl; rows = refl });
   },
   is,
   refl,

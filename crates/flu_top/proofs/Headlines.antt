@@ -1,5 +1,5 @@
 -- The headline of each command, from the clauses of the call.
-use Rattle.std.proofs.Common.{◌≡◌, refl, sym, ap, ◌∙◌, subst, ℕ, List, [], ◌∷◌, ◌++◌, Bool, true, false, Option, Some, None, Ok, inl, inr, ◌⊎◌, arith}
+use Rattle.std.proofs.Common.{◌≡◌, refl, sym, ap, ◌∙◌, subst, ℕ, ◌≤◌, List, [], ◌∷◌, ◌++◌, Bool, true, false, Option, Some, None, Ok, inl, inr, ◌⊎◌, arith}
 use Rattle.std.specs.Prelude.{Contains, IsTrue, slice_get, if◌then◌else◌}
 use Rattle.std.specs.Option.{option_map_or}
 use Rattle.std.proofs.lemmas.Bool.{false≢true}
@@ -20,7 +20,7 @@ use Rattle.flu_rounds.specs.Written.{AreSound, lines_in}
 use Rattle.flu_streams.specs.Files.{files_of}
 use Rattle.flu_streams.specs.Good.{first_fault}
 use Rattle.flu_streams.specs.Rounds.{defect_in}
-use Rattle.flu_words.specs.Words.{Command, Fold, Run, Simulate, Replay, command_in}
+use Rattle.flu_words.specs.Words.{Command, Fold, Run, Simulate, Replay, RoundsHaveRows, command_in}
 use Rattle.flu_top.specs.Behind.{Named, HasJob, fault_behind, lists_behind, report_behind, plan_behind}
 use Rattle.flu_top.specs.Emptied.{emptied, emptied_each, if_named}
 use Rattle.flu_top.specs.Headline.{fold_report, WritesOrNoMemory, NoneFailed, HaveNoDefect, IsValidPlanText, FoldIsTheReport, RunIsTheFold}
@@ -153,7 +153,7 @@ fold_good job left p text good = record {
   has = text;
   accepted = λ asked. absurd (false≢true asked);
   plan = λ name named. absurd (no_name name named);
-  start = can_start (Fold job) left p (record { save = refl; resume = refl });
+  start = can_start (Fold job) left p (record { save = refl; resume = refl; rows = refl });
   sources = good;
 }
 
@@ -170,12 +170,13 @@ fold_law jobs words old new before now status outcome complete job left p word t
     (fold_good job left p text good) (λ trace named. absurd (no_name trace named)) (fold_writes jobs job left p text)
 
 -- ---- run
-abbrev run_fresh : List ℕ → Option (List ℕ) → ℕ → Bool → Option (List ℕ) → Bool → Command
-run_fresh job plan depth adapt save unflushed = Run job plan (record { depth = depth; adapt = adapt; save = save; unflushed = unflushed; resume = None })
+abbrev run_fresh : List ℕ → Option (List ℕ) → ℕ → ℕ → Bool → Option (List ℕ) → Bool → Command
+run_fresh job plan depth rows adapt save unflushed =
+    Run job plan (record { depth = depth; rows = rows; adapt = adapt; save = save; unflushed = unflushed; resume = None })
 
-run_among : (job : List ℕ) (plan : Option (List ℕ)) (depth : ℕ) (adapt : Bool) (save : Option (List ℕ)) (unflushed : Bool) (p : Program)
-    → AreAmong (run_fresh job plan depth adapt save unflushed) job p ((job ∷ if_named plan) ++ files_of p.sources)
-run_among job plan depth adapt save unflushed p = record {
+run_among : (job : List ℕ) (plan : Option (List ℕ)) (depth rows : ℕ) (adapt : Bool) (save : Option (List ℕ)) (unflushed : Bool) (p : Program)
+    → AreAmong (run_fresh job plan depth rows adapt save unflushed) job p ((job ∷ if_named plan) ++ files_of p.sources)
+run_among job plan depth rows adapt save unflushed p = record {
   its_job = refl;
   fresh = refl;
   job_in = (0, omega arith, refl);
@@ -184,39 +185,39 @@ run_among job plan depth adapt save unflushed p = record {
   sources_in = λ name found. Contains-append_right (job ∷ if_named plan) (files_of p.sources) name found;
 }
 
-run_good : (job : List ℕ) (plan : Option (List ℕ)) (depth : ℕ) (adapt : Bool) (save : Option (List ℕ)) (unflushed : Bool) (left : Contents) (p : Program)
-    → HasJob (Named job) left p → IsAccepted p
+run_good : (job : List ℕ) (plan : Option (List ℕ)) (depth rows : ℕ) (adapt : Bool) (save : Option (List ℕ)) (unflushed : Bool) (left : Contents) (p : Program)
+    → 1 ≤ rows → HasJob (Named job) left p → IsAccepted p
     → ((name : List ℕ) → plan ≡ Some name → IsValidPlanText name (emptied job left) p)
     → HaveNoDefect p (emptied_each (job ∷ if_named plan) left)
-    → ((name : List ℕ) → save ≡ Some name → ¬ Contains (files_of p.sources) name) → IsGood (run_fresh job plan depth adapt save unflushed) left p
+    → ((name : List ℕ) → save ≡ Some name → ¬ Contains (files_of p.sources) name) → IsGood (run_fresh job plan depth rows adapt save unflushed) left p
 unfolding plan_behind
-run_good job plan depth adapt save unflushed left p text accepted valid good apart = record {
+run_good job plan depth rows adapt save unflushed left p some text accepted valid good apart = record {
   has = text;
   accepted = λ asked. accepted;
   plan = valid;
-  start = (fresh, record { apart = record { save = apart; resume = λ name named. absurd (no_name name named) }; opens = refl });
+  start = (fresh rows, record { apart = record { save = apart; resume = λ name named. absurd (no_name name named) }; opens = (refl, some) });
   sources = subst (λ (texts : List (List ℕ)). AreSound p (lines_behind texts left p)) (sym (append-nil (job ∷ if_named plan)))
       (sound p (emptied_each (job ∷ if_named plan) left) good);
 }
 
-run_writes : JobsAreGrammar → (job : List ℕ) (plan : Option (List ℕ)) (depth : ℕ) (adapt : Bool) (save : Option (List ℕ)) (unflushed : Bool)
+run_writes : JobsAreGrammar → (job : List ℕ) (plan : Option (List ℕ)) (depth rows : ℕ) (adapt : Bool) (save : Option (List ℕ)) (unflushed : Bool)
     → (left : Contents) (p : Program) → HasJob (Named job) left p
-    → WritesOnly (run_fresh job plan depth adapt save unflushed) left (fold_report p (emptied_each (job ∷ if_named plan) left))
+    → WritesOnly (run_fresh job plan depth rows adapt save unflushed) left (fold_report p (emptied_each (job ∷ if_named plan) left))
 unfolding lists_behind
-run_writes jobs job plan depth adapt save unflushed left p text q other its is =
+run_writes jobs job plan depth rows adapt save unflushed left p text q other its is =
     is.2
-    ∙ (ap (λ (o : Opening). report_from o ((job ∷ if_named plan) ++ []) left q) is.1
-    ∙ (ap (λ (texts : List (List ℕ)). report_from fresh texts left q) (append-nil (job ∷ if_named plan))
+    ∙ (ap (λ (o : Opening). report_from o ((job ∷ if_named plan) ++ []) left q) is.1.0
+    ∙ (ap (λ (texts : List (List ℕ)). report_from (fresh rows) texts left q) (append-nil (job ∷ if_named plan))
     ∙ one_report jobs job left (emptied_each (job ∷ if_named plan) left) p q text its))
 
-pub run_law : JobsAreGrammar → RunIsTheFold
-run_law jobs words old new before now status outcome complete job plan depth adapt save unflushed left p word told text accepted valid good none puts =
-    let command = run_fresh job plan depth adapt save unflushed in
+pub run_law : JobsAreGrammar → RoundsHaveRows → RunIsTheFold
+run_law jobs has_rows words old new before now status outcome complete job plan depth rows adapt save unflushed left p word told text accepted valid good none puts =
+    let command = run_fresh job plan depth rows adapt save unflushed in
     writes words old new before now status outcome complete command left p (fold_report p (emptied_each (job ∷ if_named plan) left)) word told
-    (nothing_failed jobs command job left p ((job ∷ if_named plan) ++ files_of p.sources) (run_among job plan depth adapt save unflushed p) text
+    (nothing_failed jobs command job left p ((job ∷ if_named plan) ++ files_of p.sources) (run_among job plan depth rows adapt save unflushed p) text
     old.left before now told none (λ name named. (puts name named).1))
-    (run_good job plan depth adapt save unflushed left p text accepted valid good (λ name named. (puts name named).0))
-    (λ trace named. absurd (no_name trace named)) (run_writes jobs job plan depth adapt save unflushed left p text)
+    (run_good job plan depth rows adapt save unflushed left p (has_rows words job plan _ word).0 text accepted valid good (λ name named. (puts name named).0))
+    (λ trace named. absurd (no_name trace named)) (run_writes jobs job plan depth rows adapt save unflushed left p text)
 
 -- ---- simulate and replay
 simulation_among : (job plan : List ℕ) (seed : ℕ) (p : Program) → AreAmong (Simulate job plan seed false) job p ((job ∷ plan ∷ []) ++ files_of p.sources)
@@ -255,7 +256,7 @@ simulation_good job plan seed left p text accepted valid good = record {
   has = text;
   accepted = λ asked. accepted;
   plan = asked_one job plan left p valid;
-  start = can_start (Simulate job plan seed false) left p (record { save = refl; resume = refl });
+  start = can_start (Simulate job plan seed false) left p (record { save = refl; resume = refl; rows = refl });
   sources = good;
 }
 
@@ -266,7 +267,7 @@ replay_good job plan trace left p text accepted valid good = record {
   has = text;
   accepted = λ asked. accepted;
   plan = asked_one job plan left p valid;
-  start = can_start (Replay job plan trace) left p (record { save = refl; resume = refl });
+  start = can_start (Replay job plan trace) left p (record { save = refl; resume = refl; rows = refl });
   sources = good;
 }
 

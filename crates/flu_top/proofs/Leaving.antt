@@ -22,16 +22,17 @@ use Rattle.flu_top.specs.Resuming.{BeginsWith, HasPut, Behind, AtTheEnd, HasLeft
 use Rattle.flu_top.proofs.OneCommand.{same_command}
 
 -- ---- openings
--- bytes open in one way
-same_at : LawOfOneMeaning → (p : Program) (bytes : List ℕ) (o r : Opening) → OpensAt p bytes o → OpensAt p bytes r → o ≡ r
-same_at meaning p bytes o r a b =
+-- bytes open in one way, with a number of rows
+same_at : LawOfOneMeaning → (p : Program) (bytes : List ℕ) (o r : Opening) → OpensAt p bytes o → OpensAt p bytes r → o.rows ≡ r.rows → o ≡ r
+same_at meaning p bytes o r a b rows =
     let same = meaning p bytes a.time b.time o.cells r.cells a.save b.save in
-    λ i. record { border = (a.above ∙ ap Some same.0 ∙ sym b.above) i; cells = same.1 i }
+    λ i. record { border = (a.above ∙ ap Some same.0 ∙ sym b.above) i; cells = same.1 i; rows = rows i }
 
-same_opening : LawOfOneMeaning → (resume : Option (List ℕ)) (texts : List (List ℕ)) (left : Contents) (p : Program) (o r : Opening)
-    → Opens resume texts left p o → Opens resume texts left p r → o ≡ r
-same_opening meaning None texts left p o r a b = a ∙ sym b
-same_opening meaning (Some name) texts left p o r a b = same_at meaning p (bytes_left (emptied_each texts left) name) o r a b
+same_opening : LawOfOneMeaning → (rows : ℕ) (resume : Option (List ℕ)) (texts : List (List ℕ)) (left : Contents) (p : Program) (o r : Opening)
+    → Opens rows resume texts left p o → Opens rows resume texts left p r → o ≡ r
+same_opening meaning rows None texts left p o r a b = a.0 ∙ sym b.0
+same_opening meaning rows (Some name) texts left p o r a b =
+    same_at meaning p (bytes_left (emptied_each texts left) name) o r a.0 b.0 (a.1 ∙ sym b.1)
 
 -- ---- what was written
 begins_all : (text before now : List ℕ) → now ≡ before ++ text → BeginsWith text before now
@@ -136,7 +137,7 @@ module _ (meaning : LawOfOneMeaning) (job : List ℕ) (plan : Option (List ℕ))
       let text = found.1 in
       let saved = found.2.saved file saves in
       let o = saved.0 in
-      let same : found.3.0 ≡ o = same_opening meaning options.resume (job ∷ if_named plan) left p found.3.0 o found.3.1 saved.1.opens in
+      let same : found.3.0 ≡ o = same_opening meaning options.rows options.resume (job ∷ if_named plan) left p found.3.0 o found.3.1 saved.1.opens in
       inr (record {
         p = p;
         job = found.2.good.has;
@@ -212,7 +213,7 @@ module _ (job : List ℕ) (plan : Option (List ℕ)) (options : RunOptions) (fil
         found.2.good.has,
         (
           found.3.0,
-          subst (λ (named : Option (List ℕ)). Opens named (job ∷ if_named plan) left found.0 found.3.0) resumes found.3.1,
+          (subst (λ (named : Option (List ℕ)). Opens options.rows named (job ∷ if_named plan) left found.0 found.3.0) resumes found.3.1).0,
           subst (λ (text : List ℕ). WhereTold had has (AppendsAll text)) found.3.2 found.5,
         ),
       )) done

@@ -20,12 +20,12 @@ is_planned job depth p text a b read planned =
           accepted = λ asked. planned.accepted;
           plan = λ plan named. absurd (cc);
           start =
-              can_start (Plan job depth) x p (record { save = refl; resume = refl });
+              can_start (Plan job depth) x p (record { save = refl; resume = refl; rows = refl });
           sources = tt;
         };
         ends = λ name found apart. ap y (sym (only_one job name found)) ∙ whole.end;
         trace = λ trace named. absurd (cc);
-        saved = has_saved (Plan job depth) p x y (record { save = refl; resume = refl });
+        saved = has_saved (Plan job depth) p x y (record { save = refl; resume = refl; rows = refl });
       },
       planned.plan,
       refl,

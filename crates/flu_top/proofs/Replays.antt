@@ -218,7 +218,7 @@ behind_refusal p nodes lists trace a b c k l m (refusals.TraceFault fault) read 
 
 -- ---- the trace behind the texts and the sources
 no_checkpoint : (job plan trace : List ℕ) → NamesNoCheckpoint (Replay job plan trace)
-no_checkpoint job plan trace = record { save = refl; resume = refl }
+no_checkpoint job plan trace = record { save = refl; resume = refl; rows = refl }
 
 module _ (job plan trace : List ℕ) (p : Program) (nodes : List Node) (a b c : Option Contents) (accepted : IsAccepted p)
     (ready : WhereTold a b (IsReady (Replay job plan trace) p)) (found : WhereTold a b (HasNodes job plan p nodes)) where

@@ -1,5 +1,5 @@
 -- What a checkpoint that a run has put opens is the rest of the run.
-use Rattle.std.proofs.Common.{◌≡◌, refl, sym, ap, ◌∙◌, subst, ℕ, ◌<◌, ◌^◌, List, [], ◌∷◌, ◌++◌, Option, Some, None, inl, inr, append-nil, append_assoc}
+use Rattle.std.proofs.Common.{◌≡◌, refl, sym, ap, ◌∙◌, subst, ℕ, ◌<◌, ◌≤◌, ◌^◌, List, [], ◌∷◌, ◌++◌, Option, Some, None, inl, inr, append-nil, append_assoc}
 use Rattle.std.proofs.Common.{arith, zero, suc, true, false, cond}
 use Rattle.std.specs.Prelude.{slice_get, option_map, unwrap_or, Contains, sum_by}
 use Rattle.std.specs.List.{AllByRecursion, flat_map}
@@ -65,19 +65,23 @@ nothing_savable : (p : Program) → IsSavable p.families nothing_held
 nothing_savable p = record { sorts = λ c. tt; width = λ c. tt }
 
 opening_savable : (p : Program) (o : Opening) → IsOpeningOf p o → IsSavable p.families o.cells
-opening_savable p o (inl new) = subst (λ (q : Opening). IsSavable p.families q.cells) (sym new) (nothing_savable p)
+opening_savable p o (inl new) = subst (λ (q : Opening). IsSavable p.families q.cells) (sym new.0) (nothing_savable p)
 opening_savable p o (inr saved) = saved.1.save.checkpoint.state
 
--- an opening with this border and these cells
-abbrev pub opening_at : ℕ → State → Opening
-opening_at t s = record { border = Some t; cells = s }
+opening_some : (p : Program) (o : Opening) → IsOpeningOf p o → 1 ≤ o.rows
+opening_some p o (inl new) = new.1
+opening_some p o (inr saved) = saved.1.some
+
+-- an opening with this number of rows, this border and these cells
+abbrev pub opening_at : ℕ → ℕ → State → Opening
+opening_at rows t s = record { border = Some t; cells = s; rows = rows }
 
 -- a checkpoint opens what it was made of, and nothing else
 opens_itself : SavesMeanThemselves → (p : Program) (t : ℕ) (s : State) (checkpoint : List ℕ) (rest : Opening) → t < 2 ^ 63 → IsSavable p.families s
-    → checkpoint ≡ save p t s → OpensAt p checkpoint rest → rest ≡ opening_at t s
+    → checkpoint ≡ save p t s → OpensAt p checkpoint rest → rest ≡ opening_at rest.rows t s
 opens_itself meaning p t s checkpoint rest border savable is opens =
     let same = meaning p t opens.time s rest.cells border savable (subst (λ (bytes : List ℕ). IsSave p opens.time rest.cells bytes) is opens.save) in
-    λ i. record { border = (opens.above ∙ ap Some same.0) i; cells = same.1 i }
+    λ i. record { border = (opens.above ∙ ap Some same.0) i; cells = same.1 i; rows = rest.rows }
 
 module _ (laws : LawsOfRests) (p : Program) (o : Opening) (left : Contents) (whole : ℕ → List Next) (lines : LinesIn p left whole)
     (sound : AreSound p whole) (can : IsOpeningOf p o) where
@@ -95,7 +99,7 @@ module _ (laws : LawsOfRests) (p : Program) (o : Opening) (left : Contents) (who
 
   -- ---- behind some round
   module _ (t : ℕ) (done : List (List (List Item))) (before : ℕ → List Next)
-      (comes : ComesFrom p rows_in_round whole o.border done (Some t) before) where
+      (comes : ComesFrom p o.rows whole o.border done (Some t) before) where
     abbrev early : List (List Item)
     early = lists_between p o.border (At t) before
 
@@ -105,10 +109,10 @@ module _ (laws : LawsOfRests) (p : Program) (o : Opening) (left : Contents) (who
     folds : FoldsInTurn p o.cells items early (lists_between p (Some t) Closed whole)
     folds = by o.border comes
       where
-        by : (border : Option ℕ) → ComesFrom p rows_in_round whole border done (Some t) before
+        by : (border : Option ℕ) → ComesFrom p o.rows whole border done (Some t) before
             → FoldsInTurn p o.cells (lists_above border (lists_of p left)) (lists_between p border (At t) before) (lists_between p (Some t) Closed whole)
-        by None came = laws.fronts p o.cells rows_in_round whole done t before left lines sound came
-        by (Some start) came = laws.fronts_above p o.cells rows_in_round whole start done t before left (omega arith) lines sound came
+        by None came = laws.fronts p o.cells o.rows whole done t before left lines sound came
+        by (Some start) came = laws.fronts_above p o.cells o.rows whole start done t before left (opening_some p o can) lines sound came
 
     late : merged (lists_between p (Some t) Closed whole) ≡ merged (beyond t (lists_of p left))
     late = later_rows p left whole lines sound laws.later t
@@ -121,20 +125,20 @@ module _ (laws : LawsOfRests) (p : Program) (o : Opening) (left : Contents) (who
     state_of_both = folds.state ∙ ap (state_after p cells) late
 
     module _ (some : done ≡ [] → ⊥) where
-      to : RoundTo p rows_in_round whole (Some t) before
-      to = round_to p rows_in_round whole o.border done (Some t) before comes some
+      to : RoundTo p o.rows whole (Some t) before
+      to = round_to p o.rows whole o.border done (Some t) before comes some
 
       same_border : to.border ≡ t
       same_border = let e = to.is in cc
 
       pub border_fits : t < 2 ^ 63
       border_fits =
-          subst (λ (n : ℕ). n < 2 ^ 63) same_border (border_low p rows_in_round whole (fit p left whole lines sound) (Some t) before to)
+          subst (λ (n : ℕ). n < 2 ^ 63) same_border (border_low p o.rows whole (fit p left whole lines sound) (Some t) before to)
 
       pub cells_savable : IsSavable p.families cells
       cells_savable =
           state_savable early (merged_fit p o.border (At t) before
-          (round_fits p rows_in_round whole (fit p left whole lines sound) (Some t) before to))
+          (round_fits p o.rows whole (fit p left whole lines sound) (Some t) before to))
 
   -- ---- behind all rounds
   all_savable : IsSavable p.families (final_state p o.cells items)
@@ -152,14 +156,14 @@ module _ (laws : LawsOfRests) (p : Program) (o : Opening) (left : Contents) (who
   nothing_later = none_beyond p left whole lines sound laws.last laws.cut
 
 -- ---- what was put
--- the border and the state of a checkpoint that was put, and that what it opens is the rest
+-- the border and the state of a checkpoint that was put, and that what it opens is the rest, in rounds of any number of rows
 pub record IsPut (p : Program) (o : Opening) (texts : List (List ℕ)) (left : Contents) (text checkpoint : List ℕ) : Type 0 where
   pub border : ℕ
   pub cells : State
   pub is : checkpoint ≡ save p border cells
   pub in_range : border < 2 ^ 63
   pub savable : IsSavable p.families cells
-  pub rest : IsRest p o (opening_at border cells) texts left text
+  pub rest : (rows : ℕ) → IsRest p o (opening_at rows border cells) texts left text
 
 lines_are_in : (p : Program) (left : Contents) → LinesIn p left (lines_in p left)
 lines_are_in p left i s at =
@@ -193,8 +197,8 @@ module _ (laws : LawsOfRests) (p : Program) (o : Opening) (texts : List (List �
       let ran = written.ran in
       let found = put_by_some p o ran.done written.border ran.before checkpoint written.saved in
       let t = found.1.0 in
-      let comes : ComesFrom p rows_in_round whole o.border ran.done (Some t) ran.before =
-      subst (λ (border : Option ℕ). ComesFrom p rows_in_round whole o.border ran.done border ran.before) found.1.1 ran.comes in
+      let comes : ComesFrom p o.rows whole o.border ran.done (Some t) ran.before =
+      subst (λ (border : Option ℕ). ComesFrom p o.rows whole o.border ran.done border ran.before) found.1.1 ran.comes in
       let wrote : text ≡ report p (final_outputs p o.cells (lists_between p o.border (At t) ran.before)) =
       ran.text ∙ ap (λ (border : Option ℕ). text_up_from p o.border o.cells border ran.before) found.1.1 in
       record {
@@ -203,7 +207,7 @@ module _ (laws : LawsOfRests) (p : Program) (o : Opening) (texts : List (List �
         is = found.1.2;
         in_range = border_fits laws p o files whole lines sound can t ran.done ran.before comes found.0;
         savable = cells_savable laws p o files whole lines sound can t ran.done ran.before comes found.0;
-        rest = record {
+        rest = λ rows. record {
           report = report_of_both laws p o files whole lines sound can t ran.done ran.before comes
               ∙ ap (λ (bytes : List ℕ). bytes ++ report p (final_outputs p (final_state p o.cells (lists_between p o.border (At t) ran.before))
               (beyond t (lists_of p files)))) (sym wrote);
@@ -223,7 +227,7 @@ module _ (laws : LawsOfRests) (p : Program) (o : Opening) (texts : List (List �
         is = is;
         in_range = omega arith;
         savable = all_savable laws p o files whole lines sound can;
-        rest = record {
+        rest = λ rows. record {
           report = sym (append-nil (report_from o texts left p)) ∙ ap (λ (bytes : List ℕ). bytes ++ []) (sym wrote)
               ∙ ap (λ (xs : List Event). text ++ report p (outputs_of p cells xs)) (sym none);
           state = ap (state_after p cells) (sym none);
@@ -239,7 +243,7 @@ pub opens_the_rest : LawsOfRests → CheckpointsOpenTheRest
 opens_the_rest laws p o rest texts left text checkpoint sound can put opens =
     let is = put_is_rest laws p o texts left sound can text checkpoint put in
     subst (λ (r : Opening). IsRest p o r texts left text)
-    (sym (opens_itself laws.meaning p is.border is.cells checkpoint rest is.in_range is.savable is.is opens)) is.rest
+    (sym (opens_itself laws.meaning p is.border is.cells checkpoint rest is.in_range is.savable is.is opens)) (is.rest rest.rows)
 
 go_on : LawsOfRests → (p : Program) (texts : List (List ℕ)) (left : Contents) → AreSound p (lines_behind texts left p)
     → (o last : Opening) (text : List ℕ) → IsOpeningOf p o → GoOn p texts left o text last → IsRest p o last texts left text
@@ -262,8 +266,13 @@ checkpoints_open laws are_short are_utf8 p job o texts left text checkpoint job_
     let is = put_is_rest laws p o texts left sound can text checkpoint put in
     let saved = laws.saves p is.border is.cells is.in_range is.savable short utf8 in (
       (
-        opening_at is.border is.cells,
-        record { time = is.border; above = refl; save = subst (λ (bytes : List ℕ). IsSave p is.border is.cells bytes) (sym is.is) saved },
+        opening_at rows_in_round is.border is.cells,
+        record {
+          time = is.border;
+          above = refl;
+          save = subst (λ (bytes : List ℕ). IsSave p is.border is.cells bytes) (sym is.is) saved;
+          some = omega arith;
+        },
       ),
       λ fault found. laws.no_fault p is.border is.cells is.in_range is.savable short utf8 fault
           (subst (λ (bytes : List ℕ). IsFaultOf p bytes fault) is.is found),

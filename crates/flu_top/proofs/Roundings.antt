@@ -44,7 +44,7 @@ use Rattle.flu_top.specs.Done.{AppendsInto}
 use Rattle.flu_top.specs.Ending.{Call, call}
 use Rattle.flu_top.specs.Openings.{Opening}
 use Rattle.flu_top.specs.Products.{line_said}
-use Rattle.flu_top.specs.Reading.{HaveWritten, MeetsDefect, ReportsNext, put_by, rows_in_round, greatest_border}
+use Rattle.flu_top.specs.Reading.{HaveWritten, MeetsDefect, ReportsNext, put_by, greatest_border}
 use Rattle.flu_top.specs.Running.{GoesOn, StaysWithin, IsAllRun, HasFailed, RanAll, RanToDefect, RanSome, RanInto, RanUnsaved, EndsRounds, Steps, PutsAt, PutFailed}
 use Rattle.flu_top.specs.Running.{IsSavedTo, border_at, borders_above, put_behind}
 use Rattle.flu_top.specs.Running.{IsPlanSaid, SaysCounts, SaysPlan, all_lists}
@@ -166,15 +166,16 @@ nothing_put (Some name) (Some bytes) left none = absurd (cc)
 
 pub rounds_start : (adapts : Bool) (p : Program) (note : AdaptiveNote) (o : Opening) (named : Option (List ℕ)) (a : Option Files) (k s : List ℕ → ℕ)
     (had : Option (List ℕ)) (x : ℕ) (now : Standing)
-    → LawOfBeginningFrom o.border o.cells → program_of note.checked ≡ p → note.adapts ≡ adapts → note.counts ≡ no_counts p
-    → IsFirstFrom p rows_in_round o.border o.cells now
+    → LawOfBeginningFrom o.border o.cells → program_of note.checked ≡ p → note.adapts ≡ adapts → note.counts ≡ no_counts p → 1 ≤ o.rows
+    → IsFirstFrom p o.rows o.border o.cells now
     → GoesOn adapts p note o named (call a a k k s s had had x x) now
-rounds_start adapts p note o named a k s had x now beginning engine adapting none first =
-    let begun = beginning p rows_in_round a now first in
+rounds_start adapts p note o named a k s had x now beginning engine adapting none some first =
+    let begun = beginning p o.rows a now first in
     record {
       engine = engine;
       adapting = adapting;
       stage = ap (λ h. h.stage) first.held';
+      some = some;
       written = [];
       came = begun.0;
       counted = λ follows. none ∙ sym (ap (grown_in_turn (no_counts p)) begun.1);
@@ -312,17 +313,17 @@ module _ (adapts : Bool) (p : Program) (note : AdaptiveNote) (o : Opening) (name
   ran_to_defect : Laws o → (fault : SourceFault) → IsSourceFault old.held b d (SourceDefect fault) → has ≡ mid
       → RanToDefect p o named (call a d k m s u had has x z) fault
   ran_to_defect laws fault met nothing = record {
-    source = (laws.defect p rows_in_round a b d old go.written fault (omega arith) go.came met).0;
+    source = (laws.defect p o.rows a b d old go.written fault go.some go.came met).0;
     text = go.written;
     wrote = still nothing;
     met = told_weaker
-        (λ was is. ((ran : RanFrom p rows_in_round o.border o.cells (lines_in p was) old.held.border go.written) × (ran.done ≡ go.came.done)
+        (λ was is. ((ran : RanFrom p o.rows o.border o.cells (lines_in p was) old.held.border go.written) × (ran.done ≡ go.came.done)
         × IsStateUpTo p o.border o.cells old.held.border ran.before (held old.state)
-        × IsRoundFault p rows_in_round old.held.border (lines_in p was) ran.before fault)
+        × IsRoundFault p o.rows old.held.border (lines_in p was) ran.before fault)
         × LeavesPut named [] put was is)
         (λ left now. (put' : Option (List ℕ)) × MeetsDefect p o (lines_in p left) go.written put' fault × LeavesPut named [] put' left now) a d
         (λ was is h. (put, record { border = old.held.border; ran = h.0.0; saved = put_was h.0.0.done h.0.0.before h.0.1 h.0.2; meets = h.0.3 }, h.1))
-        (told_both _ (LeavesPut named [] put) a d (laws.defect_state p rows_in_round a b d old go.written fault (omega arith) go.came met) leaves_on);
+        (told_both _ (LeavesPut named [] put) a d (laws.defect_state p o.rows a b d old go.written fault go.some go.came met) leaves_on);
   }
 
   ran_some : Laws o → has ≡ mid → RanSome p o named (call a d k m s u had has x z)
@@ -330,12 +331,12 @@ module _ (adapts : Bool) (p : Program) (note : AdaptiveNote) (o : Opening) (name
     text = go.written;
     wrote = still nothing;
     rounds = told_weaker
-        (λ was is. ((ran : RanFrom p rows_in_round o.border o.cells (lines_in p was) old.held.border go.written) × (ran.done ≡ go.came.done)
+        (λ was is. ((ran : RanFrom p o.rows o.border o.cells (lines_in p was) old.held.border go.written) × (ran.done ≡ go.came.done)
         × IsStateUpTo p o.border o.cells old.held.border ran.before (held old.state)) × LeavesPut named [] put was is)
         (λ left now. (put' : Option (List ℕ)) × HaveWritten p o (lines_in p left) go.written put' × LeavesPut named [] put' left now) a d
         (λ was is h. (put, record { border = old.held.border; ran = h.0.0; saved = put_was h.0.0.done h.0.0.before h.0.1 h.0.2 }, h.1))
         (told_both _ (LeavesPut named [] put) a d
-        (told_then _ TookFronts _ a b d (λ was is now ran fronts. ran) (laws.state p rows_in_round a b old go.written (omega arith) go.came) within.fronts)
+        (told_then _ TookFronts _ a b d (λ was is now ran fronts. ran) (laws.state p o.rows a b old go.written go.some go.came) within.fronts)
         leaves_on);
   }
 
@@ -365,7 +366,7 @@ module _ (adapts : Bool) (p : Program) (note : AdaptiveNote) (o : Opening) (name
         record {
           rounds = came.0;
           earlier = subst (λ (r : Program). AtEach (λ i s'. i < h.at → (turn : Turn)
-              × Reads r.kinds s' rows_in_round old.held.border (lines_in p was i) (go.came.before i) (h.now i) turn × IsPassed turn) r.sources)
+              × Reads r.kinds s' o.rows old.held.border (lines_in p was i) (go.came.before i) (h.now i) turn × IsPassed turn) r.sources)
               go.came.program
               (subst (λ (n : ℕ). AtEach (λ i s'. i < h.at → (turn : Turn)
               × Reads old.held.program.kinds s' n old.held.border (lines_in p was i) (go.came.before i) (h.now i) turn × IsPassed turn)
@@ -382,9 +383,9 @@ module _ (adapts : Bool) (p : Program) (note : AdaptiveNote) (o : Opening) (name
       → WhereTold a d (λ left after. (put' : Option (List ℕ)) × ReportsNext p o (lines_in p left) go.written put' (round_report old end now)
       × LeavesPut named [] put' left after)
   reports_next laws end now round = told_weaker
-      (λ was is. ((ran : RanFrom p rows_in_round o.border o.cells (lines_in p was) old.held.border go.written) × (ran.done ≡ go.came.done)
+      (λ was is. ((ran : RanFrom p o.rows o.border o.cells (lines_in p was) old.held.border go.written) × (ran.done ≡ go.came.done)
       × IsStateUpTo p o.border o.cells old.held.border ran.before (held old.state)
-      × WouldWriteFrom p rows_in_round o.border o.cells (lines_in p was) old.held.border ran.before now end (go.written ++ round_report old end now))
+      × WouldWriteFrom p o.rows o.border o.cells (lines_in p was) old.held.border ran.before now end (go.written ++ round_report old end now))
       × LeavesPut named [] put was is)
       (λ left after. (put' : Option (List ℕ)) × ReportsNext p o (lines_in p left) go.written put' (round_report old end now)
       × LeavesPut named [] put' left after) a d
@@ -401,7 +402,7 @@ module _ (adapts : Bool) (p : Program) (note : AdaptiveNote) (o : Opening) (name
         },
         h.1,
       ))
-      (told_both _ (LeavesPut named [] put) a d (laws.next p rows_in_round a b d old go.written end now (omega arith) go.came round) leaves_on)
+      (told_both _ (LeavesPut named [] put) a d (laws.next p o.rows a b d old go.written end now go.some go.came round) leaves_on)
 
   ran_into : Laws o
       → ((before : ℕ → List Next) → AreHeldBehind old.held before → (end : Border) × (now : ℕ → List Next) × IsRoundOf old b d end before now
@@ -510,8 +511,8 @@ module _ (adapts : Bool) (p : Program) (note : AdaptiveNote) (o : Opening) (name
       goes_on laws time at =
           let runs = subst (WritesRound note note' old new b d mid has go.came.before) at its_run in
           let stands = subst (λ (b' : Border). StandsBehind old.held new.held b') at run.stands in
-          let on = laws.going p rows_in_round a b d old new go.written time go.came runs.0 stands run.read_out in
-          let still_on = laws.others p rows_in_round a d e new (go.written ++ round_report old (At time) runs.0.fills.now) on.0
+          let on = laws.going p o.rows a b d old new go.written time go.came runs.0 stands run.read_out in
+          let still_on = laws.others p o.rows a d e new (go.written ++ round_report old (At time) runs.0.fills.now) on.0
           (told_weaker (TookOnly (IsSavedTo named)) (λ was is. (name : List ℕ) → Contains (files_of p.sources) name → is name ≡ was name) d e
           (λ r f only name found. put_keeps_sources p named r f apart only name found) kept) in
           let bytes = save p time (held new.state) in
@@ -521,6 +522,7 @@ module _ (adapts : Bool) (p : Program) (note : AdaptiveNote) (o : Opening) (name
             engine = still_engine;
             adapting = run.adapting ∙ go.adapting;
             stage = stands.stage;
+            some = go.some;
             written = go.written ++ round_report old (At time) runs.0.fills.now;
             came = still_on.0;
             counted = λ follows.
@@ -547,7 +549,7 @@ module _ (adapts : Bool) (p : Program) (note : AdaptiveNote) (o : Opening) (name
           told_weaker (λ was is. grown note.counts (round_lists old Closed runs.0.fills.now) ≡ grown (no_counts p) (all_lists p o was))
           (λ was is. note'.counts ≡ grown (no_counts p) (all_lists p o was)) a d
           (λ was is all. runs.2 (go.adapting ∙ follows) ∙ all)
-          (laws.counts p rows_in_round o.border o.cells a b d old new go.written (no_counts p) note.counts (omega arith)
+          (laws.counts p o.rows o.border o.cells a b d old new go.written (no_counts p) note.counts go.some
           (record { came = go.came; counts' = go.counted follows }) runs.0) in
           record {
             may_say = says.may_say;
@@ -561,7 +563,7 @@ module _ (adapts : Bool) (p : Program) (note : AdaptiveNote) (o : Opening) (name
           let runs = subst (WritesRound note note' old new b d mid has go.came.before) at its_run in
           let stands = subst (λ (b' : Border). StandsBehind old.held new.held b') at run.stands in
           let text = go.written ++ round_report old Closed runs.0.fills.now in
-          let whole = laws.last p rows_in_round a b d old new go.written (omega arith) go.came runs.0 stands run.read_out closed in
+          let whole = laws.last p o.rows a b d old new go.written go.some go.came runs.0 stands run.read_out closed in
           let bytes = save p greatest_border (held new.state) in
           let ran : RanAll p o named (call a e k n s w had has x z) =
           record {

@@ -21,7 +21,7 @@ use Rattle.flu_top.specs.Openings.{Opening, report_from}
 use Rattle.flu_top.specs.Starting.{StartsFrom, CanStart, Leaves, LeavesAnything}
 use Rattle.flu_top.specs.Wants.{job_wanted, if_named, how_read, texts_named}
 use Rattle.flu_top.specs.Mended.{AreMended, RunsWriteFrontsOfMended}
-use Rattle.flu_top.specs.Reading.{InRounds, HasDefect, HaveWritten, ReportsNext, lines_behind, rows_in_round}
+use Rattle.flu_top.specs.Reading.{InRounds, HasDefect, HaveWritten, ReportsNext, lines_behind}
 use Rattle.flu_top.specs.Done.{HasPlanAsked, IsGood, IsDone, WhereKnown, AppendsInto, Wrote}
 use Rattle.flu_top.specs.Done.{WroteRounds, WroteSome, WroteUnsaved, WroteForMemory, WroteForPut, WroteIntoRound, WrotePart}
 use Rattle.flu_top.specs.Causes.{HasSourceFault, IsMetInRounds}
@@ -33,6 +33,7 @@ use Rattle.flu_top.proofs.Defects.{good_or_bad}
 use Rattle.flu_top.proofs.Mendings.{ran_of_mended, next_of_mended}
 use Rattle.flu_top.proofs.SameJob.{same_good, same_mended}
 use Rattle.flu_top.proofs.OneCommand.{same_command, no_command}
+use Rattle.flu_top.proofs.Starts.{starts_some}
 
 -- ---- bytes
 -- a front of a text stands behind what was there
@@ -79,9 +80,9 @@ BeginsWith text front = (rest : List ℕ) × (text ≡ front ++ rest)
 -- round more, and with the report of all events where the run is done
 module _ (job : List ℕ) (plan : Option (List ℕ)) (options : RunOptions) (left : Contents) (p : Program) (has_job : HasJob (Named job) left p)
     (start : CanStart (Run job plan options) left p) (written : Program → Opening → List ℕ)
-    (front_of : (q : Program) (o : Opening) (border : Option ℕ) (text : List ℕ) → HasJob (Named job) left q
-    → RanFrom q rows_in_round o.border o.cells (lines_behind (texts_named (Run job plan options)) left q) border text → BeginsWith (written q o) text)
-    (next_of : (q : Program) (o : Opening) (text more : List ℕ) (put : Option (List ℕ)) → HasJob (Named job) left q
+    (front_of : (q : Program) (o : Opening) (border : Option ℕ) (text : List ℕ) → HasJob (Named job) left q → 1 ≤ o.rows
+    → RanFrom q o.rows o.border o.cells (lines_behind (texts_named (Run job plan options)) left q) border text → BeginsWith (written q o) text)
+    (next_of : (q : Program) (o : Opening) (text more : List ℕ) (put : Option (List ℕ)) → HasJob (Named job) left q → 1 ≤ o.rows
     → ReportsNext q o (lines_behind (texts_named (Run job plan options)) left q) text put more → BeginsWith (written q o) (text ++ more))
     (all_of : (q : Program) (o : Opening) → IsGood (Run job plan options) left q
     → BeginsWith (written q o) (report_from o (texts_named (Run job plan options)) left q)) where
@@ -140,7 +141,7 @@ module _ (job : List ℕ) (plan : Option (List ℕ)) (options : RunOptions) (lef
       × ((put : Option (List ℕ)) × HaveWritten q o (lines_behind texts x q) wrote.text put × Leaves whole put x y))) left a b told wrote.rounds).1 in
       let o = found.2.0 in
       let ran = found.2.2.1 in
-      let front = front_of q o ran.border wrote.text found.0 ran.ran in
+      let front = front_of q o ran.border wrote.text found.0 (starts_some whole left q o found.2.1) ran.ran in
       front_written q o wrote.text front.0 had has found.0 found.2.1 front.1 wrote.wrote
 
   unsaved_written : (Left : Option (List ℕ) → Contents → Contents → Type 0) (a b : Option Contents) (had has : Option (List ℕ)) → a ≡ Some left
@@ -152,7 +153,7 @@ module _ (job : List ℕ) (plan : Option (List ℕ)) (options : RunOptions) (lef
       × ((o : Opening) × StartsFrom whole x q o
       × ((put : Option (List ℕ)) × ReportsNext q o (lines_behind texts x q) wrote.text put wrote.more × Left put x y))) left a b told wrote.round).1 in
       let o = found.2.0 in
-      let front = next_of q o wrote.text wrote.more found.2.2.0 found.0 found.2.2.1 in
+      let front = next_of q o wrote.text wrote.more found.2.2.0 found.0 (starts_some whole left q o found.2.1) found.2.2.1 in
       front_written q o (wrote.text ++ wrote.more) front.0 had has found.0 found.2.1 front.1 wrote.wrote
 
   part_written : (a b : Option Contents) (had has : Option (List ℕ)) → a ≡ Some left → WroteIntoRound whole a b had has → HasFront written whole job left had has
@@ -162,7 +163,7 @@ module _ (job : List ℕ) (plan : Option (List ℕ)) (options : RunOptions) (lef
       × ((o : Opening) × StartsFrom whole x q o
       × ((put : Option (List ℕ)) × ReportsNext q o (lines_behind texts x q) wrote.text put wrote.more × Leaves whole put x y))) left a b told wrote.round).1 in
       let o = found.2.0 in
-      let front = next_of q o wrote.text wrote.more found.2.2.0 found.0 found.2.2.1 in
+      let front = next_of q o wrote.text wrote.more found.2.2.0 found.0 (starts_some whole left q o found.2.1) found.2.2.1 in
       more_written q o wrote.text wrote.more front.0 had has found.0 found.2.1 front.1 wrote.wrote
 
   met_written : (a b : Option Contents) (had has : Option (List ℕ)) (q : Program) (fault : SourceFault) (text : List ℕ) → a ≡ Some left
@@ -172,7 +173,7 @@ module _ (job : List ℕ) (plan : Option (List ℕ)) (options : RunOptions) (lef
       let found = (of_told (λ x y. HasJob (Named job) x q × HasPlanAsked whole x q × CanStart whole x q × IsMetInRounds whole x y q text fault) left a b told
       why.first).1 in
       let met = found.3 in
-      let front = front_of q met.opening met.met.border text found.0 met.met.ran in
+      let front = front_of q met.opening met.met.border text found.0 (starts_some whole left q met.opening met.starts) met.met.ran in
       front_written q met.opening text front.0 had has found.0 met.starts front.1 wrote
 
   done_written : (a b : Option Contents) (had has : Option (List ℕ)) (line : List ℕ) → a ≡ Some left → WhereTold a b (IsDone whole had has line)
@@ -238,17 +239,17 @@ module _ (jobs : JobsAreGrammar) (fronts : ReportFronts) (nexts : NextReportFron
   sound_of : (q : Program) → HasJob (Named job) left q → AreSound q (lines_behind its_texts left q)
   sound_of q has = same_good InRounds its_texts left p q (same_job jobs (Named job) left p q good.has has) good.sources
 
-  good_front : (q : Program) (o : Opening) (border : Option ℕ) (text : List ℕ) → HasJob (Named job) left q
-      → RanFrom q rows_in_round o.border o.cells (lines_behind its_texts left q) border text → BeginsWith (report_from o its_texts left q) text
+  good_front : (q : Program) (o : Opening) (border : Option ℕ) (text : List ℕ) → HasJob (Named job) left q → 1 ≤ o.rows
+      → RanFrom q o.rows o.border o.cells (lines_behind its_texts left q) border text → BeginsWith (report_from o its_texts left q) text
   unfolding lists_behind
-  good_front q o border text has ran =
-      fronts o.border o.cells q rows_in_round (emptied_each its_texts left) border text (omega arith) (sound_of q has) ran
+  good_front q o border text has some ran =
+      fronts o.border o.cells q o.rows (emptied_each its_texts left) border text some (sound_of q has) ran
 
-  good_next : (q : Program) (o : Opening) (text more : List ℕ) (put : Option (List ℕ)) → HasJob (Named job) left q
+  good_next : (q : Program) (o : Opening) (text more : List ℕ) (put : Option (List ℕ)) → HasJob (Named job) left q → 1 ≤ o.rows
       → ReportsNext q o (lines_behind its_texts left q) text put more → BeginsWith (report_from o its_texts left q) (text ++ more)
   unfolding lists_behind
-  good_next q o text more put has round =
-      nexts o.border o.cells q rows_in_round (emptied_each its_texts left) round.border text (text ++ more) round.now round.end (omega arith) (sound_of q has)
+  good_next q o text more put has some round =
+      nexts o.border o.cells q o.rows (emptied_each its_texts left) round.border text (text ++ more) round.now round.end some (sound_of q has)
       round.ran round.next
 
 pub runs_law : JobsAreGrammar → ReportFronts → NextReportFronts → RunsWriteFronts
@@ -266,22 +267,22 @@ module _ (jobs : JobsAreGrammar) (fronts : ReportFronts) (nexts : NextReportFron
   mended_of : (q : Program) → HasJob (Named job) left q → AreMended q (emptied_each (texts_named (Run job plan options)) left) mended
   mended_of q has = same_mended p q (emptied_each (texts_named (Run job plan options)) left) mended (same_job jobs (Named job) left p q has_job has) mends
 
-  mended_front : (q : Program) (o : Opening) (border : Option ℕ) (text : List ℕ) → HasJob (Named job) left q
-      → RanFrom q rows_in_round o.border o.cells (lines_behind (texts_named (Run job plan options)) left q) border text
+  mended_front : (q : Program) (o : Opening) (border : Option ℕ) (text : List ℕ) → HasJob (Named job) left q → 1 ≤ o.rows
+      → RanFrom q o.rows o.border o.cells (lines_behind (texts_named (Run job plan options)) left q) border text
       → BeginsWith (mended_report mended q o) text
-  mended_front q o border text has ran =
+  mended_front q o border text has some ran =
       let its = mended_of q has in
-      fronts o.border o.cells q rows_in_round mended border text (omega arith) its.sound
-      (ran_of_mended q rows_in_round (lines_behind (texts_named (Run job plan options)) left q) (lines_in q mended) its.each o.border o.cells border text ran)
+      fronts o.border o.cells q o.rows mended border text some its.sound
+      (ran_of_mended q o.rows (lines_behind (texts_named (Run job plan options)) left q) (lines_in q mended) its.each o.border o.cells border text ran)
 
-  mended_next : (q : Program) (o : Opening) (text more : List ℕ) (put : Option (List ℕ)) → HasJob (Named job) left q
+  mended_next : (q : Program) (o : Opening) (text more : List ℕ) (put : Option (List ℕ)) → HasJob (Named job) left q → 1 ≤ o.rows
       → ReportsNext q o (lines_behind (texts_named (Run job plan options)) left q) text put more → BeginsWith (mended_report mended q o) (text ++ more)
-  mended_next q o text more put has round =
+  mended_next q o text more put has some round =
       let its = mended_of q has in
       let whole = lines_behind (texts_named (Run job plan options)) left q in
-      nexts o.border o.cells q rows_in_round mended round.border text (text ++ more) round.now round.end (omega arith) its.sound
-      (ran_of_mended q rows_in_round whole (lines_in q mended) its.each o.border o.cells round.border text round.ran)
-      (next_of_mended q rows_in_round whole (lines_in q mended) its.each o.border o.cells round.border round.ran.before round.now round.end (text ++ more)
+      nexts o.border o.cells q o.rows mended round.border text (text ++ more) round.now round.end some its.sound
+      (ran_of_mended q o.rows whole (lines_in q mended) its.each o.border o.cells round.border text round.ran)
+      (next_of_mended q o.rows whole (lines_in q mended) its.each o.border o.cells round.border round.ran.before round.now round.end (text ++ more)
       round.next)
 
   -- it is not done
@@ -299,8 +300,8 @@ mended_law jobs fronts nexts words old new status outcome job plan options left 
 -- ---- what the report is
 pub fresh_law : FreshRunsReportTheFold
 unfolding lists_behind report_behind
-fresh_law job plan depth adapt save unflushed left p o starts =
-    ap (λ (from : Opening). report_from from ((job ∷ if_named plan) ++ []) left p) starts.opens
+fresh_law job plan depth rows adapt save unflushed left p o starts =
+    ap (λ (from : Opening). report_from from ((job ∷ if_named plan) ++ []) left p) starts.opens.0
     ∙ ap (λ (texts : List (List ℕ)). report_behind texts left p) (append-nil (job ∷ if_named plan))
 
 pub resumed_law : LawOfBorders → ItemsAreCut → ResumedRunsGoOn

@@ -254,17 +254,19 @@ pub record IsStarted (job : List ℕ) (plan : Option (List ℕ)) (options : RunO
   pub starts : StartsFrom (Run job plan options) old p o
   pub fronts : TookFronts old new
 
-opens_behind : (resume : Option (List ℕ)) (texts : List (List ℕ)) (p : Program) (o : Opening) (x y : Contents) → emptied_each texts x ≡ y
-    → Opens resume [] y p o → Opens resume texts x p o
-opens_behind None texts p o x y behind opens = opens
-opens_behind (Some name) texts p o x y behind opens = subst (λ (left : Contents). OpensAt p (bytes_left left name) o) (sym behind) opens
+opens_behind : (rows : ℕ) (resume : Option (List ℕ)) (texts : List (List ℕ)) (p : Program) (o : Opening) (x y : Contents) → emptied_each texts x ≡ y
+    → Opens rows resume [] y p o → Opens rows resume texts x p o
+opens_behind rows None texts p o x y behind opens = opens
+opens_behind rows (Some name) texts p o x y behind opens =
+    (subst (λ (left : Contents). OpensAt p (bytes_left left name) o) (sym behind) opens.0, opens.1)
 
 pub is_started : (job : List ℕ) (plan : Option (List ℕ)) (options : RunOptions) (p : Program) (o : Opening) (a b d : Option Contents)
     → AreNoSources (Run job plan options) p
-    → WhereTold a b (IsBegun job plan p) → WhereTold a b TookFronts → WhereTold b d (IsOpened options.resume p o) → WhereTold b d TookFronts
+    → WhereTold a b (IsBegun job plan p) → WhereTold a b TookFronts → WhereTold b d (IsOpened options.rows options.resume p o) → WhereTold b d TookFronts
     → WhereTold a d (IsStarted job plan options p o)
 is_started job plan options p o a b d apart begun fronts opened fronts' =
-    told_then (λ x y. IsBegun job plan p x y × TookFronts x y) (λ y z. IsOpened options.resume p o y z × TookFronts y z) (IsStarted job plan options p o) a b d
+    told_then (λ x y. IsBegun job plan p x y × TookFronts x y) (λ y z. IsOpened options.rows options.resume p o y z × TookFronts y z)
+    (IsStarted job plan options p o) a b d
     (λ x y z first second. record {
       ready = record {
         has = first.0.has;
@@ -272,24 +274,24 @@ is_started job plan options p o a b d apart begun fronts opened fronts' =
         texts =
             texts_then (job ∷ if_named plan) (if_named options.resume) x y z first.0.texts second.0.texts;
       };
-      starts = record { apart = apart; opens = opens_behind options.resume (job ∷ if_named plan) p o x y first.0.texts.behind second.0.opens };
+      starts = record { apart = apart; opens = opens_behind options.rows options.resume (job ∷ if_named plan) p o x y first.0.texts.behind second.0.opens };
       fronts = fronts_then (Some x) (Some y) (Some z) first.1 second.1;
     })
-    (told_both (IsBegun job plan p) TookFronts a b begun fronts) (told_both (IsOpened options.resume p o) TookFronts b d opened fronts')
+    (told_both (IsBegun job plan p) TookFronts a b begun fronts) (told_both (IsOpened options.rows options.resume p o) TookFronts b d opened fronts')
 
 -- ---- what is said
 -- what is said of the counts of all events is what the command says
-says_line : (adapts : Bool) (texts : List (List ℕ)) (resume : Option (List ℕ)) (p : Program) (o : Opening) (left : Contents) (line : List ℕ)
-    → Opens resume texts left p o
-    → IsPlanSaid adapts p (grown (no_counts p) (lists_from o (texts ++ if_named resume) left p)) line → IsLine (plan_said adapts texts resume) left p line
-says_line false texts resume p o left line opens is = is
-says_line true texts resume p o left line opens is = (o, opens, is)
+says_line : (adapts : Bool) (rows : ℕ) (texts : List (List ℕ)) (resume : Option (List ℕ)) (p : Program) (o : Opening) (left : Contents) (line : List ℕ)
+    → Opens rows resume texts left p o
+    → IsPlanSaid adapts p (grown (no_counts p) (lists_from o (texts ++ if_named resume) left p)) line → IsLine (plan_said adapts rows texts resume) left p line
+says_line false rows texts resume p o left line opens is = is
+says_line true rows texts resume p o left line opens is = (o, opens, is)
 
-may_say_line : (adapts : Bool) (texts : List (List ℕ)) (resume : Option (List ℕ)) (said : Option Said) → MaySayPlan adapts said
-    → MaySay (plan_said adapts texts resume) said
-may_say_line false texts resume said is = is
-may_say_line true texts resume None is = is
-may_say_line true texts resume (Some said) is = is
+may_say_line : (adapts : Bool) (rows : ℕ) (texts : List (List ℕ)) (resume : Option (List ℕ)) (said : Option Said) → MaySayPlan adapts said
+    → MaySay (plan_said adapts rows texts resume) said
+may_say_line false rows texts resume said is = is
+may_say_line true rows texts resume None is = is
+may_say_line true rows texts resume (Some said) is = is
 
 -- ---- the rounds of a run, behind its texts
 module _ (job : List ℕ) (plan : Option (List ℕ)) (options : RunOptions) (p : Program) (o : Opening) (a b d : Option Contents) (k l m s t u : List ℕ → ℕ)
@@ -323,9 +325,9 @@ module _ (job : List ℕ) (plan : Option (List ℕ)) (options : RunOptions) (p :
   -- all events are those of the sources behind the texts
   says_behind : (said : Option Said) (v w : Contents) → IsStarted job plan options p o v w
       → IsPlanSaid options.adapt p (grown (no_counts p) (lists_above o.border (lists_of p w))) (line_said said)
-      → IsLine (plan_said options.adapt (job ∷ if_named plan) options.resume) v p (line_said said)
+      → IsLine (plan_said options.adapt options.rows (job ∷ if_named plan) options.resume) v p (line_said said)
   unfolding lists_behind
-  says_behind said v w first is = says_line options.adapt (job ∷ if_named plan) options.resume p o v (line_said said) first.starts.opens
+  says_behind said v w first is = says_line options.adapt options.rows (job ∷ if_named plan) options.resume p o v (line_said said) first.starts.opens
       (subst (λ (left : Contents). IsPlanSaid options.adapt p (grown (no_counts p) (lists_above o.border (lists_of p left))) (line_said said))
       (sym first.ready.texts.behind) is)
 
@@ -372,7 +374,7 @@ module _ (job : List ℕ) (plan : Option (List ℕ)) (options : RunOptions) (p :
         (told_both (TookOnly (λ name. Contains (files_of p.sources) name ⊎ IsSavedTo options.save name))
         (λ v w. IsPlanSaid options.adapt p (grown (no_counts p) (lists_above o.border (lists_of p v))) (line_said said)) b d
         within.others says.told));
-    may_say = may_say_line options.adapt (job ∷ if_named plan) options.resume said says.may_say;
+    may_say = may_say_line options.adapt options.rows (job ∷ if_named plan) options.resume said says.may_say;
   }
 
   met : (job_read : JobRead) (fault : SourceFault) → program_read job_read ≡ p → RanToDefect p o options.save (call b d l m t u had has x z) fault

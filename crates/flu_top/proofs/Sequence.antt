@@ -31,8 +31,8 @@ use Rattle.flu_top.specs.Taking.{TookOnly}
 use Rattle.flu_top.specs.Behind.{WantedJob, Named, Fixed, HasJob, job_files, fault_behind, report_behind}
 use Rattle.flu_top.specs.Emptied.{emptied, emptied_each}
 use Rattle.flu_top.specs.Openings.{Opens, fresh}
-use Rattle.flu_top.specs.Reading.{Reading, Whole, is_read, AreSourcesGood}
-use Rattle.flu_top.specs.Wants.{job_wanted, plan_named, save_named, resume_named, trace_named, asks_accepted, how_read, reads_sources, if_named}
+use Rattle.flu_top.specs.Reading.{Reading, Whole, is_read, AreSourcesGood, rows_in_round}
+use Rattle.flu_top.specs.Wants.{job_wanted, plan_named, save_named, resume_named, rows_named, trace_named, asks_accepted, how_read, reads_sources, if_named}
 use Rattle.flu_top.specs.Wants.{job_and_plan_named, texts_named, sources_read, Writes}
 use Rattle.flu_top.specs.Starting.{AreNoSources, CanStart}
 use Rattle.flu_top.specs.Done.{HasPlanAsked, IsGood, IsTraceRead, HasSaved, IsRead, Says, MayHaveJob, MayBeJob, IsReadName, IsSourceFile, IsWritten}
@@ -80,6 +80,7 @@ same_or_apart a b = by_test (bytes_eq a b) refl
 pub record NamesNoCheckpoint (command : Command) : Type 0 where
   pub save : save_named command ≡ None
   pub resume : resume_named command ≡ None
+  pub rows : rows_named command ≡ rows_in_round
 
 pub no_sources : (command : Command) (p : Program) → NamesNoCheckpoint command → AreNoSources command p
 no_sources command p none = record {
@@ -90,11 +91,11 @@ no_sources command p none = record {
 -- it starts fresh
 pub can_start : (command : Command) (left : Contents) (p : Program) → NamesNoCheckpoint command → CanStart command left p
 can_start command left p none = (
-  fresh,
+  fresh (rows_named command),
   record {
     apart = no_sources command p none;
-    opens = subst (λ (o : Option (List ℕ)). Opens o (job_and_plan_named command) left p fresh)
-        (sym none.resume) refl;
+    opens = subst (λ (resume : Option (List ℕ)). Opens (rows_named command) resume (job_and_plan_named command) left p (fresh (rows_named command)))
+        (sym none.resume) (refl, subst (λ (n : ℕ). 1 ≤ n) (sym none.rows) (omega arith));
   },
 )
 

@@ -82,7 +82,7 @@ is_simulated job plan seed trace p nodes text steps a b c accepted ready found r
     (IsWritten (Simulate job plan seed trace) text (step_line steps)) a b c
     (λ x y z first second. (
       p,
-      read_at (Simulate job plan seed trace) p x y z refl (λ asked. accepted) (record { save = refl; resume = refl }) first.0 second.0
+      read_at (Simulate job plan seed trace) p x y z refl (λ asked. accepted) (record { save = refl; resume = refl; rows = refl }) first.0 second.0
           (stays_ended (files_of p.sources) y z second.0.ends second.3)
           (no_trace_read (Simulate job plan seed trace) p x z refl),
       text_at job plan seed trace p nodes text x y first.0.texts.behind first.1 second.1,

@@ -1,5 +1,5 @@
 -- Programs that are the same job start alike, and what keeps a run from its start is that it can't start.
-use Rattle.std.proofs.Common.{◌≡◌, sym, ap, ◌∙◌, subst, ℕ, List, Option, Some, None}
+use Rattle.std.proofs.Common.{◌≡◌, sym, ap, ◌∙◌, subst, ℕ, ◌≤◌, List, Option, Some, None}
 use Rattle.std.specs.Prelude.{Contains, option_map, slice_get}
 use Rattle.std.proofs.lemmas.Option.{slice_get-map, slice_get_within, get_or_from_slice_get}
 use Rattle.flu_outside.specs.Outside.{Contents as Files}
@@ -16,8 +16,8 @@ use Rattle.flu_streams.specs.Files.{files_of}
 use Rattle.flu_words.specs.Words.{Command}
 use Rattle.flu_top.specs.Behind.{emptied_each}
 use Rattle.flu_top.specs.Openings.{Opening, OpensAt, Opens}
-use Rattle.flu_top.specs.Starting.{IsNoSource, AreNoSources, CanStart, IsFileOf, IsSameName, Saves, Resumes, HasBadCheckpoint}
-use Rattle.flu_top.specs.Wants.{save_named, resume_named, job_and_plan_named}
+use Rattle.flu_top.specs.Starting.{IsNoSource, AreNoSources, StartsFrom, CanStart, IsFileOf, IsSameName, Saves, Resumes, HasBadCheckpoint}
+use Rattle.flu_top.specs.Wants.{save_named, resume_named, rows_named, job_and_plan_named}
 
 -- ---- two programs of one job
 same_no_source : (named : Option (List ℕ)) (p q : Program) → IsSameJob p q → IsNoSource named p → IsNoSource named q
@@ -45,23 +45,38 @@ same_save p q t s bytes same save = record {
   };
 }
 
-same_opens : (resume : Option (List ℕ)) (texts : List (List ℕ)) (left : Files) (p q : Program) (o : Opening) → IsSameJob p q → Opens resume texts left p o
-    → Opens resume texts left q o
-same_opens None texts left p q o same opens = opens
-same_opens (Some name) texts left p q o same opens = record {
-  time = opens.time;
-  above = opens.above;
-  save = same_save p q opens.time o.cells (bytes_left (emptied_each texts left) name) same opens.save;
-}
+same_opens : (rows : ℕ) (resume : Option (List ℕ)) (texts : List (List ℕ)) (left : Files) (p q : Program) (o : Opening) → IsSameJob p q
+    → Opens rows resume texts left p o → Opens rows resume texts left q o
+same_opens rows None texts left p q o same opens = opens
+same_opens rows (Some name) texts left p q o same opens = (
+  record {
+    time = opens.0.time;
+    above = opens.0.above;
+    save = same_save p q opens.0.time o.cells (bytes_left (emptied_each texts left) name) same opens.0.save;
+    some = opens.0.some;
+  },
+  opens.1,
+)
 
 pub same_start : (command : Command) (left : Files) (p q : Program) → IsSameJob p q → CanStart command left p → CanStart command left q
 same_start command left p q same start = (
   start.0,
   record {
     apart = same_apart command p q same start.1.apart;
-    opens = same_opens (resume_named command) (job_and_plan_named command) left p q start.0 same start.1.opens;
+    opens = same_opens (rows_named command) (resume_named command) (job_and_plan_named command) left p q start.0 same start.1.opens;
   },
 )
+
+-- ---- the rows of a round
+opens_some : (rows : ℕ) (resume : Option (List ℕ)) (texts : List (List ℕ)) (left : Files) (p : Program) (o : Opening) → Opens rows resume texts left p o
+    → 1 ≤ o.rows
+opens_some rows None texts left p o opens = subst (λ (r : Opening). 1 ≤ r.rows) (sym opens.0) opens.1
+opens_some rows (Some name) texts left p o opens = opens.0.some
+
+-- a run starts with rounds of some row
+pub starts_some : (command : Command) (left : Files) (p : Program) (o : Opening) → StartsFrom command left p o → 1 ≤ o.rows
+starts_some command left p o starts =
+    opens_some (rows_named command) (resume_named command) (job_and_plan_named command) left p o starts.opens
 
 -- ---- what keeps a run from its start
 file_there : (p : Program) (number : ℕ) (source : Source) → slice_get p.sources number ≡ Some source → Contains (files_of p.sources) source.file
@@ -84,5 +99,5 @@ pub bad_checkpoint_stops : LawOfFaults → (command : Command) (left : Files) (p
 bad_checkpoint_stops none command left p fault bad start =
     let texts = job_and_plan_named command in
     let opens : OpensAt p (bytes_left (emptied_each texts left) bad.name) start.0 =
-    subst (λ (resume : Option (List ℕ)). Opens resume texts left p start.0) bad.named start.1.opens in
+    (subst (λ (resume : Option (List ℕ)). Opens (rows_named command) resume texts left p start.0) bad.named start.1.opens).0 in
     none p (bytes_left (emptied_each texts left) bad.name) fault bad.first bad.is_fault opens.time start.0.cells opens.save

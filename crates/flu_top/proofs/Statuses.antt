@@ -365,22 +365,24 @@ heard_at_0 words old new status outcome is job plan seed trace word =
     (line, heard.0, heard.1, told)
 
 pub adapted_at_0 : (words : List (List ℕ)) (old new : Outside) (status : ℕ) → Outcome words old new status → status ≡ 0
-    → (job : List ℕ) (plan : Option (List ℕ)) (depth : ℕ) (save : Option (List ℕ)) (unflushed : Bool) (resume : Option (List ℕ))
-    → command_in words ≡ Ok (Run job plan (record { depth = depth; adapt = true; save = save; unflushed = unflushed; resume = resume }))
+    → (job : List ℕ) (plan : Option (List ℕ)) (depth rows : ℕ) (save : Option (List ℕ)) (unflushed : Bool) (resume : Option (List ℕ))
+    → command_in words ≡ Ok (Run job plan (record { depth = depth; rows = rows; adapt = true; save = save; unflushed = unflushed; resume = resume }))
     → (line : List ℕ) × IsSomePlanText line × Said old new line
     × WhereTold old.left new.left (λ left _. (p : Program) × HasJob (Named job) left p
-    × ((text : List ℕ) × Writes (Run job plan (record { depth = depth; adapt = false; save = save; unflushed = unflushed; resume = resume })) left p text
+    × ((text : List ℕ)
+    × Writes (Run job plan (record { depth = depth; rows = rows; adapt = false; save = save; unflushed = unflushed; resume = resume })) left p text
     × WhereTold old.out new.out (AppendsAll text))
-    × IsObservedText (job ∷ if_named plan) resume left p line)
-adapted_at_0 words old new status outcome is job plan depth save unflushed resume word =
-    let whole = Run job plan (record { depth = depth; adapt = true; save = save; unflushed = unflushed; resume = resume }) in
+    × IsObservedText rows (job ∷ if_named plan) resume left p line)
+adapted_at_0 words old new status outcome is job plan depth rows save unflushed resume word =
+    let whole = Run job plan (record { depth = depth; rows = rows; adapt = true; save = save; unflushed = unflushed; resume = resume }) in
     let found = at_0 words old new status outcome is in
     let line = found.1 in
     let same = same_command words found.0 whole found.2 word in
     let done = subst (λ (d : Command). WhereKnown (job_wanted d) old.left new.left (IsDone d old.out new.out line)) same found.3 in
     let heard = subst (λ (d : Command). Hears (want d).says old new line) same found.4 in
     let told = told_weaker (IsDone whole old.out new.out line) (λ left _. (p : Program) × HasJob (Named job) left p
-    × ((text : List ℕ) × Writes (Run job plan (record { depth = depth; adapt = false; save = save; unflushed = unflushed; resume = resume })) left p text
+    × ((text : List ℕ)
+    × Writes (Run job plan (record { depth = depth; rows = rows; adapt = false; save = save; unflushed = unflushed; resume = resume })) left p text
     × WhereTold old.out new.out (AppendsAll text))
-    × IsObservedText (job ∷ if_named plan) resume left p line) old.left new.left (λ x y d. (d.0, d.2.good.has, (d.1, d.3, d.5), d.4)) done in
+    × IsObservedText rows (job ∷ if_named plan) resume left p line) old.left new.left (λ x y d. (d.0, d.2.good.has, (d.1, d.3, d.5), d.4)) done in
     (line, heard.0, heard.1, told)

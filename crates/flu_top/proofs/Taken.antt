@@ -75,7 +75,7 @@ module _ (laws : LawsOfRests) (jobs : JobsAreGrammar) (short : NormalFormIsShort
       let same : IsSameJob p q = same_job jobs (Named runs.later_job) runs.later_left p q (runs.one_job p stays.job) refused.1 in
       let opens = (checkpoints_open laws short utf8 p (bytes_left runs.left runs.job) stays.opening (texts_named (Run runs.job runs.plan runs.options))
       runs.left stays.text stays.checkpoint stays.job (runs.sound p stays.job)
-      (is_opening runs.options.resume (runs.job ∷ if_named runs.plan) runs.left p stays.opening stays.starts.opens) stays.put).0 in
+      (is_opening runs.options.rows runs.options.resume (runs.job ∷ if_named runs.plan) runs.left p stays.opening stays.starts.opens) stays.put).0 in
       let opens_later = opens_same of_jobs p q same stays.checkpoint opens.0 opens.1 in
       let there : bytes_left (emptied_each (runs.later_job ∷ if_named runs.later_plan) runs.later_left) runs.later_file ≡ stays.checkpoint =
       runs.same_bytes ∙ ap (λ (found : Option (List ℕ)). unwrap_or found []) stays.stands in

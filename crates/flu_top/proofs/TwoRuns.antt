@@ -1,5 +1,5 @@
 -- A run, and one that is resumed from what it left, write the report of the first one together.
-use Rattle.std.proofs.Common.{◌≡◌, ◌⊎◌, ap, ◌∙◌, subst, ℕ, List, [], ◌∷◌, Option, Some, None, inl, inr}
+use Rattle.std.proofs.Common.{◌≡◌, ◌⊎◌, ◌≤◌, ap, sym, ◌∙◌, subst, ℕ, List, [], ◌∷◌, Option, Some, None, inl, inr}
 use Rattle.std.specs.Prelude.{unwrap_or}
 use Rattle.flu_lemmas.proofs.Told.{of_told}
 use Rattle.flu_grammar.specs.Laws.{JobsAreGrammar}
@@ -15,7 +15,7 @@ use Rattle.flu_rounds.specs.Written.{AreSound, lists_above}
 use Rattle.flu_save.specs.Laws.{LawOfOneMeaning, SavesAreOfJobs}
 use Rattle.flu_words.specs.Words.{Run, RunOptions}
 use Rattle.flu_top.specs.Behind.{Named, HasJob, emptied_each}
-use Rattle.flu_top.specs.Openings.{Opening, Opens, OpensAt, report_from}
+use Rattle.flu_top.specs.Openings.{Opening, Opens, OpensAt, fresh, report_from}
 use Rattle.flu_top.specs.Outcome.{Outside, Outcome}
 use Rattle.flu_top.specs.Reading.{lines_behind}
 use Rattle.flu_top.specs.Resuming.{IsOpeningOf, HasLeft, MayHaveSaved, AreInTurn, AreSameSources, AreOfOneJob, WroteTheWhole}
@@ -32,14 +32,21 @@ told_at : {A : Type 0} (P : A → A → Type 0) (x y : A) (a b : Option A) → a
 told_at P x y a b is is' told = subst (λ (o : Option _). WhereTold (Some x) o P) is' (subst (λ (o : Option _). WhereTold o b P) is told)
 
 -- what a run opens with is an opening of its job
-pub is_opening : (resume : Option (List ℕ)) (texts : List (List ℕ)) (left : Contents) (p : Program) (o : Opening) → Opens resume texts left p o
-    → IsOpeningOf p o
-is_opening None texts left p o opens = inl opens
-is_opening (Some name) texts left p o opens = inr (bytes_left (emptied_each texts left) name, opens)
+pub is_opening : (rows : ℕ) (resume : Option (List ℕ)) (texts : List (List ℕ)) (left : Contents) (p : Program) (o : Opening)
+    → Opens rows resume texts left p o → IsOpeningOf p o
+is_opening rows None texts left p o opens =
+    let same : rows ≡ o.rows = sym (ap (λ (r : Opening). r.rows) opens.0) in
+    inl (opens.0 ∙ ap fresh same, subst (λ (n : ℕ). 1 ≤ n) same opens.1)
+is_opening rows (Some name) texts left p o opens = inr (bytes_left (emptied_each texts left) name, opens.0)
 
 -- what opens a run of a job opens one of each program that is this job
 pub opens_same : SavesAreOfJobs → (p q : Program) → IsSameJob p q → (bytes : List ℕ) (o : Opening) → OpensAt p bytes o → OpensAt q bytes o
-opens_same saves p q same bytes o opens = record { time = opens.time; above = opens.above; save = saves p q same opens.time o.cells bytes opens.save }
+opens_same saves p q same bytes o opens = record {
+  time = opens.time;
+  above = opens.above;
+  save = saves p q same opens.time o.cells bytes opens.save;
+  some = opens.some;
+}
 
 -- the report over other sources that have the same
 same_sources_report : (p : Program) (o : Opening) (texts texts' : List (List ℕ)) (left left' : Contents) → AreSameSources p texts left texts' left'
@@ -82,7 +89,7 @@ module _ (laws : LawsOfRests) (jobs : JobsAreGrammar) (meaning : LawOfOneMeaning
       let opens : OpensAt p stays.checkpoint rest =
       opens_same saves q p same stays.checkpoint rest (subst (λ (text : List ℕ). OpensAt q text rest) there second.2.1) in
       let goes = opens_the_rest laws p o rest texts left stays.text stays.checkpoint (good p stays.job).0
-      (is_opening options.resume (job ∷ if_named plan) left p o stays.starts.opens) stays.put opens in
+      (is_opening options.rows options.resume (job ∷ if_named plan) left p o stays.starts.opens) stays.put opens in
       let wrote : report_from rest texts' left' q ≡ report_from rest texts left p =
       same_report_from q p same rest texts' left' ∙ same_sources_report p rest texts texts' left left' (good p stays.job).1 in
       record {

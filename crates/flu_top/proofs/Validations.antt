@@ -72,12 +72,12 @@ validated_at job plan p nodes text x z accepted is both = (
       accepted = λ asked. accepted;
       plan = both.0.plan;
       start =
-          can_start (Valid job plan) x p (record { save = refl; resume = refl });
+          can_start (Valid job plan) x p (record { save = refl; resume = refl; rows = refl });
       sources = tt;
     };
     ends = λ name found apart. both.0.texts.ends name found;
     trace = λ trace named. absurd (cc);
-    saved = has_saved (Valid job plan) p x z (record { save = refl; resume = refl });
+    saved = has_saved (Valid job plan) p x z (record { save = refl; resume = refl; rows = refl });
   },
   record { nodes = nodes; has = both.1; is = is },
   refl,

@@ -66,14 +66,14 @@ FoldIsTheReport =
     → NoneFailed (job ∷ files_of p.sources) before now
     → WritesOrNoMemory (fold_report p (emptied job left)) old new status
 
--- `run JOB [PLAN | --depth D] [--adapt] [--save FILE [--unflushed]]`, not resumed: the same of a job that is accepted, by any plan that is
--- valid for it; if checkpoints are saved, not under the name of a source's file, and no put of one failed
+-- `run JOB [PLAN | --depth D] [--round ROWS] [--adapt] [--save FILE [--unflushed]]`, not resumed: the same of a job that is accepted, by
+-- any plan that is valid for it, in rounds of any number of rows; if checkpoints are saved, not under the name of a source's file, and no put of one failed
 abbrev pub RunIsTheFold : Type 0
 RunIsTheFold =
     (words : List (List ℕ)) (old new : Outside) (before now : Faults) (status : ℕ)
     → Outcome words old new status → Completes words old.left before now status
-    → (job : List ℕ) (plan : Option (List ℕ)) (depth : ℕ) (adapt : Bool) (save : Option (List ℕ)) (unflushed : Bool) (left : Contents) (p : Program)
-    → command_in words ≡ Ok (Run job plan (record { depth = depth; adapt = adapt; save = save; unflushed = unflushed; resume = None }))
+    → (job : List ℕ) (plan : Option (List ℕ)) (depth rows : ℕ) (adapt : Bool) (save : Option (List ℕ)) (unflushed : Bool) (left : Contents) (p : Program)
+    → command_in words ≡ Ok (Run job plan (record { depth = depth; rows = rows; adapt = adapt; save = save; unflushed = unflushed; resume = None }))
     → old.left ≡ Some left
     → IsJobText (bytes_left left job) (job_of p) → IsAccepted p
     → ((name : List ℕ) → plan ≡ Some name → IsValidPlanText name (emptied job left) p)

@@ -72,13 +72,14 @@ SimulationIsHeard =
 abbrev pub AdaptedPlanIsHeard : Type 0
 AdaptedPlanIsHeard =
     (words : List (List ℕ)) (old new : Outside) (status : ℕ) → Outcome words old new status → status ≡ 0
-    → (job : List ℕ) (plan : Option (List ℕ)) (depth : ℕ) (save : Option (List ℕ)) (unflushed : Bool) (resume : Option (List ℕ))
-    → command_in words ≡ Ok (Run job plan (record { depth = depth; adapt = true; save = save; unflushed = unflushed; resume = resume }))
+    → (job : List ℕ) (plan : Option (List ℕ)) (depth rows : ℕ) (save : Option (List ℕ)) (unflushed : Bool) (resume : Option (List ℕ))
+    → command_in words ≡ Ok (Run job plan (record { depth = depth; rows = rows; adapt = true; save = save; unflushed = unflushed; resume = resume }))
     → (line : List ℕ) × IsSomePlanText line × Said old new line
     × WhereTold old.left new.left (λ left _. (p : Program) × HasJob (Named job) left p
-    × ((text : List ℕ) × Writes (Run job plan (record { depth = depth; adapt = false; save = save; unflushed = unflushed; resume = resume })) left p text
+    × ((text : List ℕ)
+    × Writes (Run job plan (record { depth = depth; rows = rows; adapt = false; save = save; unflushed = unflushed; resume = resume })) left p text
     × WhereTold old.out new.out (AppendsAll text))
-    × IsObservedText (job ∷ if_named plan) resume left p line)
+    × IsObservedText rows (job ∷ if_named plan) resume left p line)
 
 -- status 2 comes exactly if the words are not a command
 abbrev pub BadWordsExactly : Type 0
@@ -232,10 +233,11 @@ RunsWriteFronts =
 -- a run that is not resumed opens fresh, so its report is the report of the fold of all events from the empty state
 abbrev pub FreshRunsReportTheFold : Type 0
 FreshRunsReportTheFold =
-    (job : List ℕ) (plan : Option (List ℕ)) (depth : ℕ) (adapt : Bool) (save : Option (List ℕ)) (unflushed : Bool)
+    (job : List ℕ) (plan : Option (List ℕ)) (depth rows : ℕ) (adapt : Bool) (save : Option (List ℕ)) (unflushed : Bool)
     → (left : Contents) (p : Program) (o : Opening)
-    → StartsFrom (Run job plan (record { depth = depth; adapt = adapt; save = save; unflushed = unflushed; resume = None })) left p o
-    → report_from o (texts_named (Run job plan (record { depth = depth; adapt = adapt; save = save; unflushed = unflushed; resume = None }))) left p
+    → StartsFrom (Run job plan (record { depth = depth; rows = rows; adapt = adapt; save = save; unflushed = unflushed; resume = None })) left p o
+    → report_from o
+    (texts_named (Run job plan (record { depth = depth; rows = rows; adapt = adapt; save = save; unflushed = unflushed; resume = None }))) left p
     ≡ report_behind (job ∷ if_named plan) left p
 
 -- the report up to a border and the report of a run that is resumed from its checkpoint are together the report of the whole: the later

@@ -1,5 +1,5 @@
 -- What a run starts from: the first row and the empty state, or a checkpoint; and what the fold gives from there.
-use Rattle.std.specs.Prelude.{◌≡◌, ℕ, List, Option, Some, None}
+use Rattle.std.specs.Prelude.{◌≡◌, ◌≤◌, ℕ, List, Option, Some, None}
 use Rattle.flu_outside.specs.Outside.{Contents as Files}
 use Rattle.flu_outside.specs.Taking.{bytes_left}
 use Rattle.flu_model.specs.declared.events.Item.{Item}
@@ -11,25 +11,28 @@ use Rattle.flu_rounds.specs.Written.{lists_above}
 use Rattle.flu_save.specs.Forms.{IsSave}
 use Rattle.flu_top.specs.Behind.{emptied_each, lists_behind}
 
--- THE OPENING of a run: the border above which it is resumed, if it is, and what the cells hold then
+-- THE OPENING of a run: the border above which it is resumed, if it is, what the cells hold then, and how many rows of each source make
+-- a round
 pub record Opening : Type 0 where
   pub border : Option ℕ
   pub cells : Contents
+  pub rows : ℕ
 
 -- from the first row on, and from the empty state
-abbrev pub fresh : Opening
-fresh = record { border = None; cells = nothing_held }
+abbrev pub fresh : ℕ → Opening
+fresh rows = record { border = None; cells = nothing_held; rows = rows }
 
--- these bytes are a checkpoint of the job, of this border and this state
+-- these bytes are a checkpoint of the job, of this border and this state, and a round has some row
 pub record OpensAt (p : Program) (bytes : List ℕ) (o : Opening) : Type 0 where
   pub time : ℕ
   pub above : o.border ≡ Some time
   pub save : IsSave p time o.cells bytes
+  pub some : 1 ≤ o.rows
 
--- a run opens fresh; or, if it is resumed, with the checkpoint under a name, which is read after some texts
-abbrev pub Opens : Option (List ℕ) → List (List ℕ) → Files → Program → Opening → Type 0
-Opens None texts left p o = o ≡ fresh
-Opens (Some name) texts left p o = OpensAt p (bytes_left (emptied_each texts left) name) o
+-- a run in rounds of a number of rows opens fresh; or, if it is resumed, with the checkpoint under a name, which is read after some texts
+abbrev pub Opens : ℕ → Option (List ℕ) → List (List ℕ) → Files → Program → Opening → Type 0
+Opens rows None texts left p o = (o ≡ fresh rows) × (1 ≤ rows)
+Opens rows (Some name) texts left p o = OpensAt p (bytes_left (emptied_each texts left) name) o × (o.rows ≡ rows)
 
 -- the items that it runs, of sources that are read after some texts
 abbrev pub lists_from : Opening → List (List ℕ) → Files → Program → List (List Item)

@@ -40,7 +40,7 @@ pub record HidesNoDefect (command : Command) (name : List ℕ) (old new : Option
 pub record HidesNoRow (command : Command) (name : List ℕ) (old new : Option Contents) : Type 0 where
   pub p : Program
   pub o : Opening
-  pub round : Unfinished p
+  pub round : Unfinished p o.rows
   pub named : round.source.file ≡ name
   pub told : WhereTold old new (λ was is. HasJob (job_wanted command) was p × StartsFrom command was p o
       × IsUnfinished p o round (lines_behind (texts_named command) was p) is)

@@ -54,7 +54,7 @@ HasDefect Whole texts left p = (fault : SourceFault) × (fault_behind texts left
 HasDefect InRounds texts left p = HasDefectIn p (lines_behind texts left p)
 
 -- ---- rounds
--- a round is ready as soon as each source has this many settled rows
+-- a round is ready as soon as each source has this many settled rows, if no other number is asked for
 abbrev pub rows_in_round : ℕ
 rows_in_round = 4096
 
@@ -75,21 +75,21 @@ put_by p o (round ∷ rounds) border lines = option_map (λ t. checkpoint_at p o
 -- and this was put last, if the run saves
 pub record HaveWritten (p : Program) (o : Opening) (lines : ℕ → List Next) (text : List ℕ) (put : Option (List ℕ)) : Type 0 where
   pub border : Option ℕ
-  pub ran : RanFrom p rows_in_round o.border o.cells lines border text
+  pub ran : RanFrom p o.rows o.border o.cells lines border text
   pub saved : put ≡ put_by p o ran.done border ran.before
 
 -- THE NEXT ROUND MEETS THIS DEFECT: no round before it meets any
 pub record MeetsDefect (p : Program) (o : Opening) (lines : ℕ → List Next) (text : List ℕ) (put : Option (List ℕ)) (fault : SourceFault) : Type 0 where
   pub border : Option ℕ
-  pub ran : RanFrom p rows_in_round o.border o.cells lines border text
+  pub ran : RanFrom p o.rows o.border o.cells lines border text
   pub saved : put ≡ put_by p o ran.done border ran.before
-  pub meets : IsRoundFault p rows_in_round border lines ran.before fault
+  pub meets : IsRoundFault p o.rows border lines ran.before fault
 
 -- THE NEXT ROUND'S REPORT is this: with it, the text is the report of the events up to that round's end
 pub record ReportsNext (p : Program) (o : Opening) (lines : ℕ → List Next) (text : List ℕ) (put : Option (List ℕ)) (more : List ℕ) : Type 0 where
   pub border : Option ℕ
-  pub ran : RanFrom p rows_in_round o.border o.cells lines border text
+  pub ran : RanFrom p o.rows o.border o.cells lines border text
   pub saved : put ≡ put_by p o ran.done border ran.before
   pub end : Border
   pub now : ℕ → List Next
-  pub next : WouldWriteFrom p rows_in_round o.border o.cells lines border ran.before now end (text ++ more)
+  pub next : WouldWriteFrom p o.rows o.border o.cells lines border ran.before now end (text ++ more)

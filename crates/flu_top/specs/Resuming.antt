@@ -24,7 +24,7 @@ use Rattle.flu_top.specs.Wants.{if_named, job_wanted, texts_named}
 -- ---- checkpoints of a run
 -- an opening that a run of a job can have: from the first row on, or the opening of a checkpoint of the job
 abbrev pub IsOpeningOf : Program → Opening → Type 0
-IsOpeningOf p o = (o ≡ fresh) ⊎ ((bytes : List ℕ) × OpensAt p bytes o)
+IsOpeningOf p o = ((o ≡ fresh o.rows) × (1 ≤ o.rows)) ⊎ ((bytes : List ℕ) × OpensAt p bytes o)
 
 -- A RUN HAD WRITTEN THIS WHEN IT PUT THIS CHECKPOINT, from an opening and over sources that are read after some texts: the rounds up to
 -- some round wrote the text, and the checkpoint is the one of their border; or all rounds did, and it is the last one
@@ -37,15 +37,15 @@ pub record IsRest (p : Program) (o rest : Opening) (texts : List (List ℕ)) (le
   pub report : report_from o texts left p ≡ text ++ report_from rest texts left p
   pub state : state_from o texts left p ≡ state_from rest texts left p
 
--- LAW OF THE REST: if no source has a defect, a checkpoint that a run has put opens the rest of the run
+-- LAW OF THE REST: if no source has a defect, a checkpoint that a run has put opens the rest of the run, in rounds of any number of rows
 abbrev pub CheckpointsOpenTheRest : Type 0
 CheckpointsOpenTheRest =
     (p : Program) (o rest : Opening) (texts : List (List ℕ)) (left : Contents) (text checkpoint : List ℕ)
     → AreSound p (lines_behind texts left p) → IsOpeningOf p o → HasPut p o texts left text checkpoint → OpensAt p checkpoint rest
     → IsRest p o rest texts left text
 
--- RUNS ONE AFTER ANOTHER, from an opening, each of which is resumed from a checkpoint that the one before it put: what they wrote
--- together by then, and the opening of the next one
+-- RUNS ONE AFTER ANOTHER, from an opening, each of which is resumed from a checkpoint that the one before it put, with its own number of
+-- rows in a round: what they wrote together by then, and the opening of the next one
 pub data GoOn (p : Program) (texts : List (List ℕ)) (left : Contents) : Opening → List ℕ → Opening → Type 0 where
   Begun : (o : Opening) → GoOn p texts left o [] o
   Resumed : (o next last : Opening) (text more checkpoint : List ℕ) → HasPut p o texts left text checkpoint → OpensAt p checkpoint next

@@ -45,7 +45,7 @@ use Rattle.flu_top.specs.Ending.{Call}
 use Rattle.flu_top.specs.Jobs.{program_read}
 use Rattle.flu_top.specs.Openings.{Opening, Opens}
 use Rattle.flu_top.specs.Products.{line_of_said, line_said}
-use Rattle.flu_top.specs.Reading.{HaveWritten, MeetsDefect, ReportsNext, rows_in_round, greatest_border}
+use Rattle.flu_top.specs.Reading.{HaveWritten, MeetsDefect, ReportsNext, greatest_border}
 use Rattle.flu_top.specs.Ready.{AreTextsRead}
 use Rattle.flu_top.specs.Starting.{LeavesPut, LeavesAnything}
 use Rattle.flu_top.specs.Taking.{TookOnly, TookFrontsBut}
@@ -62,18 +62,20 @@ pub record IsBegun (job : List ℕ) (plan : Option (List ℕ)) (p : Program) (ol
 
 -- an opening without the place of its state in memory
 abbrev pub plain_opening : NamedOpening → Opening
-plain_opening opening = record { border = opening.border; cells = held opening.state }
+plain_opening opening = record { border = opening.border; cells = held opening.state; rows = opening.rows.count }
 
--- an opening that a run of this job can have: its border is in range, its state is of the job's sorts, and without a border it is
--- the empty one
+-- an opening that a run of this job can have: its border is in range, its state is of the job's sorts, without a border it is the empty
+-- one, and a round has 1 to 4,096 rows of each source
 pub record IsOpening (p : Program) (o : Opening) : Type 0 where
   pub in_range : (t : ℕ) → o.border ≡ Some t → t < 2 ^ 63
   pub sorts : IsStateOf p.families o.cells
   pub empty : o.border ≡ None → o.cells ≡ nothing_held
+  pub some : 1 ≤ o.rows
+  pub few : o.rows ≤ 4096
 
 -- a run has this opening, and only the checkpoint that it is resumed from, if it is, was read
-pub record IsOpened (resume : Option (List ℕ)) (p : Program) (o : Opening) (old new : Files) : Type 0 where
-  pub opens : Opens resume [] old p o
+pub record IsOpened (rows : ℕ) (resume : Option (List ℕ)) (p : Program) (o : Opening) (old new : Files) : Type 0 where
+  pub opens : Opens rows resume [] old p o
   pub texts : AreTextsRead (if_named resume) old new
 
 -- why a run has no opening
@@ -129,14 +131,15 @@ pub record StaysWithin (p : Program) (named : Option (List ℕ)) (c : Call) : Ty
   pub others : WhereTold c.left c.left_after (TookOnly (λ name. Contains (files_of p.sources) name ⊎ IsSavedTo named name))
   pub rise : (n : List ℕ) → c.counts n ≤ c.counts_after n
 
--- a run in rounds has come to a standing, and may continue; its engine is of this job, and has counted the events of the rounds so far,
+-- a run in rounds, each of some row, has come to a standing, and may continue; its engine is of this job, and has counted the events of the rounds so far,
 -- if its plan follows them
 pub record GoesOn (adapts : Bool) (p : Program) (e : AdaptiveNote) (o : Opening) (named : Option (List ℕ)) (c : Call) (now : Standing) : Type 0 where
   pub engine : program_of e.checked ≡ p
   pub adapting : e.adapts ≡ adapts
   pub stage : now.held.stage ≡ Filling
   pub written : List ℕ
-  pub came : CameFrom p rows_in_round o.border o.cells c.left c.left_after now written
+  pub some : 1 ≤ o.rows
+  pub came : CameFrom p o.rows o.border o.cells c.left c.left_after now written
   pub counted : IsTrue adapts → e.counts ≡ grown_in_turn (no_counts p) came.done
   pub wrote : WhereTold c.taken c.taken_after (AppendsAll written)
   pub leaves : WhereTold c.left c.left_after (LeavesPut named [] (put_behind p came.done now.held.border (held now.state)))
@@ -198,7 +201,7 @@ pub record RanToDefect (p : Program) (o : Opening) (named : Option (List ℕ)) (
 
 -- a source's file failed, and the round that read it is unfinished
 pub record HasFailed (p : Program) (o : Opening) (c : Call) : Type 0 where
-  pub round : Unfinished p
+  pub round : Unfinished p o.rows
   pub rose : Rose (c.counts round.source.file) (c.counts_after round.source.file)
   pub told : WhereTold c.left c.left_after (λ left now. IsUnfinished p o round (lines_in p left) now)
 

@@ -11,7 +11,7 @@ use Rattle.flu_streams.specs.Files.{files_of}
 use Rattle.flu_words.specs.Words.{Command}
 use Rattle.flu_top.specs.Behind.{emptied_each}
 use Rattle.flu_top.specs.Openings.{Opening, Opens}
-use Rattle.flu_top.specs.Wants.{save_named, resume_named, job_and_plan_named, texts_named}
+use Rattle.flu_top.specs.Wants.{save_named, resume_named, rows_named, job_and_plan_named, texts_named}
 
 -- ---- the opening
 -- a name, if there is one, is not that of a source's file
@@ -24,10 +24,10 @@ pub record AreNoSources (command : Command) (p : Program) : Type 0 where
   pub resume : IsNoSource (resume_named command) p
 
 -- A COMMAND STARTS FROM THIS: its names are not those of sources' files, and the checkpoint that it is resumed from, if it is, is this
--- opening
+-- opening, which has the number of rows that it asks for
 pub record StartsFrom (command : Command) (left : Contents) (p : Program) (o : Opening) : Type 0 where
   pub apart : AreNoSources command p
-  pub opens : Opens (resume_named command) (job_and_plan_named command) left p o
+  pub opens : Opens (rows_named command) (resume_named command) (job_and_plan_named command) left p o
 
 abbrev pub CanStart : Command → Contents → Program → Type 0
 CanStart command left p = (o : Opening) × StartsFrom command left p o

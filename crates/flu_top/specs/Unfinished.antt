@@ -11,11 +11,10 @@ use Rattle.flu_rows.specs.Row.{form_of}
 use Rattle.flu_rows.specs.Reading.{Place, ahead}
 use Rattle.flu_streams.specs.Rounds.{Turn, Reads, IsPassed, ComesFrom, defect_in, is_enough}
 use Rattle.flu_top.specs.Openings.{Opening}
-use Rattle.flu_top.specs.Reading.{rows_in_round}
 
--- after some rounds that were run, the rows that were read of a source: none has a defect, they are not enough for the round, and
+-- after some rounds of a number of rows that were run, the rows that were read of a source: none has a defect, they are not enough for the round, and
 -- what else was taken decides nothing
-pub record Unfinished (p : Program) : Type 0 where
+pub record Unfinished (p : Program) (rows : ℕ) : Type 0 where
   pub done : List (List (List Item))
   pub border : Option ℕ
   pub before : ℕ → List Next
@@ -26,7 +25,7 @@ pub record Unfinished (p : Program) : Type 0 where
   pub more : List Next
   pub further : now at ≡ before at ++ more
   pub sound : defect_in p.kinds source (now at) ≡ None
-  pub few : (k : ℕ) → k ≤ length more → is_enough rows_in_round border source (before at ++ take k more) ≡ false
+  pub few : (k : ℕ) → k ≤ length more → is_enough rows border source (before at ++ take k more) ≡ false
   pub place : Place
   pub form : place.form ≡ form_of p.version
   pub file : place.file ≡ source.file
@@ -34,8 +33,8 @@ pub record Unfinished (p : Program) : Type 0 where
 
 -- this is so of sources with these lines, of which this is left: the rounds before were rounds of them, and the sources before this one
 -- have what the round reads of them and meet no defect
-pub record IsUnfinished (p : Program) (o : Opening) (u : Unfinished p) (lines : ℕ → List Next) (left : Contents) : Type 0 where
-  pub rounds : ComesFrom p rows_in_round lines o.border u.done u.border u.before
+pub record IsUnfinished (p : Program) (o : Opening) (u : Unfinished p o.rows) (lines : ℕ → List Next) (left : Contents) : Type 0 where
+  pub rounds : ComesFrom p o.rows lines o.border u.done u.border u.before
   pub earlier : AtEach (λ i s. i < u.at
-      → (turn : Turn) × Reads p.kinds s rows_in_round u.border (lines i) (u.before i) (u.now i) turn × IsPassed turn) p.sources
+      → (turn : Turn) × Reads p.kinds s o.rows u.border (lines i) (u.before i) (u.now i) turn × IsPassed turn) p.sources
   pub was : lines u.at ≡ u.now u.at ++ ahead u.place left

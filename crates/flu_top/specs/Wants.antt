@@ -15,7 +15,7 @@ use Rattle.flu_top.specs.Behind.{WantedJob, Named, Fixed, HasPlan, job_files, re
 pub use Rattle.flu_top.specs.Emptied.{if_named}
 use Rattle.flu_top.specs.Openings.{Opening, Opens, lists_from, report_from}
 use Rattle.flu_top.specs.Rates.{source_rates}
-use Rattle.flu_top.specs.Reading.{Reading, Unread, Whole, InRounds, is_read}
+use Rattle.flu_top.specs.Reading.{Reading, Unread, Whole, InRounds, is_read, rows_in_round}
 use Rattle.flu_top.specs.Simulating.{IsLineOfRun, IsStepLine, IsTraceOfRun}
 use Rattle.flu_top.specs.Demos.{demo_job, demo_summary}
 
@@ -31,9 +31,11 @@ pub record IsPlanPrinted (job plan : List ℕ) (left : Contents) (p : Program) (
   pub has : HasPlan (Named job) plan left p nodes
   pub is : text ≡ printed p nodes
 
--- this is the report of a run that opens with a checkpoint, if one is named, which is read after some texts and before the sources
-abbrev pub IsReportOfRun : List (List ℕ) → Option (List ℕ) → Contents → Program → List ℕ → Type 0
-IsReportOfRun texts resume left p text = (o : Opening) × Opens resume texts left p o × (text ≡ report_from o (texts ++ if_named resume) left p)
+-- this is the report of a run in rounds of a number of rows that opens with a checkpoint, if one is named, which is read after some
+-- texts and before the sources
+abbrev pub IsReportOfRun : ℕ → List (List ℕ) → Option (List ℕ) → Contents → Program → List ℕ → Type 0
+IsReportOfRun rows texts resume left p text =
+    (o : Opening) × Opens rows resume texts left p o × (text ≡ report_from o (texts ++ if_named resume) left p)
 
 -- what a run that a seed draws writes: the report of the fold; or its trace, if that is asked for
 abbrev pub IsTextOfRun : Bool → List ℕ → List ℕ → ℕ → Contents → Program → List ℕ → Type 0
@@ -48,9 +50,9 @@ pub data Saying : Type 1 where
 
 -- this is the text of the observed plan of all events of a run: those of its sources' items, above the border of the checkpoint if it is
 -- resumed from one, which is read after some texts and before the sources
-abbrev pub IsObservedText : List (List ℕ) → Option (List ℕ) → Contents → Program → List ℕ → Type 0
-IsObservedText texts resume left p line =
-    (o : Opening) × Opens resume texts left p o
+abbrev pub IsObservedText : ℕ → List (List ℕ) → Option (List ℕ) → Contents → Program → List ℕ → Type 0
+IsObservedText rows texts resume left p line =
+    (o : Opening) × Opens rows resume texts left p o
     × ((nodes : List Node) × IsObservedPlan p (grown (no_counts p) (lists_from o (texts ++ if_named resume) left p)) nodes × (line ≡ printed p nodes))
 
 -- this is the text of some plan
@@ -58,9 +60,9 @@ abbrev pub IsSomePlanText : List ℕ → Type 0
 IsSomePlanText line = (p : Program) × (nodes : List Node) × (line ≡ printed p nodes)
 
 -- what a run says: the text of the plan that its events ask for, if its plan follows them
-abbrev pub plan_said : Bool → List (List ℕ) → Option (List ℕ) → Saying
-plan_said false texts resume = Nothing
-plan_said true texts resume = Line (IsObservedText texts resume) IsSomePlanText
+abbrev pub plan_said : Bool → ℕ → List (List ℕ) → Option (List ℕ) → Saying
+plan_said false rows texts resume = Nothing
+plan_said true rows texts resume = Line (IsObservedText rows texts resume) IsSomePlanText
 
 -- what a command wants
 pub record Want : Type 1 where
@@ -69,8 +71,9 @@ pub record Want : Type 1 where
   pub accepted : Bool
   -- the name of the plan that it reads, if it reads one, which has to be valid for the job
   pub plan : Option (List ℕ)
-  -- how it reads the job's sources, which must have no defect
+  -- how it reads the job's sources, which must have no defect, and how many rows of each make a round, if it reads them in rounds
   pub sources : Reading
+  pub rows : ℕ
   -- the name that it saves checkpoints to, if it saves any, and the name of the one that it is resumed from
   pub save : Option (List ℕ)
   pub resume : Option (List ℕ)
@@ -92,6 +95,7 @@ want (Fold job) = record {
   accepted = false;
   plan = None;
   sources = Whole;
+  rows = rows_in_round;
   save = None;
   resume = None;
   trace = None;
@@ -103,6 +107,7 @@ want (Check job) = record {
   accepted = true;
   plan = None;
   sources = Unread;
+  rows = rows_in_round;
   save = None;
   resume = None;
   trace = None;
@@ -114,6 +119,7 @@ want (Valid job plan) = record {
   accepted = true;
   plan = Some plan;
   sources = Unread;
+  rows = rows_in_round;
   save = None;
   resume = None;
   trace = None;
@@ -125,6 +131,7 @@ want (Plan job depth) = record {
   accepted = true;
   plan = None;
   sources = Unread;
+  rows = rows_in_round;
   save = None;
   resume = None;
   trace = None;
@@ -136,17 +143,19 @@ want (Run job plan options) = record {
   accepted = true;
   plan = plan;
   sources = InRounds;
+  rows = options.rows;
   save = options.save;
   resume = options.resume;
   trace = None;
-  writes = λ left p text. IsReportOfRun (job ∷ if_named plan) options.resume left p text;
-  says = plan_said options.adapt (job ∷ if_named plan) options.resume;
+  writes = λ left p text. IsReportOfRun options.rows (job ∷ if_named plan) options.resume left p text;
+  says = plan_said options.adapt options.rows (job ∷ if_named plan) options.resume;
 }
 want (Simulate job plan seed trace) = record {
   job = Named job;
   accepted = true;
   plan = Some plan;
   sources = Whole;
+  rows = rows_in_round;
   save = None;
   resume = None;
   trace = None;
@@ -158,6 +167,7 @@ want (Replay job plan trace) = record {
   accepted = true;
   plan = Some plan;
   sources = Whole;
+  rows = rows_in_round;
   save = None;
   resume = None;
   trace = Some trace;
@@ -169,6 +179,7 @@ want (Demo n seed) = record {
   accepted = true;
   plan = None;
   sources = Unread;
+  rows = rows_in_round;
   save = None;
   resume = None;
   trace = None;
@@ -195,6 +206,10 @@ how_read command = (want command).sources
 
 abbrev pub reads_sources : Command → Bool
 reads_sources command = is_read (how_read command)
+
+-- how many rows of each source make a round of a command
+abbrev pub rows_named : Command → ℕ
+rows_named command = (want command).rows
 
 -- the name of the trace that a command reads, if it reads one
 abbrev pub trace_named : Command → Option (List ℕ)

@@ -4,6 +4,7 @@
 ghost use Rattle.flu_top.specs.Headline.{FoldIsTheReport, RunIsTheFold, SimulationIsTheFold, ReplayIsTheFold, OneTextOneReport};
 
 use flu_grammar::laws::jobs_are_grammar;
+use flu_words::rounds_have_rows;
 
 /// The text of a job has one report of the same sources, whichever program of it is taken: programs of one text differ only in the
 /// places of their expressions in memory.
@@ -22,12 +23,13 @@ pub fn fold_is_the_report()
 }
 
 /// So do `run`, `simulate` and `replay` of an accepted job and a valid plan, whichever steps the threads took, the seed draws or the
-/// trace has: `run` with or without a plan, `--save` and `--adapt`, if it is not resumed; `simulate` if it does not write its trace;
-/// and `replay` of a trace that can only be complete.
+/// trace has: `run` with or without a plan, `--save` and `--adapt`, in rounds of any number of rows, if it is not resumed; `simulate` if it
+/// does not write its trace; and `replay` of a trace that can only be complete.
 pub fn runs_are_the_fold()
     ensures run { RunIsTheFold }
     ensures simulation { SimulationIsTheFold }
     ensures replay { ReplayIsTheFold }
 {
     jobs_are_grammar();
+    rounds_have_rows();
 }

@@ -14,7 +14,7 @@ use flu_cells::State;
 use flu_model::Program;
 use flu_outside::{Files, read_whole};
 use flu_save::read_save;
-use flu_words::RunOptions;
+use flu_words::{Rows, RunOptions};
 use std::alloc::Global;
 
 // The most bytes that a checkpoint has.
@@ -27,18 +27,21 @@ pub struct Opening {
     pub border: Option<u64>,
     /// What the cells hold then.
     pub state: State,
+    /// How many rows of each source make a round.
+    pub rows: Rows,
 }
 
-/// The opening of a run: fresh, or what the checkpoint under a name holds.
+/// The opening of a run in rounds of a number of rows: fresh, or what the checkpoint under a name holds.
 pub fn opening_of<F: Files>(
     alloc: Global,
     files: &mut F,
     program: &Program,
     resume: Option<&str>,
+    rows: Rows,
 ) -> Result<Opening, Refusal>
     ensures opening { IfOk result (λ o. IsOpening program.now (plain_opening o)) }
     ensures opened { IfOk result (λ o. WhereTold (F.left files.old) (F.left files.new)
-        (IsOpened (option_map (λ name. name.now) resume.entry) program.now (plain_opening o))) }
+        (IsOpened rows.count (option_map (λ name. name.now) resume.entry) program.now (plain_opening o))) }
     ensures refused { IfErr result (IsOpeningRefusal (option_map (λ name. name.now) resume.entry) program.now (F.left files.old) (F.left files.new)
         (F.faults files.old) (F.faults files.new)) }
     ensures fronts { WhereTold (F.left files.old) (F.left files.new) TookFronts }
@@ -51,8 +54,9 @@ pub fn opening_of<F: Files>(
         None => Ok(Opening {
             border: None,
             state: State::new(alloc),
+            rows,
         }),
-        Some(name) => resumed(alloc, files, program, name),
+        Some(name) => resumed(alloc, files, program, name, rows),
     }
 }
 
@@ -62,9 +66,11 @@ fn resumed<F: Files>(
     files: &mut F,
     program: &Program,
     name: &str,
+    rows: Rows,
 ) -> Result<Opening, Refusal>
     ensures opening { IfOk result (λ o. IsOpening program.now (plain_opening o)) }
-    ensures opened { IfOk result (λ o. WhereTold (F.left files.old) (F.left files.new) (IsOpened (Some name.now) program.now (plain_opening o))) }
+    ensures opened { IfOk result (λ o. WhereTold (F.left files.old) (F.left files.new) (IsOpened rows.count (Some name.now) program.now
+        (plain_opening o))) }
     ensures refused { IfErr result (IsOpeningRefusal (Some name.now) program.now (F.left files.old) (F.left files.new) (F.faults files.old)
         (F.faults files.new)) }
     ensures fronts { WhereTold (F.left files.old) (F.left files.new) TookFronts }
@@ -78,6 +84,7 @@ fn resumed<F: Files>(
     Ok(Opening {
         border: Some(saved.border),
         state: saved.state,
+        rows,
     })
 }
 

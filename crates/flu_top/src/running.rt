@@ -1,5 +1,5 @@
-//! `run JOB [PLAN | --depth D] [--adapt] [--save FILE [--unflushed]] [--resume FILE]`: the report of a run of a job's events, in rounds,
-//! on the tree of threads if a plan is named or the tree pays.
+//! `run JOB [PLAN | --depth D] [--round ROWS] [--adapt] [--save FILE [--unflushed]] [--resume FILE]`: the report of a run of a job's events,
+//! in rounds, on the tree of threads if a plan is named or the tree pays.
 
 ghost use Rattle.std.specs.Prelude.{◌≡◌, ◌≢◌, ◌<◌, ◌≤◌, ◌⊎◌, ℕ, Bool, option_map, length, List, ◌∷◌, Option, Some, None, Ok, Err, IfOk, IfErr, OnOk, IsErrOf};
 ghost use Rattle.std.specs.Prelude.{IsTrue};
@@ -31,7 +31,6 @@ ghost use Rattle.flu_top.specs.Answer.{status_after};
 ghost use Rattle.flu_top.specs.Done.{IsReadName, IsPutAt};
 ghost use Rattle.flu_top.specs.Ending.{call, IsEnding};
 ghost use Rattle.flu_top.specs.Openings.{Opening as PlainOpening};
-ghost use Rattle.flu_top.specs.Reading.{rows_in_round};
 ghost use Rattle.flu_top.specs.Refusing.{IsRefusal};
 ghost use Rattle.flu_top.specs.Running.{EndsRounds, EndsRun, GoesOn, IsBegun, IsOpening, SaysCounts, StaysWithin, Steps, borders_above, plain_opening};
 ghost use Rattle.flu_top.specs.Starting.{IsNoSource};
@@ -62,9 +61,6 @@ use flu_words::{Depth, RunOptions};
 use std::alloc::{AllocError, Global};
 use std::sync::Wait;
 use std::thread::Threads;
-
-// A round is ready as soon as each source has this many settled rows.
-const ROWS_IN_ROUND: u32 = 4096;
 
 /// Why the rounds of a run ended before the last one.
 #[derive(Clone, Copy, Debug)]
@@ -107,7 +103,13 @@ pub fn run_job<F: Files, K: Sink, G: Gate, R: Threads + Wait + Sync>(
     if let Some(number) = same_name(planned.checked.program(), options) {
         return Err(Refusal::SaveDefect(SaveDefect::SameName(planned.checked, number)));
     }
-    let opening = match opening_of(alloc, files, planned.checked.program(), options.resume) {
+    let opening = match opening_of(
+        alloc,
+        files,
+        planned.checked.program(),
+        options.resume,
+        options.rows,
+    ) {
         Ok(opening) => opening,
         Err(refusal) => return Err(refusal),
     };
@@ -293,12 +295,13 @@ fn adaptive_of<'a, G: Gate, R: Threads + Wait + Sync>(
 // A run before its first round, from its opening.
 fn first(alloc: Global, program: &Program, opening: Opening) -> Result<Rounds, RunFault>
     requires { IsOpening program.now (plain_opening opening) }
-    ensures first { IfOk result (IsFirstFrom program.now rows_in_round opening.border (held opening.state)) }
+    ensures first { IfOk result (IsFirstFrom program.now opening.rows.count opening.border (held opening.state)) }
     ensures no_memory { IfErr result (λ fault. fault ≡ RunFault.Round RoundsFault.NoMemory) }
 {
+    let rows = opening.rows.count;
     let made = match opening.border {
-        None => Rounds::new(alloc, program, ROWS_IN_ROUND),
-        Some(border) => Rounds::resume(alloc, program, ROWS_IN_ROUND, border, opening.state),
+        None => Rounds::new(alloc, program, rows),
+        Some(border) => Rounds::resume(alloc, program, rows, border, opening.state),
     };
     made.map_err(|_| RunFault::Round(RoundsFault::NoMemory))
 }

@@ -29,29 +29,29 @@ use std::thread::Threads;
 /// report to `out`. `check JOB` reads only the job, which has to be accepted, and writes it in normal form. `valid JOB
 /// PLAN` reads such a job and then a plan, which has to be valid for it, and writes the plan in normal form. `plan JOB
 /// [--depth D]` reads only such a job and writes the greedy plan of all its itags, by the rates of its sources, with at
-/// most D levels below the root: 0 to 6, and 3 if no depth is given. `run JOB [PLAN | --depth D]` reads such a job and
-/// a plan that is valid for it, if one is named. It reads the sources in rounds, of 4,096 rows of each source or more,
-/// runs the events of each round, and writes the report of the fold, round by round. By a plan each round is run on a
-/// thread for each node; otherwise on a tree of threads of at most that depth if the round's own counts say that this
-/// pays, or else it is folded. With `--save FILE` it puts a checkpoint under that name after each round, and with
-/// `--resume FILE` it continues from such a checkpoint: it runs the events above its border, from its state.
-/// `--unflushed` after `--save FILE` changes nothing here: it is for the caller, whose `files` may leave their flushes
-/// out. With `--adapt` each round after the first runs by the greedy plan of depth 3 of the events counted so far, if a
-/// plan is named, and the greedy plan of depth 3 of all events of the run is printed on `err` at the end. `simulate JOB
-/// PLAN SEED` reads such a job, a plan that is valid for it and the sources, runs the events on the net of the plan by
-/// the steps that the seed draws, writes the report of the fold, and then prints on `err` how many steps of each kind
-/// there were, with their mark; with `--trace` after the seed it writes the trace of that run, its steps line by line,
-/// in place of the report. `replay JOB PLAN TRACE` reads the same and then a trace, runs the events on the net by its
-/// steps, and writes the report of the fold. `demo N SEED` reads no file: it runs the job of a demo, as `run` does,
-/// over N events that the seed draws and the ticks of a clock, and writes how many events there were and how many lines
-/// and bytes their report has. Status 0: all was written. Otherwise the line of the answer goes to `err`, and a failure
-/// of `err` changes no status: 2 for words that are not a command, 3 for a job text with a fault, 4 for a job that is
-/// not accepted, 5 for a plan text with a fault or a plan that is not valid, 6 for a source with a defect, 7 if a file
-/// that was read failed, 8 if `out` failed, 9 if memory ran out, 11 for a name of a checkpoint that is a source's file,
-/// or a checkpoint with a fault, 12 if a checkpoint could not be put, 13 for a trace with a bad line, with a step that
-/// is not enabled at its place, or with too few steps. If `run` is stopped, at 6 to 9 and 12, `out` may have what the
-/// rounds until then wrote. `docs/LANGUAGE.md` has the forms and the lines, and `docs/TRUST.md` what has to be
-/// believed.
+/// most D levels below the root: 0 to 6, and 3 if no depth is given. `run JOB [PLAN | --depth D] [--round ROWS]` reads
+/// such a job and a plan that is valid for it, if one is named. It reads the sources in rounds, of ROWS rows of each
+/// source or more, 1 to 4,096, and 4,096 if no number is given, runs the events of each round, and writes the report of
+/// the fold, round by round. By a plan each round is run on a thread for each node; otherwise on a tree of threads of
+/// at most that depth if the round's own counts say that this pays, or else it is folded. With `--save FILE` it puts a
+/// checkpoint under that name after each round, and with `--resume FILE` it continues from such a checkpoint: it runs
+/// the events above its border, from its state. `--unflushed` after `--save FILE` changes nothing here: it is for the
+/// caller, whose `files` may leave their flushes out. With `--adapt` each round after the first runs by the greedy plan
+/// of depth 3 of the events counted so far, if a plan is named, and the greedy plan of depth 3 of all events of the run
+/// is printed on `err` at the end. `simulate JOB PLAN SEED` reads such a job, a plan that is valid for it and the
+/// sources, runs the events on the net of the plan by the steps that the seed draws, writes the report of the fold, and
+/// then prints on `err` how many steps of each kind there were, with their mark; with `--trace` after the seed it
+/// writes the trace of that run, its steps line by line, in place of the report. `replay JOB PLAN TRACE` reads the same
+/// and then a trace, runs the events on the net by its steps, and writes the report of the fold. `demo N SEED` reads no
+/// file: it runs the job of a demo, as `run` does, over N events that the seed draws and the ticks of a clock, and
+/// writes how many events there were and how many lines and bytes their report has. Status 0: all was written.
+/// Otherwise the line of the answer goes to `err`, and a failure of `err` changes no status: 2 for words that are not a
+/// command, 3 for a job text with a fault, 4 for a job that is not accepted, 5 for a plan text with a fault or a plan
+/// that is not valid, 6 for a source with a defect, 7 if a file that was read failed, 8 if `out` failed, 9 if memory
+/// ran out, 11 for a name of a checkpoint that is a source's file, or a checkpoint with a fault, 12 if a checkpoint
+/// could not be put, 13 for a trace with a bad line, with a step that is not enabled at its place, or with too few
+/// steps. If `run` is stopped, at 6 to 9 and 12, `out` may have what the rounds until then wrote. `docs/LANGUAGE.md`
+/// has the forms and the lines, and `docs/TRUST.md` what has to be believed.
 ///
 /// Each worker of a run passes the gate before and after each of its updates. Only `run` and `demo` start threads, and
 /// wait for them: what is said here holds if the call returns. If a thread is refused, the plain fold runs the batch in

@@ -14,6 +14,15 @@ number_of limit digits =
 abbrev pub depth_of : List ℕ → Option ℕ
 depth_of digits = number_of 6 digits
 
+-- a number other than 0
+abbrev pub not_zero : Option ℕ → Option ℕ
+not_zero None = None
+not_zero (Some n) = if n == 0 then None else Some n
+
+-- how many rows of each source may make a round: 1 to 4096
+abbrev pub rows_of : List ℕ → Option ℕ
+rows_of digits = not_zero (number_of 4096 digits)
+
 -- a seed: 0 to 2147483647
 abbrev pub seed_of : List ℕ → Option ℕ
 seed_of digits = number_of (2 ^ 31 - 1) digits

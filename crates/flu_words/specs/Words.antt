@@ -1,16 +1,17 @@
 -- The words of a command.
-use Rattle.std.specs.Prelude.{ℕ, ◌+◌, List, [], ◌∷◌, Bool, true, false, not, ◌==◌, ◌&&◌, if◌then◌else◌, Option, Some, None, option_map, Result, Ok, Err, codes}
+use Rattle.std.specs.Prelude.{ℕ, ◌+◌, ◌≤◌, ◌≡◌, List, [], ◌∷◌, Bool, true, false, not, ◌==◌, ◌&&◌, if◌then◌else◌, Option, Some, None, option_map, Result, Ok, Err, codes}
 use Rattle.std.specs.Str.{bytes_eq}
 use Rattle.flu_words.specs.declared.words.RunOptions.{RunOptions as NamedOptions}
 use Rattle.flu_words.specs.declared.words.Command.{Command as NamedCommand}
 use Rattle.flu_words.specs.declared.words.Command.TheVariants as named
-use Rattle.flu_words.specs.Numbers.{depth_of, seed_of, draws_of}
+use Rattle.flu_words.specs.Numbers.{depth_of, rows_of, seed_of, draws_of}
 
--- what else a run does: how deep its greedy plan may be if no plan is named, whether its plan follows what is observed, the name of
--- the file that its checkpoints are put to, whether the flushes at each put are left out, and the name of the checkpoint that it is
--- resumed from
+-- what else a run does: how deep its greedy plan may be if no plan is named, how many rows of each source make a round, whether its plan
+-- follows what is observed, the name of the file that its checkpoints are put to, whether the flushes at each put are left out, and the
+-- name of the checkpoint that it is resumed from
 pub record RunOptions : Type 0 where
   pub depth : ℕ
+  pub rows : ℕ
   pub adapt : Bool
   pub save : Option (List ℕ)
   pub unflushed : Bool
@@ -32,6 +33,7 @@ pub data Command : Type 0 where
 abbrev pub plain_options : NamedOptions → RunOptions
 plain_options options = record {
   depth = options.depth.levels;
+  rows = options.rows.count;
   adapt = options.adapt;
   save = option_map (λ name. name.now) options.save;
   unflushed = options.unflushed;
@@ -163,6 +165,24 @@ abbrev pub depth_without : Option (List ℕ) → ℕ → List (List ℕ) → Res
 depth_without (Some plan) at ws = Ok (3, at, ws)
 depth_without None at ws = depth_and_rest at ws
 
+-- How many rows make a round, the place of the first word after that, and the words from there on.
+abbrev pub RowsBegun : Type 0
+RowsBegun = ℕ × ℕ × List (List ℕ)
+
+abbrev pub rows_from : ℕ → Option ℕ → List (List ℕ) → Result RowsBegun ℕ
+rows_from at None ws = Err at
+rows_from at (Some rows) ws = Ok (rows, at + 1, ws)
+
+abbrev pub rows_at : ℕ → List (List ℕ) → Result RowsBegun ℕ
+rows_at at [] = Err at
+rows_at at (w ∷ ws) = rows_from at (rows_of w) ws
+
+-- how many rows of each source make a round in the words from a place on: the number after `--round`, and 4096 if they don't begin with
+-- that
+abbrev pub rows_and_rest : ℕ → List (List ℕ) → Result RowsBegun ℕ
+rows_and_rest at [] = Ok (4096, at, [])
+rows_and_rest at (w ∷ ws) = if bytes_eq w (codes "--round") then rows_at (at + 1) ws else Ok (4096, at, w ∷ ws)
+
 -- whether the words from a place on begin with an option that has no value
 abbrev pub option_and_rest : List ℕ → ℕ → List (List ℕ) → Bool × ℕ × List (List ℕ)
 option_and_rest option at [] = (false, at, [])
@@ -177,24 +197,28 @@ abbrev pub no_word_after_options : RunOptions → ℕ → List (List ℕ) → Re
 no_word_after_options options at [] = Ok options
 no_word_after_options options at (w ∷ ws) = Err at
 
-abbrev pub with_resume : ℕ → Bool → Option (List ℕ) → Bool → Result Begun ℕ → Result RunOptions ℕ
-with_resume depth adapt save unflushed (Ok begun) = no_word_after_options
-    (record { depth = depth; adapt = adapt; save = save; unflushed = unflushed; resume = begun.0 }) begun.1 begun.2
-with_resume depth adapt save unflushed (Err at) = Err at
+abbrev pub with_resume : ℕ → ℕ → Bool → Option (List ℕ) → Bool → Result Begun ℕ → Result RunOptions ℕ
+with_resume depth rows adapt save unflushed (Ok begun) = no_word_after_options
+    (record { depth = depth; rows = rows; adapt = adapt; save = save; unflushed = unflushed; resume = begun.0 }) begun.1 begun.2
+with_resume depth rows adapt save unflushed (Err at) = Err at
 
-abbrev pub with_unflushed : List ℕ → Option (List ℕ) → ℕ → Bool → Option (List ℕ) → Bool × ℕ × List (List ℕ) → Result RunOptions ℕ
-with_unflushed job plan depth adapt save begun =
-    with_resume depth adapt save begun.0 (file_after (codes "--resume") job plan begun.1 begun.2)
+abbrev pub with_unflushed : List ℕ → Option (List ℕ) → ℕ → ℕ → Bool → Option (List ℕ) → Bool × ℕ × List (List ℕ) → Result RunOptions ℕ
+with_unflushed job plan depth rows adapt save begun =
+    with_resume depth rows adapt save begun.0 (file_after (codes "--resume") job plan begun.1 begun.2)
 
-abbrev pub with_save : List ℕ → Option (List ℕ) → ℕ → Bool → Result Begun ℕ → Result RunOptions ℕ
-with_save job plan depth adapt (Ok begun) = with_unflushed job plan depth adapt begun.0 (unflushed_after begun.0 begun.1 begun.2)
-with_save job plan depth adapt (Err at) = Err at
+abbrev pub with_save : List ℕ → Option (List ℕ) → ℕ → ℕ → Bool → Result Begun ℕ → Result RunOptions ℕ
+with_save job plan depth rows adapt (Ok begun) = with_unflushed job plan depth rows adapt begun.0 (unflushed_after begun.0 begun.1 begun.2)
+with_save job plan depth rows adapt (Err at) = Err at
 
-abbrev pub with_adapt : List ℕ → Option (List ℕ) → ℕ → Bool × ℕ × List (List ℕ) → Result RunOptions ℕ
-with_adapt job plan depth begun = with_save job plan depth begun.0 (file_after (codes "--save") job plan begun.1 begun.2)
+abbrev pub with_adapt : List ℕ → Option (List ℕ) → ℕ → ℕ → Bool × ℕ × List (List ℕ) → Result RunOptions ℕ
+with_adapt job plan depth rows begun = with_save job plan depth rows begun.0 (file_after (codes "--save") job plan begun.1 begun.2)
+
+abbrev pub with_rows : List ℕ → Option (List ℕ) → ℕ → Result RowsBegun ℕ → Result RunOptions ℕ
+with_rows job plan depth (Ok begun) = with_adapt job plan depth begun.0 (option_and_rest (codes "--adapt") begun.1 begun.2)
+with_rows job plan depth (Err at) = Err at
 
 abbrev pub with_depth : List ℕ → Option (List ℕ) → Result DepthBegun ℕ → Result RunOptions ℕ
-with_depth job plan (Ok begun) = with_adapt job plan begun.0 (option_and_rest (codes "--adapt") begun.1 begun.2)
+with_depth job plan (Ok begun) = with_rows job plan begun.0 (rows_and_rest begun.1 begun.2)
 with_depth job plan (Err at) = Err at
 
 -- the options of a run in the words from a place on, which have no others
@@ -297,3 +321,9 @@ command_of w ws =
 abbrev pub command_in : List (List ℕ) → Result Command ℕ
 command_in [] = Err 0
 command_in (w ∷ ws) = command_of w ws
+
+-- LAW OF ROUNDS: a run that words ask for has rounds of 1 to 4096 rows of each source
+abbrev pub RoundsHaveRows : Type 0
+RoundsHaveRows =
+    (words : List (List ℕ)) (job : List ℕ) (plan : Option (List ℕ)) (options : RunOptions) → command_in words ≡ Ok (Run job plan options)
+    → (1 ≤ options.rows) × (options.rows ≤ 4096)

@@ -1,13 +1,16 @@
 //! The numbers that words may be.
 
 ghost use Rattle.std.specs.Prelude.{◌≡◌, ◌≤◌, ◌<◌, ◌-◌, ◌^◌, IfSome, option_map};
-ghost use Rattle.flu_words.specs.Numbers.{number_of, depth_of, seed_of, draws_of};
+ghost use Rattle.flu_words.specs.Numbers.{number_of, depth_of, rows_of, seed_of, draws_of};
 
 /// The most digits that a number may have.
 const MOST_DIGITS: usize = 10;
 
 /// The most levels below its root that a plan may have.
 const MOST_LEVELS: u32 = 6;
+
+/// The most rows of each source that may make a round.
+const MOST_ROWS: u32 = 4096;
 
 /// The greatest seed.
 const GREATEST_SEED: u32 = 2_147_483_647;
@@ -24,6 +27,17 @@ pub struct Depth {
 
 /// The depth of a plan if no depth is given: three levels below its root.
 pub const USUAL_DEPTH: Depth = Depth { levels: 3 };
+
+/// How many rows of each source make a round, 1 to 4,096: a round is ready as soon as each source that is open has as many settled rows.
+#[derive(Clone, Copy, Debug)]
+pub struct Rows {
+    pub count: u32,
+    pub ghost some: { 1 ≤ count },
+    pub ghost at_most: { count ≤ 4096 },
+}
+
+/// How many rows make a round if no number is given: 4,096.
+pub const USUAL_ROWS: Rows = Rows { count: MOST_ROWS };
 
 /// The number that the draws of a schedule or of a demo begin with, below 2^31.
 #[derive(Clone, Copy, Debug)]
@@ -45,6 +59,17 @@ pub(crate) fn depth_of(digits: &[u8]) -> Option<Depth>
 {
     let levels = number_of(MOST_LEVELS, digits)?;
     Some(Depth { levels })
+}
+
+/// How many rows of each source the bytes of a word ask for in a round: one to ten digits, of a number from 1 to 4,096.
+pub(crate) fn rows_of(digits: &[u8]) -> Option<Rows>
+    ensures { option_map (λ rows. rows.count) result ≡ rows_of digits.now }
+{
+    let count = number_of(MOST_ROWS, digits)?;
+    if count == 0 {
+        return None;
+    }
+    Some(Rows { count })
 }
 
 /// The seed that the bytes of a word are: one to ten digits, of a number from 0 to 2,147,483,647.

@@ -2,10 +2,12 @@
 
 ghost use Rattle.std.specs.Prelude.{◌≡◌, ◌<◌, ◌≤◌, ◌+◌, MatchResult, IfOk, Ok, Err, map, option_map, string_bytes};
 ghost use Rattle.flu_words.specs.Words.{command_in, plain_command, plain_options, job_alone, job_and_plan, job_and_depth, run_command, plan_and_rest};
-ghost use Rattle.flu_words.specs.Words.{run_options, depth_without, option_and_rest, file_after, unflushed_after, is_other_file, depth_after, depth_and_rest};
+ghost use Rattle.flu_words.specs.Words.{run_options, depth_without, rows_and_rest, option_and_rest, file_after, unflushed_after, is_other_file, depth_after, depth_and_rest};
 ghost use Rattle.flu_words.specs.Words.{trace_after, seed_alone, both_and_rest, simulation, replay, demo, is_file_name};
 
-use crate::numbers::{Depth, Draws, Seed, USUAL_DEPTH, depth_of, draws_of, seed_of};
+use crate::numbers::{
+    Depth, Draws, Rows, Seed, USUAL_DEPTH, USUAL_ROWS, depth_of, draws_of, rows_of, seed_of,
+};
 
 /// The words are no command: the place from 0 of the first word that does not fit, or the number of words if one is missing.
 #[derive(Clone, Copy, Debug, PartialEq, Eq)]
@@ -18,6 +20,8 @@ pub struct BadWords {
 pub struct RunOptions<'a> {
     /// How deep the greedy plan may be: 3 levels if no depth is given or a plan is named.
     pub depth: Depth,
+    /// How many rows of each source make a round: 4,096 if no number is given.
+    pub rows: Rows,
     /// Whether the plan follows what is observed.
     pub adapt: bool,
     /// The name of the file that a checkpoint is put to after each round that wrote its report.
@@ -49,9 +53,10 @@ pub enum Command<'a> {
         job: &'a str,
         depth: Depth,
     },
-    /// `run JOB [PLAN | --depth D] [--adapt] [--save FILE [--unflushed]] [--resume FILE]`: the report of a run of the job's events in rounds:
-    /// on the tree of threads by the plan, or if none is named each round as its own counts ask, by trees of at most a depth; by a plan that
-    /// follows what is observed, with checkpoints that are saved under a file, or resumed from one.
+    /// `run JOB [PLAN | --depth D] [--round ROWS] [--adapt] [--save FILE [--unflushed]] [--resume FILE]`: the report of a run of the job's
+    /// events in rounds of a number of rows of each source: on the tree of threads by the plan, or if none is named each round as its own
+    /// counts ask, by trees of at most a depth; by a plan that follows what is observed, with checkpoints that are saved under a file, or
+    /// resumed from one.
     Run {
         job: &'a str,
         plan: Option<&'a str>,
@@ -201,6 +206,7 @@ fn run_options<'a>(
         (λ bad. run_options job.now (option_map (λ name. name.now) plan.entry) at (map string_bytes words.now) ≡ Err bad.at) }
 {
     let (depth, at, words) = depth_without(plan, at, words)?;
+    let (rows, at, words) = rows_and_rest(at, words)?;
     let (adapt, at, words) = option_and_rest("--adapt", at, words);
     let (save, at, words) = file_after("--save", job, plan, at, words)?;
     let (unflushed, at, words) = unflushed_after(save, at, words);
@@ -210,6 +216,7 @@ fn run_options<'a>(
     }
     Ok(RunOptions {
         depth,
+        rows,
         adapt,
         save,
         unflushed,
@@ -237,10 +244,34 @@ fn depth_without<'a>(
     }
 }
 
+// How many rows of each source make a round in the words from a place on, or the usual number; the place of the first word after it, and
+// the words from there on.
+fn rows_and_rest(at: usize, words: &[String]) -> Result<(Rows, usize, &[String]), BadWords>
+    requires { at ≤ 5 }
+    ensures value { MatchResult result
+        (λ begun. rows_and_rest at (map string_bytes words.now) ≡ Ok (begun.0.count, begun.1, map string_bytes begun.2.now))
+        (λ bad. rows_and_rest at (map string_bytes words.now) ≡ Err bad.at) }
+    ensures near { IfOk result (λ begun. begun.1 ≤ at + 2) }
+{
+    let [option, values @ ..] = words else {
+        return Ok((USUAL_ROWS, at, words));
+    };
+    if option.as_str() != "--round" {
+        return Ok((USUAL_ROWS, at, words));
+    }
+    let [value, others @ ..] = values else {
+        return Err(BadWords { at: at + 1 });
+    };
+    let Some(rows) = rows_of(value.as_str().as_bytes()) else {
+        return Err(BadWords { at: at + 1 });
+    };
+    Ok((rows, at + 2, others))
+}
+
 // Whether the words from a place on begin with an option that has no value, the place of the first word after it, and the words from
 // there on.
 fn option_and_rest<'a>(option: &str, at: usize, words: &'a [String]) -> (bool, usize, &'a [String])
-    requires { at ≤ 8 }
+    requires { at ≤ 10 }
     ensures value { option_and_rest option.now at (map string_bytes words.now) ≡ (result.0, result.1, map string_bytes result.2.now) }
     ensures near { result.1 ≤ at + 1 }
 {
@@ -261,7 +292,7 @@ fn unflushed_after<'a>(
     at: usize,
     words: &'a [String],
 ) -> (bool, usize, &'a [String])
-    requires { at ≤ 8 }
+    requires { at ≤ 10 }
     ensures value { unflushed_after (option_map (λ name. name.now) save.entry) at (map string_bytes words.now)
         ≡ (result.0, result.1, map string_bytes result.2.now) }
     ensures near { result.1 ≤ at + 1 }
@@ -281,7 +312,7 @@ fn file_after<'a>(
     at: usize,
     words: &'a [String],
 ) -> Result<(Option<&'a str>, usize, &'a [String]), BadWords>
-    requires { at ≤ 9 }
+    requires { at ≤ 11 }
     ensures value { MatchResult result
         (λ begun. file_after option.now job.now (option_map (λ name. name.now) plan.entry) at (map string_bytes words.now) ≡ Ok
         (option_map (λ name. name.now) begun.0, begun.1, map string_bytes begun.2.now))

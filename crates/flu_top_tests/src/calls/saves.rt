@@ -160,7 +160,7 @@ fn two_rounds(alloc: Global, behind: &str, reads: &str) -> Result<MemFiles, Allo
 }
 
 /// Makes a call over some files, and answers what the name that it saves to has left.
-fn saved_by<R: Abort + Threads + Wait + Sync>(
+pub fn saved_by<R: Abort + Threads + Wait + Sync>(
     rt: &R,
     alloc: Global,
     words: Words,

@@ -12,7 +12,7 @@ returns-in-Ok-clause-written g c =
     let p = c.in-Ok.program in
     let ready = ready_alone (Fold job) job p _ _ refl refl (λ x plan named. absurd (cc)) c.in-Ok.ensures.read c.in-Ok.ensures.taken in
     IfOk-weaker c.report_of.result _ _
-    (λ report reported. is_reported_behind (Fold job) p report _ _ _ refl (λ asked. absurd (false≢true asked)) refl (record { save = refl; resume = refl })
+    (λ report reported. is_reported_behind (Fold job) p report _ _ _ refl (λ asked. absurd (false≢true asked)) refl (record { save = refl; resume = refl; rows = refl })
     (λ left q text is. (is, refl)) ready c.report_of.ensures.others reported)
     c.report_of.ensures.reported
 
@@ -27,7 +27,7 @@ returns-in-Ok-clause-refused g c =
     IfErr-weaker c.report_of.result _ _
     (λ refusal refused. report_refusal (Fold job) p (left c.args.files.now) (left c.program_of.new.files) (left c.report_of.new.files)
     (faults c.args.files.now) (faults c.program_of.new.files) (faults c.report_of.new.files) refusal refl (λ asked. absurd (false≢true asked))
-    (record { save = refl; resume = refl }) ready c.in-Ok.ensures.counts refused)
+    (record { save = refl; resume = refl; rows = refl }) ready c.in-Ok.ensures.counts refused)
     c.report_of.ensures.refused
 
 pub returns-in-Ok-clause-fronts : goal.returns-in-Ok-clause-fronts
@@ -37,7 +37,7 @@ pub returns-in-Ok-clause-only : goal.returns-in-Ok-clause-only
 returns-in-Ok-clause-only g c =
     let job = c.args.job.now in
     let p = c.in-Ok.program in
-    only_ready (Fold job) p _ _ _ (record { save = refl; resume = refl }) refl (λ asked. absurd (false≢true asked))
+    only_ready (Fold job) p _ _ _ (record { save = refl; resume = refl; rows = refl }) refl (λ asked. absurd (false≢true asked))
     (ready_alone (Fold job) job p _ _ refl refl (λ x plan named. absurd (cc)) c.in-Ok.ensures.read c.in-Ok.ensures.taken) c.report_of.ensures.others
 
 pub returns-in-Err-clause-refused : goal.returns-in-Err-clause-refused

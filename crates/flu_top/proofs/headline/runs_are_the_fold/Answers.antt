@@ -2,7 +2,7 @@ use Rattle.flu_top.proofs.Headlines.{run_law, simulation_law, replay_law}
 use Rattle.flu_top.proofs.headline.runs_are_the_fold.Goals as goal
 
 pub returns-clause-run : goal.returns-clause-run
-returns-clause-run c = run_law c.jobs_are_grammar.ensures
+returns-clause-run c = run_law c.jobs_are_grammar.ensures c.rounds_have_rows.ensures
 
 pub returns-clause-simulation : goal.returns-clause-simulation
 returns-clause-simulation c = simulation_law c.jobs_are_grammar.ensures

@@ -40,8 +40,8 @@ returns-clause-opened g c =
     let p = c.args.program.now in
     let t = c.in_ok-saved.saved.border in
     let s = held c.in_ok-saved.saved.state in
-    opened_saved p c.args.name.now c.in_ok-bytes.bytes.items t s _ _ c.in_ok-bytes.ensures.whole c.read_whole.ensures.taken
-    (subst (λ (bytes : List ℕ). IsSave p t s bytes) c.deref.ensures.value c.in_ok-saved.ensures.saved)
+    opened_saved p c.args.name.now c.in_ok-bytes.bytes.items t s c.args.rows.count _ _ c.in_ok-bytes.ensures.whole c.read_whole.ensures.taken
+    (subst (λ (bytes : List ℕ). IsSave p t s bytes) c.deref.ensures.value c.in_ok-saved.ensures.saved) c.args.rows.some
 
 pub returns-clause-fronts : goal.returns-clause-fronts
 returns-clause-fronts g c = fronts_at c.args.name.now _ _ c.read_whole.ensures.taken

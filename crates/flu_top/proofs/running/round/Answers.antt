@@ -1,4 +1,4 @@
-use Rattle.std.proofs.Common.{◌≡◌, sym, ap, ◌∙◌, subst, Result, Err}
+use Rattle.std.proofs.Common.{◌≡◌, sym, ap, ◌∙◌, subst, Result, Ok, Err}
 use Rattle.std.specs.Result.{IsErrAnd}
 use Rattle.flu_model.specs.declared.jobs.Program.{Program}
 use Rattle.flu_model.specs.Listed.{listed}
@@ -6,8 +6,9 @@ use Rattle.flu_adaptive.specs.Observed.{IsObservedPlan}
 use Rattle.flu_deps.specs.Checking.{program_of}
 use Rattle.flu_deps.specs.Validated.{plan_of}
 use Rattle.flu_streams.specs.declared.border.Border.{Border}
+use Rattle.flu_streams.specs.declared.border.Border.TheVariants.{Closed}
 use Rattle.flu_streams.specs.Counts.{grown}
-use Rattle.flu_streams.specs.Holding.{Holding}
+use Rattle.flu_streams.specs.Holding.{Holding, AreClosed}
 use Rattle.flu_rounds.specs.declared.faults.RoundsFault.{RoundsFault}
 use Rattle.flu_rounds.specs.Halves.{Begins, AppendsReport, AppendsPartOfReport}
 use Rattle.flu_top.proofs.RunReports.{round_of_halves}
@@ -25,6 +26,16 @@ returns-in_err-finish-clause-part g c = λ failed.
     (c.program-program.ensures ∙ ap program_of c.checked.ensures)
     (c.finish.ensures.part (c.in_err-finish.was ∙ ap Err (sym (subst (λ (r : Result Border RoundsFault). IsErrAnd r
     (λ (f : RoundsFault). f ≡ c.in_err-finish.field-0.0)) failed c.from_residual-in_err-finish.ensures.1)))))
+
+-- the border of a round that ended well
+border_of : Result Border RoundsFault → Border
+border_of (Ok border) = border
+border_of (Err fault) = Closed
+
+pub returns-clause-closed : goal.returns-clause-closed
+unfolding border_of
+returns-clause-closed g c is_closed =
+    subst AreClosed (sym c.finish.ensures.held) (c.in_ok-border.ensures.closed (ap border_of is_closed))
 
 pub returns-clause-written : goal.returns-clause-written
 returns-clause-written g c before behind =

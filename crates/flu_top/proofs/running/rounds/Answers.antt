@@ -5,7 +5,6 @@ use Rattle.flu_deps.specs.Checking.{program_of}
 use Rattle.flu_streams.specs.declared.border.Border.{Border}
 use Rattle.flu_rounds.specs.Standing.{IsFirstFrom}
 use Rattle.flu_top.specs.Ending.{call}
-use Rattle.flu_top.specs.Reading.{rows_in_round}
 use Rattle.flu_top.specs.Running.{EndsRounds, Steps, plain_opening}
 use Rattle.flu_top.proofs.Roundings.{rounds_start, some_at_start, given_err, closed_is}
 use Rattle.flu_top.proofs.running.rounds.Goals as goal
@@ -60,8 +59,8 @@ loop-said-init g c =
       goes = rounds_start c.args.adapts p c.in_ok-engine.engine o named (left c.args.files.now) (counts c.args.files.now) (puts c.args.files.now)
           (taken c.args.out.now) (count c.args.out.now)
           c.in_ok-rounds.rounds (c.resumed_runs_go_on.ensures.beginning o.border o.cells)
-          (ap program_of c.in_ok-engine.ensures.checked) c.in_ok-engine.ensures.adapts c.in_ok-engine.ensures.counts
-          (subst (λ (q : Program). IsFirstFrom q rows_in_round o.border o.cells c.in_ok-rounds.rounds) c.program.ensures c.in_ok-rounds.ensures.first);
+          (ap program_of c.in_ok-engine.ensures.checked) c.in_ok-engine.ensures.adapts c.in_ok-engine.ensures.counts c.requires.opening.some
+          (subst (λ (q : Program). IsFirstFrom q o.rows o.border o.cells c.in_ok-rounds.rounds) c.program.ensures c.in_ok-rounds.ensures.first);
       quiet = λ n. refl;
     }
 

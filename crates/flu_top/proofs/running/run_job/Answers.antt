@@ -143,7 +143,7 @@ returns-clause-ends g c =
     let apart = subst (AreNoSources (Run job plan options)) c.program.ensures
     (c.same_name.ensures.none (no_number c.same_name.result c.in_default.not-Some) job plan) in
     let o = plain_opening c.in-Ok-opening_of.opening in
-    let opened = subst (λ (q : Program). WhereTold (left c.planned_for.new.files) (left c.opening_of.new.files) (IsOpened options.resume q o))
+    let opened = subst (λ (q : Program). WhereTold (left c.planned_for.new.files) (left c.opening_of.new.files) (IsOpened options.rows options.resume q o))
     c.program-2.ensures c.in-Ok-opening_of.ensures.opened in
     let started = is_started job plan options p o (left c.args.files.now) (left c.planned_for.new.files)
     (left c.opening_of.new.files) apart c.in-Ok.ensures.begun c.in-Ok.ensures.fronts opened c.in-Ok-opening_of.ensures.fronts in
@@ -169,7 +169,7 @@ returns-clause-fronts g c =
     let apart = subst (AreNoSources (Run job plan options)) c.program.ensures
     (c.same_name.ensures.none (no_number c.same_name.result c.in_default.not-Some) job plan) in
     let o = plain_opening c.in-Ok-opening_of.opening in
-    let opened = subst (λ (q : Program). WhereTold (left c.planned_for.new.files) (left c.opening_of.new.files) (IsOpened options.resume q o))
+    let opened = subst (λ (q : Program). WhereTold (left c.planned_for.new.files) (left c.opening_of.new.files) (IsOpened options.rows options.resume q o))
     c.program-2.ensures c.in-Ok-opening_of.ensures.opened in
     let started = is_started job plan options p o (left c.args.files.now) (left c.planned_for.new.files)
     (left c.opening_of.new.files) apart c.in-Ok.ensures.begun c.in-Ok.ensures.fronts opened c.in-Ok-opening_of.ensures.fronts in
@@ -195,7 +195,7 @@ returns-clause-only g c =
     let apart = subst (AreNoSources (Run job plan options)) c.program.ensures
     (c.same_name.ensures.none (no_number c.same_name.result c.in_default.not-Some) job plan) in
     let o = plain_opening c.in-Ok-opening_of.opening in
-    let opened = subst (λ (q : Program). WhereTold (left c.planned_for.new.files) (left c.opening_of.new.files) (IsOpened options.resume q o))
+    let opened = subst (λ (q : Program). WhereTold (left c.planned_for.new.files) (left c.opening_of.new.files) (IsOpened options.rows options.resume q o))
     c.program-2.ensures c.in-Ok-opening_of.ensures.opened in
     let started = is_started job plan options p o (left c.args.files.now) (left c.planned_for.new.files)
     (left c.opening_of.new.files) apart c.in-Ok.ensures.begun c.in-Ok.ensures.fronts opened c.in-Ok-opening_of.ensures.fronts in

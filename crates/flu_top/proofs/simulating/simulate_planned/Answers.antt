@@ -44,7 +44,7 @@ returns-in-Ok-text_of-clause-only g c =
     let plan = c.args.plan.now in
     let seed = c.args.seed.number in
     let p = program_of c.in-Ok.planned.checked in
-    only_ready (Simulate job plan seed c.args.traced) p _ _ _ (record { save = refl; resume = refl }) refl (λ asked. c.in-Ok.ensures.accepted)
+    only_ready (Simulate job plan seed c.args.traced) p _ _ _ (record { save = refl; resume = refl; rows = refl }) refl (λ asked. c.in-Ok.ensures.accepted)
     (ready_as_valid (Simulate job plan seed c.args.traced) job plan p _ _ (simulation_reads job plan seed c.args.traced) refl c.in-Ok.ensures.ready)
     c.text_of.ensures.others
 
@@ -60,7 +60,7 @@ returns-in-Err-text_of-clause-refused g c =
     (simulation_reads job plan seed c.args.traced) refl c.in-Ok.ensures.ready in
     report_refusal (Simulate job plan seed c.args.traced) p (left c.args.files.now) (left c.planned_by.new.files) (left c.text_of.new.files)
     (faults c.args.files.now) (faults c.planned_by.new.files) (faults c.text_of.new.files) c.in-Err-text_of.refusal refl (λ asked. c.in-Ok.ensures.accepted)
-    (record { save = refl; resume = refl }) ready c.in-Ok.ensures.counts
+    (record { save = refl; resume = refl; rows = refl }) ready c.in-Ok.ensures.counts
     c.in-Err-text_of.ensures.refused
 
 pub returns-in-Err-text_of-clause-fronts : goal.returns-in-Err-text_of-clause-fronts
@@ -72,6 +72,6 @@ returns-in-Err-text_of-clause-only g c =
     let plan = c.args.plan.now in
     let seed = c.args.seed.number in
     let p = program_of c.in-Ok.planned.checked in
-    only_ready (Simulate job plan seed c.args.traced) p _ _ _ (record { save = refl; resume = refl }) refl (λ asked. c.in-Ok.ensures.accepted)
+    only_ready (Simulate job plan seed c.args.traced) p _ _ _ (record { save = refl; resume = refl; rows = refl }) refl (λ asked. c.in-Ok.ensures.accepted)
     (ready_as_valid (Simulate job plan seed c.args.traced) job plan p _ _ (simulation_reads job plan seed c.args.traced) refl c.in-Ok.ensures.ready)
     c.text_of.ensures.others
