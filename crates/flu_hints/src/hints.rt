@@ -5,20 +5,9 @@ use crate::places::place_hint;
 use crate::reasons::{Failure, reason_hint};
 use crate::rows::row_hint;
 use crate::traces::trace_hint;
+use crate::words::words_hint;
 use std::alloc::AllocError;
 use std::{fs, rt};
-
-/// The commands, if the words are no command.
-const USAGE: &str = "  flumina fold JOB
-  flumina check JOB
-  flumina valid JOB PLAN
-  flumina plan JOB [--depth D]
-  flumina run JOB [PLAN | --depth D] [--adapt] [--save FILE [--unflushed]] [--resume FILE]
-  flumina simulate JOB PLAN SEED [--trace]
-  flumina replay JOB PLAN TRACE
-  flumina demo N SEED
-  flumina --help
-";
 
 /// A file that is longer is not read again for a hint.
 const LONGEST_READ: u64 = 67_108_864;
@@ -35,7 +24,7 @@ pub fn hint<R: rt::Files + AllocGlobal>(
     failure: Option<Failure>,
 ) -> Result<String, AllocError> {
     match status {
-        2 => String::from_str(rt.alloc(), USAGE),
+        2 => words_hint(rt.alloc(), words, line),
         3 => place_hint(rt, words.get(1), line),
         4 => conflict_hint(rt, words.get(1), line),
         5 => place_hint(rt, words.get(2), line),

@@ -1,4 +1,4 @@
-//! What is written after the line of an answer if a person reads it at a terminal. Nothing is claimed of it.
+//! What is written after the line of an answer if hints are wanted. Nothing is claimed of it.
 #![tactic(auto)]
 
 mod conflicts;
@@ -8,8 +8,11 @@ mod limits;
 mod places;
 mod plans;
 mod reasons;
+mod row_reasons;
 mod rows;
+mod texts;
 mod traces;
+mod words;
 
 pub use hints::hint;
 pub use limits::limit_place;

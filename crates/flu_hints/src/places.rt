@@ -2,6 +2,7 @@
 
 use crate::hints::text_of;
 use crate::limits::limit_place;
+use crate::texts::push_advice;
 use std::alloc::{AllocError, Global};
 use std::{rt, str};
 
@@ -9,7 +10,7 @@ use std::{rt, str};
 const LONGEST_LINE: usize = 200;
 
 /// The line, column and text of the place that the line of an answer names, or at which the limit that it names is exceeded, in the
-/// file of that name.
+/// file of that name, and what helps there.
 pub fn place_hint<R: rt::Files + AllocGlobal>(
     rt: &R,
     name: Option<&String>,
@@ -22,14 +23,16 @@ pub fn place_hint<R: rt::Files + AllocGlobal>(
         return Ok(String::new(rt.alloc()));
     };
     let bytes = bytes.as_slice();
-    match place_of(line).or_else(|| limit_place(rt.alloc(), line, bytes)) {
-        Some(at) if at <= bytes.len() => shown_place(rt.alloc(), name.as_str(), bytes, at),
-        _ => Ok(String::new(rt.alloc())),
-    }
+    let mut told = match place_of(line).or_else(|| limit_place(rt.alloc(), line, bytes)) {
+        Some(at) if at <= bytes.len() => shown_place(rt.alloc(), name.as_str(), bytes, at)?,
+        _ => String::new(rt.alloc()),
+    };
+    push_advice(rt.alloc(), &mut told, line, bytes)?;
+    Ok(told)
 }
 
-// The place at the end of an answer's line, such as `job: unexpected at 17`.
-fn place_of(line: &str) -> Option<usize> {
+/// The place at the end of an answer's line, such as `job: unexpected at 17`.
+pub fn place_of(line: &str) -> Option<usize> {
     let (_, digits) = line.trim_end().rsplit_once(" at ")?;
     digits.parse::<usize>().ok()
 }
@@ -56,8 +59,8 @@ fn shown_place(alloc: Global, name: &str, bytes: &[u8], at: usize) -> Result<Str
     Ok(told)
 }
 
-// The number from 1 of the line in which a place is, and the place where that line begins.
-fn line_begin(bytes: &[u8], at: usize) -> (u64, usize) {
+/// The number from 1 of the line in which a place is, and the place where that line begins.
+pub fn line_begin(bytes: &[u8], at: usize) -> (u64, usize) {
     let mut number = 1u64;
     let mut begin = 0usize;
     for (i, byte) in bytes.iter().enumerate().take(at) {

@@ -2,7 +2,8 @@
 
 use crate::hints::text_of;
 use crate::places::{push_line, short_text};
-use flu_model::Program;
+use crate::row_reasons::push_reason;
+use flu_model::{Program, Source};
 use flu_parse::read_job;
 use std::alloc::AllocError;
 use std::rt;
@@ -16,7 +17,7 @@ const FORMS_WITH_ITEMS: &str =
     "  an event of a kind with items is TIME,TAG,ITEM,VALUE or TIME,TAG,ITEM
 ";
 
-/// The text of the row that the line of an answer names, in the file of its source, and the forms that rows have.
+/// The text of the row that the line of an answer names, in the file of its source, why it is a defect, and the forms that rows have.
 pub fn row_hint<R: rt::Files + AllocGlobal>(
     rt: &R,
     job: Option<&String>,
@@ -28,8 +29,8 @@ pub fn row_hint<R: rt::Files + AllocGlobal>(
         None => None,
     };
     if let (Some(program), Some((source, row))) = (&program, row_of(line)) {
-        if let Some(file) = file_of(program, source) {
-            push_row(rt, &mut told, file, row)?;
+        if let Some(source) = source_of(program, source) {
+            push_row(rt, &mut told, program, source, row, line)?;
         }
     }
     told.push_str(FORMS)?;
@@ -54,11 +55,11 @@ fn program_of<R: rt::Files + AllocGlobal>(rt: &R, job: &str) -> Option<Program> 
     read_job(rt.alloc(), bytes.as_slice()).ok()
 }
 
-// The name of the file of a job's source.
-fn file_of<'p>(program: &'p Program, wanted: &str) -> Option<&'p str> {
+// The source of a job that has a name.
+fn source_of<'p>(program: &'p Program, wanted: &str) -> Option<&'p Source> {
     for source in program.sources.items() {
         if source.name.as_str() == wanted {
-            return Some(source.file.as_str());
+            return Some(source);
         }
     }
     None
@@ -69,29 +70,37 @@ fn has_items(program: &Program) -> bool {
     program.kinds.items().iter().any(|kind| kind.has_item)
 }
 
-// Appends a row of a file to a text, with the file's name and its number.
+// Appends a row of a source's file to a text, with the file's name and its number, and why it is a defect.
 fn push_row<R: rt::Files + AllocGlobal>(
     rt: &R,
     told: &mut String,
-    file: &str,
+    program: &Program,
+    source: &Source,
     row: u64,
+    line: &str,
 ) -> Result<(), AllocError> {
+    let file = source.file.as_str();
     let head = format!(in rt.alloc(); "{file}, line {row}")?;
     push_line(told, head.as_str())?;
-    let Some(bytes) = text_of(rt, file) else {
-        return Ok(());
+    let bytes = text_of(rt, file);
+    let shown = match &bytes {
+        Some(bytes) => row_in(bytes.as_slice(), row),
+        None => None,
     };
+    if let Some(shown) = shown {
+        push_line(told, shown)?;
+    }
+    push_reason(rt.alloc(), told, program, source, line, shown)
+}
+
+// The row with this number from 1, if it is a short text and not empty.
+fn row_in(bytes: &[u8], row: u64) -> Option<&str> {
     let mut number = 0u64;
-    for line in bytes.as_slice().split(|byte| *byte == b'\n') {
+    for line in bytes.split(|byte| *byte == b'\n') {
         number = number.saturating_add(1);
         if number == row {
-            if let Some(shown) = short_text(line)
-                && !shown.is_empty()
-            {
-                push_line(told, shown)?;
-            }
-            break;
+            return short_text(line).filter(|shown| !shown.is_empty());
         }
     }
-    Ok(())
+    None
 }

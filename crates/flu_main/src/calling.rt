@@ -1,5 +1,6 @@
 //! The call of the program.
 
+use crate::asking::{Asked, environment_asks, take_hint_word};
 use crate::help;
 use crate::words::{call_of, words_of};
 use flu_adapt::{HostFiles, HostSink, Standard, StandardStream};
@@ -28,7 +29,8 @@ const NO_MEMORY: u8 = 9;
 const LINE_ROOM: usize = 32_768;
 
 /// Does what the words of the call say with the files of the system, as `flu_top` has it, and answers the status. `out` and `err` are
-/// standard output and standard error, and `process` is the number of the process.
+/// standard output and standard error, and `process` is the number of the process. Hints are written if the first word asks for them, or
+/// the environment, or, if neither says anything, if standard error is a terminal.
 pub fn answer_call<
     R: rt::Files + Env + AllocGlobal + Threads + Wait + Sync,
     O: Write + Drop,
@@ -37,14 +39,15 @@ pub fn answer_call<
     let Some(words) = words_of(rt) else {
         return ExitCode::from(NO_MEMORY);
     };
-    let is_for_a_person = err.is_terminal();
-    let mut files = HostFiles::of_program(rt, call_of(rt.alloc(), &words, process));
+    let Asked { hints, command } = take_hint_word(words.as_slice());
+    let is_for_a_person = hints.unwrap_or(err.is_terminal() || environment_asks(rt));
+    let mut files = HostFiles::of_program(rt, call_of(rt.alloc(), command, process));
     let mut out = HostSink::new(StandardStream::new(rt, Standard::Output, out));
     let mut err = HostSink::new(StandardStream::new(rt, Standard::Error, err));
     let status = if is_for_a_person {
-        answer_a_person(rt, &words, &mut files, &mut out, &mut err)
+        answer_a_person(rt, command, &mut files, &mut out, &mut err)
     } else {
-        answer(rt, &words, &mut files, &mut out, &mut err)
+        answer(rt, command, &mut files, &mut out, &mut err)
     };
     ExitCode::from(status)
 }
@@ -97,7 +100,7 @@ fn last_failure<'t, R: rt::Files + AllocGlobal, O: Write>(
     }
 }
 
-/// Answers words: `--help` and `--version` here, each as the only word; all others go to the proved call as they are.
+/// Answers words: those that ask for help or for the version here; all others go to the proved call as they are.
 pub(crate) fn answer<
     R: rt::Files + AllocGlobal + Threads + Wait + Sync,
     F: Files,

@@ -16,16 +16,20 @@ pub const HELP: &str =
   flumina run JOB PLAN           run the job on a thread for each node of the plan, write the report
   flumina run JOB [--depth D]    the same, but choose for each round a plan with at most D levels below its root, or one thread
   flumina run JOB [PLAN] --adapt the same, but let a PLAN follow the counts of events; print the plan for all to standard error
-  flumina run JOB [PLAN | --depth D] [--adapt] [--save FILE [--unflushed]] [--resume FILE]
-                                 the same, but save a checkpoint under FILE after each round, or resume from the one in FILE;
-                                 with --unflushed it may be lost in a power failure
+  flumina run JOB [PLAN | --depth D] [--round ROWS] [--adapt] [--save FILE [--unflushed]] [--resume FILE]
+                                 the same, but write after each round of ROWS rows of each source, 1 to 4096, default 4096;
+                                 save a checkpoint under FILE after each round, or resume from the one in FILE; with
+                                 --unflushed it may be lost in a power failure
   flumina simulate JOB PLAN SEED run the job by a schedule that a seed draws, write the report, then the counts of steps
   flumina simulate JOB PLAN SEED --trace
                                  the same, but write the trace of the run, one step per line, instead of the report
   flumina replay JOB PLAN TRACE  run the job by the steps of a trace, write the report
   flumina demo N SEED            run a job of page views over N events that a seed draws, write a one-line summary
-  flumina --help                 write this text
+  flumina --help                 write this text, as flumina COMMAND --help does
   flumina --version              write the version and the toolchain that proves it
+
+Before a command, --hints lets a hint follow each line on standard error, and --no-hints none; without either there are hints if
+standard error is a terminal, or if FLUMINA_HINTS=1 is in the environment.
 
 JOB, PLAN, TRACE and FILE are file names, SEED is a number from 0 to 2147483647, and N one from 0 to 1000000. File names, also
 those in a job, are looked up in the working directory.
@@ -45,16 +49,28 @@ pub const VERSION: &str = "flumina 0.1.0
 rattle-kit-13f logic dac8208d650f15bf
 ";
 
-/// What has to be written if `--help` or `--version` is the only word.
+/// What has to be written if the words ask for help or for the version: `--help`, `-h`, `help` or `--version` as the only word, or
+/// `--help` or `-h` right after the name of a command and last.
 pub fn told(words: &[String]) -> Option<&'static str> {
-    let [word] = words else {
-        return None;
-    };
-    match word.as_str() {
-        "--help" => Some(HELP),
-        "--version" => Some(VERSION),
+    match words {
+        [word] => match word.as_str() {
+            "--help" | "-h" | "help" => Some(HELP),
+            "--version" => Some(VERSION),
+            _ => None,
+        },
+        [command, word] => match word.as_str() {
+            "--help" | "-h" if is_command(command.as_str()) => Some(HELP),
+            _ => None,
+        },
         _ => None,
     }
+}
+
+fn is_command(word: &str) -> bool {
+    matches!(
+        word,
+        "fold" | "check" | "valid" | "plan" | "run" | "simulate" | "replay" | "demo"
+    )
 }
 
 /// Writes the text to out, and answers the status. If that fails, the line of a write fault goes to err.

@@ -1,6 +1,7 @@
 //! What the program does when it is called: its words, over the files and the streams of the system.
 #![tactic(auto)]
 
+mod asking;
 mod calling;
 mod help;
 #[cfg(test)]

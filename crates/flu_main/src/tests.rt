@@ -62,11 +62,12 @@ fn two_sources_add_and_a_third_reads(rt: HostRuntime) -> Result<(), Fail> {
 }
 
 #[test]
-fn help_and_version_are_single_words(rt: HostRuntime) -> Result<(), Fail> {
+fn help_and_version_are_words_of_their_own(rt: HostRuntime) -> Result<(), Fail> {
     let cases = [
         ("--help", help::HELP, "", 0),
         ("--version", help::VERSION, "", 0),
-        ("-h", "", "flumina: bad words at 0\n", 2),
+        ("-h", help::HELP, "", 0),
+        ("-v", "", "flumina: bad words at 0\n", 2),
     ];
     for (word, text, line, wanted) in cases {
         let word = String::from_str(rt.alloc(), word)?;

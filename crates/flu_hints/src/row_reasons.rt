@@ -1,0 +1,193 @@
+//! Why a row is a defect of its source, and what helps.
+
+use crate::places::push_line;
+use flu_model::{Keys, Program, Source, TagRef};
+use std::alloc::{AllocError, Global};
+
+/// The greatest slack of a source, in the unit of its times.
+const GREATEST_SLACK: u64 = 60_000;
+
+/// Appends why the row of an answer's line is a defect, as far as the line, the source and the row itself show it. The row is none if it
+/// was not found, or is no short text.
+pub fn push_reason(
+    alloc: Global,
+    told: &mut String,
+    program: &Program,
+    source: &Source,
+    line: &str,
+    row: Option<&str>,
+) -> Result<(), AllocError> {
+    let Some((_, defect)) = line.trim_end().rsplit_once(": ") else {
+        return Ok(());
+    };
+    if let Some(times) = defect.strip_prefix("disordered, last ") {
+        return push_lateness(alloc, told, times);
+    }
+    match defect {
+        "unclosed" => push_line(told, "the last line of a source is: end"),
+        "after end" => push_line(told, "only blank lines may follow the line: end"),
+        "unknown tag" => push_tags(alloc, told, program, source),
+        "bad row" => match row.and_then(|row| bad_row_reason(program.version, row)) {
+            Some(reason) => push_line(told, reason),
+            None => Ok(()),
+        },
+        "too many, 16777217" => push_line(
+            told,
+            "at most 16777216 events and heartbeats fit into memory; flumina run reads in rounds and has no such limit",
+        ),
+        _ => Ok(()),
+    }
+}
+
+// Appends how late a row is, and the slack with which it would not be, from times such as `7, got 5`.
+fn push_lateness(alloc: Global, told: &mut String, times: &str) -> Result<(), AllocError> {
+    let Some((last, got)) = times.split_once(", got ") else {
+        return Ok(());
+    };
+    let (Ok(last), Ok(got)) = (last.parse::<u64>(), got.parse::<u64>()) else {
+        return Ok(());
+    };
+    let late = last.saturating_sub(got);
+    if late == 0 {
+        return push_line(
+            told,
+            "an earlier row of this source has the same time; times of a source are all different",
+        );
+    }
+    let slack = late.saturating_add(1);
+    let advice = if slack <= GREATEST_SLACK {
+        format!(in alloc;
+            "the row is late by {late}: slack {slack} on the source takes it, unless an earlier row has its time"
+        )?
+    } else {
+        format!(in alloc;
+            "the row is late by {late}, more than any slack takes: sort the file by time"
+        )?
+    };
+    push_line(told, advice.as_str())
+}
+
+// Appends the tags that a source lists.
+fn push_tags(
+    alloc: Global,
+    told: &mut String,
+    program: &Program,
+    source: &Source,
+) -> Result<(), AllocError> {
+    let name = source.name.as_str();
+    let mut listed = format!(in alloc; "the source {name} lists")?;
+    let mut is_first = true;
+    for tag in source.tags.items() {
+        listed.push_str(if is_first { " " } else { ", " })?;
+        is_first = false;
+        push_tag(alloc, &mut listed, program, tag)?;
+    }
+    push_line(told, listed.as_str())
+}
+
+fn push_tag(
+    alloc: Global,
+    listed: &mut String,
+    program: &Program,
+    tag: &TagRef,
+) -> Result<(), AllocError> {
+    let Some(place) = usize::try_from(tag.kind).ok() else {
+        return Ok(());
+    };
+    let Some(kind) = program.kinds.items().get(place) else {
+        return Ok(());
+    };
+    listed.push_str(kind.name.as_str())?;
+    let keys = match tag.keys {
+        Keys::Alone => return Ok(()),
+        Keys::One(key) => format!(in alloc; "[{key}]")?,
+        Keys::Range(low, high) => format!(in alloc; "[{low}..{high}]")?,
+    };
+    listed.push_str(keys.as_str())
+}
+
+// What makes a row none, by its first field that has no form. Nothing where a quote may change what its fields are, or where each field
+// has a form by itself.
+fn bad_row_reason(version: u32, row: &str) -> Option<&'static str> {
+    let row = row.strip_suffix('\r').unwrap_or(row);
+    if row.contains('"') {
+        return None;
+    }
+    let Some((time, rest)) = row.split_once(',') else {
+        return Some(if row.contains(';') || row.contains('\t') {
+            "the fields of a row are separated by commas"
+        } else {
+            "a row has a time and a tag, separated by a comma"
+        });
+    };
+    time_reason(time).or_else(|| rest_reason(version, rest))
+}
+
+fn time_reason(time: &str) -> Option<&'static str> {
+    if is_digits(time) {
+        return match time.parse::<i64>() {
+            Ok(_) => None,
+            Err(_) => Some("the time is above 9223372036854775807"),
+        };
+    }
+    Some(if time.trim() != time {
+        "there is a blank beside the time"
+    } else if time.contains(':') || time.contains('T') {
+        "the time is a date: write it as a number, such as seconds since 1970"
+    } else if time.contains('.') {
+        "the time has a fraction: write it as a whole number of a smaller unit"
+    } else if time.starts_with("-") {
+        "the time is below 0"
+    } else {
+        "the time is not a whole number; a header is no row"
+    })
+}
+
+// What makes the fields after the time none.
+fn rest_reason(version: u32, rest: &str) -> Option<&'static str> {
+    let most = if version >= 3 { 3 } else { 2 };
+    if rest.split(',').count() > most {
+        return Some("the row has too many fields");
+    }
+    let (tag, value) = match rest.split_once(',') {
+        Some((tag, fields)) => (tag, last_field(fields)),
+        None => (rest, None),
+    };
+    if tag.trim() != tag {
+        return Some("there is a blank beside the tag");
+    }
+    match value {
+        Some(value) => value_reason(value),
+        None => Some(
+            "the fields after the tag are not those of its kind: a kind with int has a value, one with none has none",
+        ),
+    }
+}
+
+fn last_field(fields: &str) -> Option<&str> {
+    match fields.rsplit_once(',') {
+        Some((_, last)) => Some(last),
+        None => Some(fields),
+    }
+}
+
+fn value_reason(value: &str) -> Option<&'static str> {
+    let digits = value.strip_prefix("-").unwrap_or(value);
+    if is_digits(digits) {
+        return match value.parse::<i64>() {
+            Ok(_) => Some("the fields after the tag are not those of its kind"),
+            Err(_) => Some("the last field is not within 64 bits"),
+        };
+    }
+    Some(if value.trim() != value {
+        "there is a blank beside the last field"
+    } else if value.contains('.') {
+        "the last field has a fraction: write it as a whole number of a smaller unit"
+    } else {
+        "the last field is not a whole number"
+    })
+}
+
+fn is_digits(text: &str) -> bool {
+    !text.is_empty() && text.bytes().all(|byte| byte.is_ascii_digit())
+}

@@ -1,0 +1,91 @@
+//! The word of a call that does not fit, and why.
+
+use crate::places::{place_of, push_line};
+use std::alloc::{AllocError, Global};
+
+/// The commands, if the words are no command.
+const USAGE: &str = "  flumina fold JOB
+  flumina check JOB
+  flumina valid JOB PLAN
+  flumina plan JOB [--depth D]
+  flumina run JOB [PLAN | --depth D] [--round ROWS] [--adapt] [--save FILE [--unflushed]] [--resume FILE]
+  flumina simulate JOB PLAN SEED [--trace]
+  flumina replay JOB PLAN TRACE
+  flumina demo N SEED
+  flumina --help
+";
+
+/// Why a word that should name a file does not fit.
+const NO_NAME: &str =
+    "the name of a file is expected here; one that begins with - is written ./-name";
+
+/// Why an option that exists does not fit.
+const MISPLACED: &str =
+    "this option is not possible here: each stands at most once, in the order shown below";
+
+/// The word that the line of an answer such as `flumina: bad words at 1` names, why it does not fit, and the commands.
+pub fn words_hint(alloc: Global, words: &[String], line: &str) -> Result<String, AllocError> {
+    let mut told = String::new(alloc);
+    if let Some(at) = place_of(line) {
+        let reason = reason_of(words, at);
+        let shown = match words.get(at) {
+            Some(word) => format!(in alloc; "word {at}, {word}: {reason}")?,
+            None => format!(in alloc; "after the last word: {reason}")?,
+        };
+        push_line(&mut told, shown.as_str())?;
+    }
+    told.push_str(USAGE)?;
+    Ok(told)
+}
+
+// Why the word at a place, or that none is there, makes the words no command.
+fn reason_of(words: &[String], at: usize) -> &'static str {
+    let Some(before) = at.checked_sub(1) else {
+        return "the first word is the name of a command";
+    };
+    match word_at(words, before) {
+        "--depth" => return "a depth is a number from 0 to 6",
+        "--round" => return "the number of rows in a round is from 1 to 4096",
+        "--save" | "--resume" => {
+            return "the name of a file is expected here, which is neither JOB nor PLAN";
+        }
+        _ => {}
+    }
+    let command = word_at(words, 0);
+    if at <= names_of(command) {
+        return NO_NAME;
+    }
+    match (command, at) {
+        ("demo", 1) => "N is a number from 0 to 1000000",
+        ("demo", 2) | ("simulate", 3) => "a seed is a number from 0 to 2147483647",
+        _ => option_reason(word_at(words, at)),
+    }
+}
+
+// Why a word after the names and numbers of a command does not fit.
+fn option_reason(word: &str) -> &'static str {
+    match word {
+        "--depth" => "a depth is possible where no PLAN is named, and as the first option",
+        "--round" | "--adapt" | "--save" | "--resume" | "--trace" => MISPLACED,
+        "--unflushed" => "this option is possible only right after --save FILE",
+        word if word.starts_with("-") => "there is no such option",
+        _ => "this word is one too many",
+    }
+}
+
+// How many names of files come after a command's name.
+fn names_of(command: &str) -> usize {
+    match command {
+        "fold" | "check" | "plan" | "run" => 1,
+        "valid" | "simulate" => 2,
+        "replay" => 3,
+        _ => 0,
+    }
+}
+
+fn word_at(words: &[String], at: usize) -> &str {
+    match words.get(at) {
+        Some(word) => word.as_str(),
+        None => "",
+    }
+}

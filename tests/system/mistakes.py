@@ -1,0 +1,116 @@
+#!/usr/bin/env python3
+"""Mistakes that a new user makes: the line of each answer is the same with and without a hint, and the hint says what to do.
+
+    tests/system/mistakes.py PROGRAM
+
+Each call is made four times: without a terminal, where only the line is printed; with `--hints` and with FLUMINA_HINTS=1 in the environment, where the
+hint follows the line; and at a terminal of its own, which shows the same, and with `--no-hints` the line alone."""
+
+import os
+import subprocess
+
+from system import Folder, need, program
+
+RIDES = """cell rides keyed sum
+cell longest max
+tag ride keyed int
+tag day none
+depends ride day
+depends day day
+on ride: add rides[key] 1; raise longest value
+on day: flush rides "station {key}: {cell} rides"; emit "longest ride {longest} minutes"; clear longest
+source north "north.csv": ride[1..2]
+source clock "days.csv": day
+"""
+NORTH = "485,ride[1],12\n530,ride[2],34\n545,ride[1],7\nend\n"
+FORMS = "  a row is TIME,TAG,VALUE or TIME,TAG or TIME,beat or end\n"
+
+program()
+folder = Folder()
+
+
+def mistake(words, status, line, *hints):
+    """Makes a call in each way; each of the hints has to occur in what follows the line."""
+    plain = folder.call(*words)
+    need(plain == (status, b"", line.encode()), f"{words}: {plain}")
+    asked = folder.call("--hints", *words)
+    shown = asked[2].decode()
+    need(asked[:2] == (status, b"") and shown.startswith(line), f"--hints {words}: {asked}")
+    for hint in hints:
+        need(hint in shown[len(line):], f"{words}: {hint!r} is not in {shown!r}")
+    by_environment = folder.call(*words, env={**os.environ, "FLUMINA_HINTS": "1"})
+    need(by_environment == asked, f"FLUMINA_HINTS=1 {words}: {by_environment}")
+    need(folder.at_a_terminal(*words, out=subprocess.PIPE) == (status, b"", shown), f"{words} at a terminal")
+    need(folder.at_a_terminal("--no-hints", *words, out=subprocess.PIPE) == (status, b"", line), f"--no-hints {words}")
+
+
+def job(text, **files):
+    """Writes the job and its sources anew."""
+    for name, bytes_ in {"rides.job": text, "north.csv": NORTH, "days.csv": "1440,day\nend\n", **files}.items():
+        folder.write(name.replace("_", "."), bytes_)
+
+
+# The words.
+USAGE = "  flumina fold JOB\n"
+job(RIDES)
+mistake([], 2, "flumina: bad words at 0\n", "  after the last word: the first word is the name of a command\n", USAGE)
+mistake(["flod", "rides.job"], 2, "flumina: bad words at 0\n", "  word 0, flod: the first word is the name of a command\n", USAGE)
+mistake(["fold"], 2, "flumina: bad words at 1\n", "  after the last word: the name of a file is expected here")
+mistake(["fold", "-x"], 2, "flumina: bad words at 1\n", "  word 1, -x: the name of a file is expected here; one that begins with - is written ./-name\n")
+mistake(["fold", "rides.job", "more"], 2, "flumina: bad words at 2\n", "  word 2, more: this word is one too many\n")
+mistake(["plan", "rides.job", "--depth", "7"], 2, "flumina: bad words at 3\n", "  word 3, 7: a depth is a number from 0 to 6\n")
+mistake(["run", "rides.job", "--round", "0"], 2, "flumina: bad words at 3\n", "  word 3, 0: the number of rows in a round is from 1 to 4096\n")
+mistake(["run", "rides.job", "--fast"], 2, "flumina: bad words at 2\n", "  word 2, --fast: there is no such option\n")
+mistake(["run", "rides.job", "--save"], 2, "flumina: bad words at 3\n", "  after the last word: the name of a file is expected here, which is neither JOB nor PLAN\n")
+mistake(["run", "rides.job", "--unflushed"], 2, "flumina: bad words at 2\n", "only right after --save FILE\n")
+mistake(["simulate", "rides.job", "p", "2147483648"], 2, "flumina: bad words at 3\n", "a seed is a number from 0 to 2147483647\n")
+mistake(["demo", "many", "1"], 2, "flumina: bad words at 1\n", "N is a number from 0 to 1000000\n")
+for words in (["--help"], ["-h"], ["help"], ["fold", "--help"], ["run", "-h"], ["--hints", "help"]):
+    status, out, err = folder.call(*words)
+    need(status == 0 and out.startswith(b"Flumina ") and err == b"", f"{words}: {status}, {out[:40]}, {err}")
+
+# The text of the job, and of the plan.
+job(RIDES.replace("cell longest max", "cell rides max"))
+mistake(["fold", "rides.job"], 3, "flumina: job: twice named at 26\n", "  rides.job, line 2, column 6\n", "  rides is named first on line 1; cells, tags and sources share one set of names\n")
+job(RIDES.replace("cell longest max", "cell node max"))
+mistake(["fold", "rides.job"], 3, "flumina: job: unexpected at 26\n", "  that is a reserved word, which cannot be a name\n")
+job(b"\xef\xbb\xbf" + RIDES.encode())
+mistake(["fold", "rides.job"], 3, "flumina: job: bad token at 0\n", "  the text begins with a byte order mark: save it as UTF-8 without one\n")
+job(b"\xff\xfe" + RIDES.encode("utf-16-le"))
+mistake(["fold", "rides.job"], 3, "flumina: job: bad utf8 at 0\n", "  the text is UTF-16: save it as UTF-8\n")
+job("node n0: ride, day\n")
+mistake(["fold", "rides.job"], 3, "flumina: job: unexpected at 0\n", "  this is the text of a plan; the name of the job's comes first\n")
+job(RIDES, plan=RIDES)
+mistake(["run", "rides.job", "plan"], 5, "flumina: plan: unexpected at 0\n", "  this is the text of a job; the name of the plan's comes second\n")
+job(RIDES.replace("ride[1..2]", "ride[1..257]"))
+mistake(["fold", "rides.job"], 3, "flumina: job: over limit itags 257\n", "  each tag of each source counts, with each of its keys: at most 256;")
+
+# The rows.
+for row, reason in {
+    "time,tag,minutes": "the time is not a whole number; a header is no row",
+    "485.5,ride[1],12": "the time has a fraction: write it as a whole number of a smaller unit",
+    "2026-03-02T08:05:00,ride[1],12": "the time is a date: write it as a number, such as seconds since 1970",
+    "485;ride[1];12": "the fields of a row are separated by commas",
+    "485, ride[1],12": "there is a blank beside the tag",
+    "-485,ride[1],12": "the time is below 0",
+    "9223372036854775808,ride[1],12": "the time is above 9223372036854775807",
+    "485,ride[1],12.5": "the last field has a fraction: write it as a whole number of a smaller unit",
+    "485,ride[1],twelve": "the last field is not a whole number",
+    "485,ride[1],12,1": "the row has too many fields",
+    "485,ride[1]": "the fields after the tag are not those of its kind",
+}.items():
+    job(RIDES, north_csv=row + "\nend\n")
+    mistake(["fold", "rides.job"], 6, "flumina: source north row 1: bad row\n", f"  north.csv, line 1\n  {row}\n", reason, FORMS)
+job(RIDES, north_csv=NORTH.replace("end\n", ""))
+mistake(["fold", "rides.job"], 6, "flumina: source north row 4: unclosed\n", "  the last line of a source is: end\n")
+job(RIDES, north_csv=NORTH + "600,ride[1],1\n")
+mistake(["fold", "rides.job"], 6, "flumina: source north row 5: after end\n", "  only blank lines may follow the line: end\n")
+job(RIDES, north_csv=NORTH.replace("ride[2]", "ride[3]"))
+mistake(["fold", "rides.job"], 6, "flumina: source north row 2: unknown tag\n", "  the source north lists ride[1..2]\n")
+job(RIDES, north_csv=NORTH.replace("545", "530"))
+mistake(["fold", "rides.job"], 6, "flumina: source north row 3: disordered, last 530, got 530\n", "an earlier row of this source has the same time")
+job(RIDES, north_csv=NORTH.replace("545", "500"))
+mistake(["fold", "rides.job"], 6, "flumina: source north row 3: disordered, last 530, got 500\n", "  the row is late by 30: slack 31 on the source takes it, unless an earlier row has its time\n")
+job(RIDES.replace('"north.csv":', '"north.csv" slack 31:'), north_csv=NORTH.replace("545", "500"))
+need(folder.call("fold", "rides.job")[0] == 0, "the slack that the hint names takes the row")
+print("mistakes: as it should be")
