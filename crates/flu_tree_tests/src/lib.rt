@@ -1,6 +1,8 @@
-//! Tests of the tree: which jobs are accepted, lots that are parted and joined, and when the tree pays.
+//! Tests of the tree: which jobs are accepted, which nodes may be apart, lots that are parted and joined, and when the tree pays.
 #![tactic(auto)]
 
+#[cfg(test)]
+mod apart;
 #[cfg(test)]
 mod checks;
 #[cfg(test)]

@@ -1,0 +1,6 @@
+pub mod BestLemmas
+pub mod CellLemmas
+pub mod SearchLemmas
+pub mod TableLemmas
+pub mod SortLemmas
+pub mod LawLemmas
