@@ -2,50 +2,21 @@
 
 ghost use Rattle.std.specs.Prelude.{◌<◌, ◌^◌};
 
-use crate::inputs::{Input, files_of, job};
+use crate::draws::{Drawn, Draws, times};
+use crate::inputs::job;
 use crate::runs::Marks;
-use crate::writing::writes;
-use flu_cells::State;
-use flu_draw::{draw_of, next_draw};
-use flu_outside::{MemSink, write_all};
-use flu_parse::read_job;
-use flu_report::report_text;
-use flu_seq::fold;
-use flu_streams::gather;
+use crate::writing::{whole, writes};
 use std::alloc::{AllocError, Global};
 use std::process::Abort;
 use std::sync::Wait;
 use std::test::Fail;
 use std::thread::Threads;
 
-/// The numbers that follow a seed.
-#[derive(Drop)]
-struct Draws {
-    number: u32,
-    ghost small: { number < 2 ^ 31 },
-}
-
-impl Draws {
-    // A number below another one, and 0 if that is 0.
-    fn below(&mut self, most: u32) -> u32 {
-        self.number = next_draw(self.number);
-        draw_of(self.number).checked_rem(most).unwrap_or(0)
-    }
-}
-
 /// The job with drawn slacks, and drawn rows of its sources.
-#[derive(Drop)]
-struct Drawn {
-    job: String,
-    a: String,
-    b: String,
-    c: String,
-}
-
 fn draw_input(alloc: Global, seed: u32) -> Result<Drawn, AllocError>
     requires { seed < 2 ^ 31 }
 {
-    let mut draws = Draws { number: seed };
+    let mut draws = Draws::of(seed);
     let slacks = [draws.below(6), draws.below(6), draws.below(6)];
     let [a, b, c] = slacks;
     Ok(Drawn {
@@ -56,17 +27,12 @@ fn draw_input(alloc: Global, seed: u32) -> Result<Drawn, AllocError>
     })
 }
 
-/// The rows of a source, in stretches each of which goes back in time, no further than the slack allows.
+/// The rows of a source.
 fn rows(alloc: Global, draws: &mut Draws, slack: u32, reads: bool) -> Result<String, AllocError> {
     let mut text = String::new(alloc);
-    let mut time = 0u32;
-    for _ in 0..draws.below(20) {
-        let width = draws.below(slack.max(1)).wrapping_add(1);
-        for later in 0..width {
-            let at = time.wrapping_add(width).wrapping_sub(later);
-            text.push_str(&row(alloc, draws, at, reads)?)?;
-        }
-        time = time.wrapping_add(width).wrapping_add(draws.below(4));
+    let stretches = draws.below(20);
+    for at in times(alloc, draws, stretches, slack)? {
+        text.push_str(&row(alloc, draws, at, reads)?)?;
     }
     text.push_str("end\n")?;
     Ok(text)
@@ -81,32 +47,14 @@ fn row(alloc: Global, draws: &mut Draws, at: u32, reads: bool) -> Result<String,
     }
 }
 
-/// What a run of the sources is to write: the report of the fold of all rows, and that the last round closed.
-fn whole(alloc: Global, input: Input) -> Result<MemSink, Fail> {
-    let p = read_job(alloc, input.job.as_bytes())?;
-    let streams = gather(alloc, &p, &mut files_of(alloc, input)?)?;
-    let (_, outs) = fold(alloc, &p, State::new(alloc), &streams)?;
-    let report = report_text(alloc, &p, outs)?;
-    let mut out = MemSink::with_room(alloc, 3000)?;
-    write_all(&mut out, report.as_str().as_bytes())?;
-    write_all(&mut out, b"closed\n")?;
-    Ok(out)
-}
-
 /// Compares the rounds over the sources that a seed draws with the whole.
 fn compare<R: Abort + Threads + Wait + Sync>(rt: &R, alloc: Global, seed: u32) -> Result<(), Fail>
     requires { seed < 2 ^ 31 }
 {
     let drawn = draw_input(alloc, seed)?;
-    let input = Input {
-        job: drawn.job.as_str(),
-        a: drawn.a.as_str(),
-        b: drawn.b.as_str(),
-        c: drawn.c.as_str(),
-    };
-    let whole = whole(alloc, input)?;
+    let whole = whole(alloc, drawn.input())?;
     for rows in 1..8 {
-        writes(rt, alloc, input, rows, Marks::Last, whole.bytes())?;
+        writes(rt, alloc, drawn.input(), rows, Marks::Last, whole.bytes())?;
     }
     Ok(())
 }

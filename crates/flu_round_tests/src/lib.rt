@@ -9,7 +9,13 @@ mod choices;
 #[cfg(test)]
 mod drawn;
 #[cfg(test)]
+mod drawn_jobs;
+#[cfg(test)]
+mod draws;
+#[cfg(test)]
 mod inputs;
+#[cfg(test)]
+mod pieces;
 #[cfg(test)]
 mod plans;
 #[cfg(test)]

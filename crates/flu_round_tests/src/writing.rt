@@ -7,12 +7,15 @@ ghost use Rattle.flu_deps.specs.Validated.{IsValidFor};
 use crate::inputs::{Input, accepted, files_of, planned};
 use crate::runs::{Marks, resume_on, run_adaptively, run_on, run_on_tree, state_behind};
 use flu_adaptive::Adaptive;
+use flu_cells::State;
 use flu_deps::{Checked, Valid};
 use flu_live::NetEngine;
-use flu_outside::MemSink;
+use flu_outside::{MemSink, write_all};
 use flu_parse::read_job;
+use flu_report::report_text;
 use flu_run::TreeEngine;
-use flu_seq::{FoldEngine, OpenGate};
+use flu_seq::{FoldEngine, OpenGate, fold};
+use flu_streams::gather;
 use std::alloc::Global;
 use std::process::Abort;
 use std::sync::Wait;
@@ -20,10 +23,22 @@ use std::test::Fail;
 use std::thread::Threads;
 
 /// More bytes than any run of these tests writes.
-const ROOM: usize = 3000;
+const ROOM: usize = 65_536;
+
+/// What a run of the sources is to write: the report of the fold of all rows, and that the last round closed.
+pub fn whole(alloc: Global, input: Input) -> Result<MemSink, Fail> {
+    let p = read_job(alloc, input.job.as_bytes())?;
+    let streams = gather(alloc, &p, &mut files_of(alloc, input)?)?;
+    let (_, outs) = fold(alloc, &p, State::new(alloc), &streams)?;
+    let report = report_text(alloc, &p, outs)?;
+    let mut out = MemSink::with_room(alloc, ROOM)?;
+    write_all(&mut out, report.as_str().as_bytes())?;
+    write_all(&mut out, b"closed\n")?;
+    Ok(out)
+}
 
 /// Compares the rounds by the fold.
-fn folds(
+pub fn folds(
     rt: &impl Abort,
     alloc: Global,
     input: Input,
@@ -76,7 +91,7 @@ pub fn resumes(
 }
 
 /// Compares the rounds by the net.
-fn nets(
+pub fn nets(
     rt: &impl Abort,
     alloc: Global,
     checked: &Checked,
@@ -103,7 +118,7 @@ fn nets(
 }
 
 /// Compares the rounds by the tree of threads.
-fn trees<R: Abort + Threads + Wait + Sync>(
+pub fn trees<R: Abort + Threads + Wait + Sync>(
     rt: &R,
     alloc: Global,
     checked: &Checked,
