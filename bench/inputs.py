@@ -1,9 +1,12 @@
 """The inputs of the measurements: jobs, plans and rows, written to the working folder. Jobs that several measurements share are in
 `bench/jobs`, without their sources. Rows are made by gawk, whose `srand` draws the same ones each time."""
 
+import functools
+import hashlib
 import json
 import os
 import random
+import shutil
 import subprocess
 
 JOBS = os.path.join(os.path.dirname(os.path.abspath(__file__)), "jobs")
@@ -12,13 +15,47 @@ JOBS = os.path.join(os.path.dirname(os.path.abspath(__file__)), "jobs")
 part = 1
 
 
+# The folder in which inputs are kept for later calls, if there is one.
+kept = None
+
+
+def made(function):
+    """The files that a call writes are kept, if there is a folder for that, and only linked where they are there already."""
+
+    @functools.wraps(function)
+    def linked(*words, **named):
+        if kept is None:
+            return function(*words, **named)
+        place = os.path.join(kept, f"{function.__name__}_{hashlib.sha1(repr((part, words, named)).encode()).hexdigest()[:12]}")
+        if not os.path.exists(place):
+            here, new = os.getcwd(), place + ".new"
+            shutil.rmtree(new, ignore_errors=True)
+            os.makedirs(new)
+            os.chdir(new)
+            function(*words, **named)
+            os.chdir(here)
+            os.rename(new, place)
+        for name in os.listdir(place):
+            cleared(name)
+            os.link(os.path.join(place, name), name)
+
+    return linked
+
+
+def cleared(name):
+    """The name, under which there is no file now: what is written next changes no file that is kept."""
+    if os.path.lexists(name):
+        os.remove(name)
+    return name
+
+
 def some(rows):
     """This many rows, or their part."""
     return max(rows // part, 1)
 
 
 def write(name, text):
-    with open(name, "w") as it:
+    with open(cleared(name), "w") as it:
         it.write(text)
 
 
@@ -39,13 +76,14 @@ def plans(*names):
 
 def gawk(program, to=None, **values):
     words = ["gawk"] + [word for name, value in values.items() for word in ("-v", f"{name}={value}")]
-    made = subprocess.run([*words, f"BEGIN {{ {program} }}"], check=True, stdout=subprocess.PIPE).stdout
+    rows = subprocess.run([*words, f"BEGIN {{ {program} }}"], check=True, stdout=subprocess.PIPE).stdout
     if to:
-        with open(to, "wb") as it:
-            it.write(made)
-    return made.decode()
+        with open(cleared(to), "wb") as it:
+            it.write(rows)
+    return rows.decode()
 
 
+@made
 def plain(name, rows, quote="", end="\n"):
     """Rows of one source, whose only kind has no actions."""
     gawk(
@@ -60,12 +98,14 @@ def plain(name, rows, quote="", end="\n"):
     job(f"{name}.job", "tag inc int\n", f'a "{name}.csv": inc')
 
 
+@made
 def unclosed(rows):
     """The same rows, whose last field opens a quote that is never closed."""
     gawk('srand(1); for (t = 1; t <= rows; t++) printf "%d,inc,\\"%d\\n", t, int(rand() * 10000); print "end"', "unclosed.csv", rows=some(rows))
     job("unclosed.job", "tag inc int\n", 'a "unclosed.csv": inc')
 
 
+@made
 def three_sources():
     """Counts of two sources that a third one reads: 1,000,000 rows in all."""
     job("counts.job", "count.head", 'a "a.csv": inc', 'b "b.csv": inc', 'c "c.csv": read')
@@ -75,6 +115,7 @@ def three_sources():
     gawk('for (t = 1; t <= rows; t++) print 999 * t ",read"; print "end"', "c.csv", rows=some(1000))
 
 
+@made
 def late_rows():
     """1,000,000 rows that come late by less than 1,000, and the same rows in order."""
     rows = some(1000000)
@@ -87,6 +128,7 @@ def late_rows():
     gawk('for (t = 1; t <= rows; t++) print t ",inc," t % 100; print "end"', "ordered.csv", rows=rows)
 
 
+@made
 def pages():
     """Page views, and updates of zip codes, by two sources, and ticks that print the views: 1,000,000 rows, some 73,000 lines."""
     job("pages.job", "zips.head", 'web "web.csv": view[0..99]', 'app "app.csv": view[0..99], update[0..54]', 'clock "clock.csv": tick')
@@ -103,6 +145,7 @@ def pages():
     )
 
 
+@made
 def page_views(count):
     """1,000,000 views of so many pages, printed 1,000 times."""
     job(f"views{count}.job", "pages.head", f'web "views{count}.csv": view[0..{count - 1}]', 'clock "ticks.csv": tick')
@@ -111,7 +154,8 @@ def page_views(count):
     gawk('for (t = 1; t <= 1000; t++) print 1000 * t ",tick"; print "end"', "ticks.csv")
 
 
-def updates(form):
+@made
+def updates_of_cells(form):
     """300,000 events of 32 actions each on 50 cells: 50 keys of three families, or 50 families."""
     sorts, acts, families = ("sum", "max", "last"), ("add", "raise", "set"), form == "families"
     if families:
@@ -135,6 +179,7 @@ def product(factors, count):
     return " + ".join(["(value" + "".join(f" * {it}" for it in factors) + ")"] * count)
 
 
+@made
 def deep():
     """400,000 events of 32 actions of 19 operators and operands each."""
     actions = [f"add c{j} {product([100 + f + j for f in range(1, 5)], 2)}" for j in range(32)]
@@ -143,6 +188,7 @@ def deep():
     gawk('srand(1); for (t = 1; t <= rows; t++) print t ",u," int(rand() * 10000); print "end"', "deep.csv", rows=some(400000))
 
 
+@made
 def long_text():
     """A job text of about 1,048,576 bytes: 64 kinds of 32 long actions, comments, 4,096 dependencies."""
     text = "".join(f"cell c{i} sum # the cell of kind {i}\n" for i in range(64)) + "".join(f"tag k{i} int\n" for i in range(64))
@@ -156,6 +202,7 @@ def long_text():
     write("s.csv", "end\n")
 
 
+@made
 def many_itags():
     """Four jobs of 256 itags: views and updates; one that no removal separates; a chain of kinds; as many dependencies as may be."""
     job("wide.job", "zips.head", 'web "web.csv" rate 1000: view[0..99]', 'app "app.csv" rate 500: view[0..99], update[0..54]', 'clock "clock.csv" rate 1: tick')
@@ -166,6 +213,7 @@ def many_itags():
     job("crowded.job", kinds + "".join(f"depends k{i} k{j} same\n" for i in range(64) for j in range(64)), *sources)
 
 
+@made
 def many_references(form, version):
     """64 kinds of 32 actions with 28 references each: "own", to a family of the kind's own under its key; "shared", to all families,
     under a fixed key of the kind's; "cells", no two to one cell."""
@@ -187,9 +235,9 @@ def many_references(form, version):
     else:
         sources = [f's{s} "s{s}.csv": ' + ", ".join(f"k{i}" for i in range(64)) for s in range(4)]
     job("references.job", text, *sources)
-    return os.path.getsize("references.job")
 
 
+@made
 def windows():
     """Four sources of two keys each have 1,000,000 samples in all; `barriers` makes the ends of their windows."""
     sources = [f's{s} "s{s}.csv" rate 1000: sample[{2 * s}..{2 * s + 1}]' for s in range(4)]
@@ -200,16 +248,19 @@ def windows():
     plans("windows1", "windows3", "windows7", "windows15")
 
 
+@made
 def barriers(every):
     gawk('for (n = every; n <= rows; n += every) printf "%d,barrier\\n", n; print "end"', "clock.csv", every=every, rows=some(1000000))
 
 
+@made
 def one_source():
     """The samples of the first source of `windows` alone: the others end at once."""
     for s in range(1, 4):
         write(f"s{s}.csv", "end\n")
 
 
+@made
 def fees():
     """Views of four pages from two sources read the page's fee, which an update sets (`updates`): 1,000,000 views."""
     views = [f'{it} "{it}.csv" rate 1000: view[0..3]' for it in ("web", "app")]
@@ -222,11 +273,13 @@ def fees():
     plans("views15")
 
 
+@made
 def updates(every):
     rows = 'for (n = every; n < rows; n += every) printf "%d,update[%d],%d\\n", n, n / every % 4, n % 97; print "end"'
     gawk(rows, "desk.csv", every=every, rows=some(1000000))
 
 
+@made
 def long_actions():
     """100,000 events of 32 long actions each, from four sources, with a barrier after every 10,000. Beside that job, `long.job`, stands
     the same with the actions left out, `read.job`, and each source of either by itself, as `long0.job`."""
@@ -247,6 +300,7 @@ def long_actions():
     plans("long7")
 
 
+@made
 def tops(rows):
     """Views of 20 pages from two sources, printed 100 times."""
     job("tops.job", "tops.head", 'web "web.csv" rate 1000: view[0..9]', 'app "app.csv" rate 1000: view[10..19]', 'clock "clock.csv": tick')
@@ -257,6 +311,7 @@ def tops(rows):
     plans("tops_one", "tops_three")
 
 
+@made
 def totals():
     """A job with families for as many cells as a checkpoint may have; no run comes to so many, so `checkpoint` writes them."""
     acts = "; ".join(f"add total{n}[key] value" for n in range(32))
@@ -266,15 +321,17 @@ def totals():
     write("one.plan", "node one: inc\n")
 
 
-def checkpoint(count, border, job_text):
+@made
+def checkpoint(name, count, border, job_text):
     """A checkpoint of so many cells, as evenly as may be over the families."""
     draw, cells = random.Random(1), []
     for family in range(64):
         keys = count // 64 + (family < count % 64)
         cells += [[f"total{family}", key, str(draw.randrange(-(10**12), 10**12) or 1)] for key in range(keys)]
-    return json.dumps({"border": border, "cells": cells, "job": job_text}, separators=(",", ":"))
+    write(name, json.dumps({"border": border, "cells": cells, "job": job_text}, separators=(",", ":")))
 
 
+@made
 def busy_source(rows):
     """Views of four pages, of which one source has a hundred times the rows of each other; `wrong.job` declares one rate for all."""
     rest = ['app "app.csv" rate 1: view[0..3]', 'desk "desk.csv" rate 1: update[0..3]', 'clock "hours.csv" rate 1: hour']
@@ -304,6 +361,7 @@ def one_leaf(program, events):
         gawk(rows, f"s{key // 3}.csv", place=place, key=key, events=events)
 
 
+@made
 def counts_and_reads(rows):
     """Counts of 23 keys by one source and as many reads by another one."""
     job("counts.job", "counts.head", 'a "a.csv" rate 1000: inc[0..22]', 'c "c.csv" rate 1: read')
@@ -311,6 +369,7 @@ def counts_and_reads(rows):
     gawk('for (n = 1; n <= rows; n++) printf "%d,read\\n", 2 * n + 1; print "end"', "c.csv", rows=rows)
 
 
+@made
 def long_sums(kinds, listed):
     """Kinds of 32 actions, each of which adds a sum of 16 numbers behind 26 signs: about 1 MB for 64 kinds, of which some are listed."""
 
@@ -323,6 +382,7 @@ def long_sums(kinds, listed):
     write("end.csv", "end\n")
 
 
+@made
 def very_late_rows(rows):
     """The jobs of rows in order, in blocks that fall, and in any order within such blocks; a block has the most that a slack allows."""
     block, draw, falling, drawn = 59999, random.Random(1), [], []
@@ -337,6 +397,7 @@ def very_late_rows(rows):
         job(f"{name}.job", "count.head", f'a "{name}.csv" slack 60000: inc', 'b "read.csv": read')
 
 
+@made
 def many_rounds():
     """1,000,000 rows over 250 keys, with a line for each tick; `held` has no rows, and only a checkpoint fills it."""
     text = "cell total keyed sum\ncell held keyed sum\ntag inc keyed int\ntag tick none\ndepends inc tick\ndepends tick tick\n"
@@ -388,6 +449,7 @@ def priced(events):
     write("fifteen.plan", "\n".join(sides) + "\n")
 
 
+@made
 def items(name, rows, paths):
     """Hits of a source, each of one of so many paths, drawn evenly; a tick at the end flushes the sums."""
     gawk(

@@ -3,12 +3,13 @@
 
     bench/measure.py NAME PROGRAM [--runs N] [--part N] [--folder FOLDER] [-- WORD..]
 
-Each NAME is a measurement below, by its section in docs/PERFORMANCE.md. Inputs are made in a fresh folder, or in FOLDER. Commands that
-are compared alternate, N times (5 if not given; 3 for rounds, checkpoints, saves and adapt), and each figure is the minimum: wall time and, in
-brackets, processor time, in seconds; of memory it is the maximum. The reports of commands that are compared have to be the same. The
-words after `--` are put before each command, as `chrt -r 1` on a machine that does other work too, or `taskset -c 0,1` for two processors.
-`--part N` makes an N-th of the rows, to try a measurement. It needs gawk and GNU time; fold also needs rustc, leaf, planning and prices valgrind,
-planning the kit, and lines a C compiler.
+Each NAME is a measurement below, by its section in docs/PERFORMANCE.md. Inputs are made in a fresh folder, or in FOLDER, where they are
+kept, so that a later call measures at once. Commands that are compared alternate, N times (5 if not given; 3 for rounds, checkpoints,
+saves and adapt), and each figure is the minimum: wall time and, in brackets, processor time, in seconds; of memory it is the maximum.
+The reports of commands that are compared have to be the same. The words after `--` are put before each command, as `chrt -r 1` on a
+machine that does other work too, or `taskset -c 0,1` for two processors. `--part N` makes an N-th of the rows, to try a measurement. It
+needs gawk and GNU time; items and fold also need mawk, fold rustc, leaf, planning and prices valgrind, planning the kit, and lines a C
+compiler.
 
 """
 
@@ -101,15 +102,16 @@ def row(*cells, gap=" "):
 
 @measurement("the first table: `fold`, and the same by other programs")
 def fold(bench):
-    table("What", "`fold`", "the same by other programs, C.UTF-8", "in C", "times those in C", "aim")
+    table("What", "`fold`", "the same by other programs, C.UTF-8", "in C", "with mawk", "times those in C", "aim")
 
     def beside(what, job, other, aim, same):
         commands = {"fold": bench.flumina("fold", job)}
         for place, locale in ("utf8", "C.UTF-8"), ("c", "C"):
             commands[place] = f"export LC_ALL={locale}; {other}"
+        commands["mawk"] = f"export LC_ALL=C; {other.replace('gawk', 'mawk')}"
         figures = bench.compare(same=commands if same else (), **commands)
-        own, utf8, c = (figures[it].wall for it in ("fold", "utf8", "c"))
-        row(what, f"{own:.3f}", f"{utf8:.3f}", f"{c:.3f}", f"{own / c:.2f}", aim)
+        own, utf8, c, mawk = (figures[it].wall for it in commands)
+        row(what, f"{own:.3f}", f"{utf8:.3f}", f"{c:.3f}", f"{mawk:.3f}", f"{own / c:.2f}", aim)
         return own
 
     forms = [
@@ -125,7 +127,7 @@ def fold(bench):
         first = first or took
     inputs.unclosed(1000000)
     took = bench.of("fold", "unclosed.job").wall
-    row("the same, with quotes that are never closed", f"{took:.3f}", "", "", f"{took / first:.1f} times the plain rows", 3)
+    row("the same, with quotes that are never closed", f"{took:.3f}", "", "", "", f"{took / first:.1f} times the plain rows", 3)
     inputs.three_sources()
     merged = """sort -m -s -t, -k1,1n a.csv b.csv c.csv | gawk -F, '$2 == "inc" { n += $3 } $2 == "read" { print $1 ",read,count " n; n = 0 }'"""
     beside("three sources, 1,000,000 rows in all", "counts.job", merged, 0.75, same=True)
@@ -134,14 +136,14 @@ def fold(bench):
     figures = bench.compare(same=("fold", "rust"), fold=bench.flumina("fold", "pages.job"), rust=["./pages", "web.csv", "app.csv", "clock.csv"])
     own, rust, lines = figures["fold"].wall, figures["rust"].wall, text("fold.txt").count(b"\n")
     what = f"page views and updates by two sources and a clock, 1,000,000 rows, {lines:,} lines"
-    row(what, f"{own:.3f}", "", f"{rust:.3f}, in Rust", f"{own / rust:.1f}", 1.3)
+    row(what, f"{own:.3f}", "", f"{rust:.3f}, in Rust", "", f"{own / rust:.1f}", 1.3)
     for rows in 4000000, 16000000:
         inputs.plain("many", rows)
         took = bench.of("fold", "many.job").wall
-        row(f"one source of {rows:,} rows, LF", f"{took:.3f}", "", "", f"{took / first:.1f} times {rows // 4:,}", 4.2)
+        row(f"one source of {rows:,} rows, LF", f"{took:.3f}", "", "", "", f"{took / first:.1f} times {rows // 4:,}", 4.2)
         first = took
     inputs.deep()
-    row("400,000 events of 32 actions of 19 operators and operands", f"{bench.of('fold', 'deep.job').wall:.3f}", "", "", "", "")
+    row("400,000 events of 32 actions of 19 operators and operands", f"{bench.of('fold', 'deep.job').wall:.3f}", "", "", "", "", "")
 
 
 @measurement("the second table: long jobs, and jobs of many itags")
@@ -184,27 +186,29 @@ def memory(bench):
 def cells(bench):
     table("`fold` of", "seconds")
     for form in "keys", "families":
-        inputs.updates(form)
+        inputs.updates_of_cells(form)
         row(f"300,000 events of 32 actions on 50 {form}", bench.of("fold", f"updates_{form}.job"))
     for pages in 50, 100:
         inputs.page_views(pages)
         row(f"1,000,000 page views of {pages} pages, printed 1,000 times", bench.of("fold", f"views{pages}.job"))
 
 
-@measurement("sums by item: a web log of 1,000,000 rows over many paths, beside gawk, and what an event costs by the items in use")
+@measurement("sums by item: a web log of 1,000,000 rows over many paths, beside awk, and what an event costs by the items in use")
 def items(bench):
-    table("Paths", "`fold`", "gawk's `n[$3] += $4` in C", "times that", "times 50 paths")
+    table("Paths", "`fold`", "gawk, C.UTF-8", "gawk, C", "mawk", "times gawk in C", "times gawk in C.UTF-8", "times mawk", "times 50 paths")
+    sums = "-F, '{ n[$3] += $4 } END { for (path in n) if (n[path]) print path, n[path] }' web.csv"
     few = None
     for paths in 50, 5000, 50000:
         inputs.items("web", 1000000, paths)
-        sums = """export LC_ALL=C; gawk -F, '$2 == "hit" { n[$3] += $4 } END { for (path in n) if (n[path]) print path, n[path] }' web.csv"""
-        figures = bench.compare(fold=bench.flumina("fold", "web.job"), gawk=sums)
-        own, other = figures["fold"].wall, figures["gawk"].wall
+        commands = {"fold": bench.flumina("fold", "web.job"), "utf8": f"LC_ALL=C.UTF-8 gawk {sums}", "c": f"LC_ALL=C gawk {sums}", "mawk": f"mawk {sums}"}
+        figures = bench.compare(**commands)
         made = sorted(line.split(b",", 2)[2] for line in text("fold.txt").splitlines())
-        if made != sorted(text("gawk.txt").splitlines()):
-            sys.exit("fold and gawk have other sums")
+        for name in "utf8", "c", "mawk":
+            if made != sorted(text(f"{name}.txt").splitlines()):
+                sys.exit(f"fold and {commands[name]} have other sums")
+        own, utf8, c, mawk = (figures[it].wall for it in commands)
         few = few or own
-        row(f"{paths:,}", f"{own:.3f}", f"{other:.3f}", f"{own / other:.2f}", f"{own / few:.2f}")
+        row(f"{paths:,}", *(f"{it:.3f}" for it in (own, utf8, c, mawk)), *(f"{own / it:.2f}" for it in (c, utf8, mawk, few)))
 
 
 @measurement("Late rows, and jobs that keep the check busy")
@@ -221,7 +225,8 @@ def late(bench):
     ):
         took = []
         for version in 1, 2:
-            size = inputs.many_references(form, version)
+            inputs.many_references(form, version)
+            size = os.path.getsize("references.job")
             took.append(f"{bench.of('check', 'references.job').wall:.2f}")
         row(f"{what}, {size // 1000} KB, versions 1 and 2, under `check`", ", ".join(took), "")
 
@@ -310,13 +315,14 @@ def checkpoints(bench):
     start = bench.of(*words).wall
     for count in 100000, 1000000, 4194304:
         count = inputs.some(count)
-        inputs.write("cells.save", inputs.checkpoint(count, 1, job))
+        inputs.checkpoint("cells.save", count, 1, job)
+        inputs.checkpoint("last.save", count, 2**63 - 1, job)
         resume = ("--resume", "cells.save")
         commands = {"read": bench.flumina(*words, *resume), "both": bench.flumina(*words, "--save", "again.save", *resume)}
         if unflushed:
             commands["unflushed"] = bench.flumina(*words, "--save", "again.save", "--unflushed", *resume)
         figures = bench.compare(**commands)
-        if text("again.save") != inputs.checkpoint(count, 2**63 - 1, job).encode():
+        if text("again.save") != text("last.save"):
             sys.exit("what is written again is not what was read")
         size, loads, dumps = os.path.getsize("cells.save") / 2**20, *by_python("cells.save")
         read, written = figures["read"].wall - start, figures["both"].wall - figures["read"].wall
@@ -528,6 +534,8 @@ def main():
     inputs.part = said.part
     program = os.path.abspath(said.program)
     with tempfile.TemporaryDirectory(prefix="flumina-bench-") as folder:
+        if said.folder:
+            inputs.kept = os.path.abspath(os.path.join(said.folder, "made"))
         os.makedirs(said.folder or folder, exist_ok=True)
         os.chdir(said.folder or folder)
         function(Bench(program, before, said.runs or runs))

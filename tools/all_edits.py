@@ -6,7 +6,8 @@ Usage: tools/all_edits.py [CRATE ..]
 The gate tries the edits in crates/NAME/must-fail/ alone, since each costs a check of its crate. Those in crates/NAME/edits/ have the same
 form. This copies the repository to a temporary folder, moves them into must-fail/ there, and runs `rt must-fail` on the crates that are
 named, or on all that have edits. Libraries and kept proofs are copied too, so that nothing is proved twice. It fails if an edit was not
-refused, if one was refused for a name that is gone or by a limit of the prover alone, and if one could not be tried.
+refused, if one was refused for a name that is gone alone, and if one could not be tried. An edit counts as refused too if the prover gave
+up its goal at a limit.
 """
 import re
 import shutil

@@ -1,6 +1,6 @@
 #!/usr/bin/env bash
 # Runs a command of flumina without building it first: tools/try.sh COMMAND WORD.., as in tools/try.sh fold examples/rides/rides.job
-# The kit's `rt try` compiles the program with checks at run time and proves nothing; that takes about a minute on an idle machine with several
+# The kit's `rt try` compiles the program with checks at run time and proves nothing; that takes one to four minutes on a machine with several
 # processors, for each call. Report, refusals and exit status are the program's; 125 means that it did not run, and rt's own lines then say why.
 # It needs `rt` on the path, bash and awk. `rt try` runs the program in a folder of its own: it gets the files that the words and the sources of
 # the job name, looked up from here, and leaves none behind. So --save is refused, and so are names that lead out of this folder by `..` or

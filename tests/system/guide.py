@@ -224,6 +224,24 @@ def late_and_open(page, folder):
         same(out, report if "flumina" in command else "", f"what is written by: {command}")
 
 
+def live(page, folder):
+    """A report that is written while its sources grow. The tails are those of the page; so is the run, but for a pause until it has written."""
+    folder.write(page.code("hits.job"), page.block("cell hits"))
+    rows, start, first = page.block("printf '1000"), page.block("mkfifo"), page.block("59999,tick,")
+    tick, beat, second = page.code("echo 119999,tick >> clock.csv"), page.code("echo 120000,beat >> web.csv"), page.block("119999,tick,")
+    page.block("tail -n +1 -F access.log")
+    beats = page.block("beats()")
+    end, resume = page.block("for file"), page.block("flumina run hits.job")
+    shown = "sleep 2; cat hits.csv; echo --\n"
+    out, err = folder.call(f"set +m\n{rows}{start}{shown}{tick}\n{shown}{beat}\n{shown}{end}cat hits.csv\n")
+    same(out, f"{first}--\n{first}--\n{first}{second}--\n{first}{second}", f"the report while its sources grow\n{err}")
+    again = start.replace("flumina run hits.job --round 1 --save hits.save > hits.csv &\n", "")
+    out, err = folder.call(f"set +m\nrm *.fifo\n{again}(sleep 2; kill $web; sleep 2; kill $clock) &\n{resume}cat hits.csv\n")
+    same(out, first + second, f"the report of a run that is resumed after its end\n{err}")
+    quiet = folder.quiet(f"{beats}(echo row; sleep 6; echo row) | beats | sed 's/^[0-9]*999,beat$/beat/'")
+    same(quiet, "row\nbeat\nrow\n", "a heartbeat between two rows")
+
+
 def instead(page, folder):
     """Windows, minima and means."""
     folder.quiet(page.block("awk 'BEGIN"))
@@ -336,7 +354,7 @@ def refusals(page, folder):
 
 def guide(program):
     page, folder = Page("docs/GUIDE.md"), Folder(program)
-    for part in log_to_report, many_keys, late_and_open, instead, steps_and_counts, go_on, refusals:
+    for part in log_to_report, many_keys, late_and_open, live, instead, steps_and_counts, go_on, refusals:
         part(page, folder)
     page.end()
 

@@ -38,6 +38,26 @@ source b "b.csv" rate 1000: inc
 source c "c.csv" rate 1: read
 """
 COUNTS_PLAN = "node root: read -> l r\nnode l: inc@a\nnode r: inc@b\n"
+PATHS = """version 3
+cell hits keyed sum
+cell most keyed max
+cell seen keyed last
+tag hit item int
+tag move keyed item none
+tag hour none
+depends hit hour
+depends move move
+depends move hit
+depends move hour
+depends hour hour
+on hit: add hits[item] 1; raise most[item] value / 3 - item % 7 when value != 0
+on move: set seen[item] item; clear most when item == key
+on hour: flush hits "{key}: {cell} {most} {seen}"; clear most
+source web "web.csv" rate 1000: hit
+source app "app.csv" rate 100: hit, move[0..2]
+source clock "clock.csv" rate 1: hour
+"""
+PATHS_PLAN = "node root: hour, move -> l r\nnode l: hit@web\nnode r: hit@app\n"
 
 
 class Case:
@@ -129,6 +149,19 @@ def views_files(rng, count=200):
     views, updates = [f"view[{k}]" for k in range(10)], [f"update[{k}]" for k in range(10)]
     return {"job": VIEWS, "web.csv": rows(views, count, rng), "app.csv": rows(views + updates, count, rng),
             "clock.csv": rows(["tick"], count // 20 + 1, rng)}
+
+
+def paths_files(rng, count=60):
+    """Rows with items, and ticks that flush them."""
+    files = {"job": PATHS, "clock.csv": rows(["tick"], count // 10, rng).replace("tick", "hour")}
+    for name, tags in ("web.csv", ["hit"]), ("app.csv", ["hit", "move[0]", "move[2]"]):
+        at, text = 0, []
+        for _ in range(count):
+            at += rng.randint(1, 3)
+            tag, item = rng.choice(tags), rng.choice([0, 1, 2, 63, 64, 5000, 65535])
+            text.append(f"{at},{tag},{item},{rng.randint(-99, 99)}\n" if tag == "hit" else f"{at},{tag},{item}\n")
+        files[name] = "".join(text) + "end\n"
+    return files
 
 
 def mutated(text, rng):
@@ -240,6 +273,9 @@ def texts(table, rng, count):
               [run(Case({**plain, "plan": mutated(COUNTS_PLAN, rng)}), "run", "job", "plan") for _ in range(count)], {0, 5})
     table.row("`valid job plan`, a plan of random bytes",
               [run(Case({**plain, "plan": noise(200)}), "valid", "job", "plan") for _ in range(count)], {5})
+    paths = paths_files(rng)
+    table.row("`check job`, a job of version 3 with some bytes changed",
+              [run(Case({"job": mutated(PATHS, rng)}), "check", "job") for _ in range(count)], {0, 3, 4})
     for command in ("fold", "run"):
         def differ(case):
             answer = run(case, command, "job")
@@ -251,6 +287,9 @@ def texts(table, rng, count):
                   lambda it: it.status == 0 and it.out != run(it.case, "fold", "job").out and "another report than that of fold")
         table.row(f"`{command} job`, a source of random bytes",
                   [differ(Case({**plain, "a.csv": noise(600)})) for _ in range(count)], {6})
+        answers = [differ(Case({**paths, "app.csv": mutated(paths["app.csv"], rng)})) for _ in range(count)]
+        table.row(f"`{command} job`, rows with items and some bytes changed", answers, {0, 6},
+                  lambda it: it.status == 0 and it.out != run(it.case, "fold", "job").out and "another report than that of fold")
         answers = [differ(Case({**views, "app.csv": mutated(views["app.csv"], rng)})) for _ in range(count // 4 + 1)]
         table.row(f"`{command} job`, page views with some bytes changed", answers, {0, 6},
                   lambda it: it.status == 0 and it.out != run(it.case, "fold", "job").out and "another report than that of fold")
@@ -305,6 +344,19 @@ def limits(table, blanks):
     ]:
         for command in ("fold", "run"):
             table.row(f"{title}, under `{command}`", [run(job(plain, {"a.csv": source}), command, "job")], status)
+    every = "".join(f"{n + 1},hit,{n},1\n" for n in range(65536)) + "end\n"
+    for title, source, status in [
+        ("an item of 65,535", "1,hit,65535,1\nend\n", {0}),
+        ("an item of 65,536", "1,hit,65536,1\nend\n", {6}),
+        ("an item of 5,000 digits", f"1,hit,{'0' * 5000},1\nend\n", {6}),
+        ("a row without its item", "1,hit,1\nend\n", {6}),
+        ("a value of -9223372036854775808 under `/` and `%`", "1,hit,6,-9223372036854775808\nend\n", {0}),
+        ("65,536 items in use", every, {0}),
+    ]:
+        case = job(PATHS, {"web.csv": source, "app.csv": "end\n", "clock.csv": "65537,hour\nend\n"})
+        for command in ("fold", "run"):
+            table.row(f"{title}, under `{command}`", [run(case, command, "job")], status,
+                      lambda it: it.status == 0 and it.out != run(case, "fold", "job").out and "another report than that of fold")
     conflict = "".join(f"cell c{n} keyed sum\n" for n in range(64)) + "".join(f"tag k{n} keyed int\n" for n in range(64))
     conflict += "".join(f"depends k{a} k{b}\n" for a in range(64) for b in range(64))
     for k in range(64):

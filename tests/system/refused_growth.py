@@ -24,7 +24,7 @@ import tempfile
 import time
 
 from demo_sources import JOB as VIEWS
-from hostile import COUNTS, COUNTS_PLAN, rows
+from hostile import COUNTS, COUNTS_PLAN, PATHS, PATHS_PLAN, paths_files, rows
 
 SHIM = r"""
 #include <errno.h>
@@ -162,6 +162,8 @@ def stored():
         "reads that are shared": {"job": PRICES, "plan": PRICES_PLAN, "q.csv": "1,quote,10\n5,quote,20\nend\n",
                                   "t1.csv": "2,trade,3\n6,trade,1\nend\n", "t2.csv": "3,trade,4\nend\n", "s.csv": "4,shut\n7,shut\nend\n"},
         "page views": page_views(),
+        "sums by item": {"job": PATHS, "plan": PATHS_PLAN, "web.csv": "1,hit,5,7\n3,hit,65535,-1\n4,hit,5,9\nend\n",
+                         "app.csv": "2,hit,64,30\n5,move[2],64\n7,hit,5,0\nend\n", "clock.csv": "6,hour\n8,hour\nend\n"},
         "quotes, blank lines and CR LF": counted('"1",inc,5\r\n\r\n4,inc,2,\r\nend,,\r\n'),
         "a bad row": counted("1,inc\nend\n"),
         "an unknown tag": counted("1,read\nend\n"),
@@ -193,7 +195,7 @@ def page_views():
 
 
 def larger(count):
-    """Three larger jobs: many rows of two sources that add, views of pages, and a job of many tags."""
+    """Four larger jobs: many rows of two sources that add, views of pages, sums by item, and a job of many tags."""
     rng = random.Random(1)
     views, updates = [f"view[{k}]" for k in range(10)], [f"update[{k}]" for k in range(10)]
     kinds, keys = 8, 32
@@ -204,6 +206,7 @@ def larger(count):
         f"page views, {count} rows": {
             "job": VIEWS, "plan": "node n: view, update, tick\n", "web.csv": rows(views, count, rng),
             "app.csv": rows(views + updates, count, rng), "clock.csv": rows(["tick"], 20, rng)},
+        f"sums by item, {count} rows": {"plan": PATHS_PLAN, **paths_files(rng, count)},
         f"{kinds * keys} tags, {count} rows": {"job": keyed(kinds, keys), "plan": leaves, **many},
     }
 

@@ -6,33 +6,11 @@
 The program's standard error is a terminal of its own, whose other end is read."""
 
 import errno
-import os
-import pty
-import subprocess
 
 from system import Folder, Watch, need, program
 
 program()
 watch = Watch()
-
-
-def at_a_terminal(folder, *words, out=subprocess.DEVNULL, env=None):
-    """The status of a call, and what it writes to the terminal."""
-    near, far = pty.openpty()
-    child = subprocess.Popen([program(), *words], cwd=folder.at, stdin=subprocess.DEVNULL, stdout=out, stderr=far, env=env)
-    os.close(far)
-    told = b""
-    while True:
-        try:
-            more = os.read(near, 65_536)
-        except OSError:
-            break
-        if not more:
-            break
-        told += more
-    os.close(near)
-    return child.wait(), told.decode().replace("\r\n", "\n")
-
 
 folder = Folder()
 STEERING = ["\x1b[31m", "\x07", "\u009b", "\u202e", "\u2066", "\u200b", "\u200f", "\ufeff", "\u2028", "\u061c", "\U000e0041"]
@@ -40,17 +18,17 @@ for steering in STEERING:
     name = f"a{steering}b"
     folder.write(name, "cell count sum\ncell count sum\n")
     for words in (["fold", name], ["check", f"no{name}"], ["valid", "job", name], ["run", "job", name], ["run", "job", "--save", f"nowhere/{name}"]):
-        status, told = at_a_terminal(folder, *words)
+        status, _, told = folder.at_a_terminal(*words)
         need(status in (3, 5, 7, 12), f"{words}: {status}")
         need("b" in told and not any(c in told for c in steering if not c.isascii() or c < " "), f"{words}: {told!r}")
-status, told = at_a_terminal(folder, "fold", "a\x1b[31mb")
+status, _, told = folder.at_a_terminal("fold", "a\x1b[31mb")
 need("  a?[31mb, line 2, column 6\n" in told, f"`?` stands for it: {told!r}")
 
-status, told = at_a_terminal(folder, "run", "job", "--save", "nowhere/save")
+status, _, told = folder.at_a_terminal("run", "job", "--save", "nowhere/save")
 need(status == 12 and told.startswith("flumina: save fault\n  nowhere/save: "), f"why a checkpoint was not put: {told!r}")
-status, told = at_a_terminal(folder, "run", "job", "--save", "./a.csv")
+status, _, told = folder.at_a_terminal("run", "job", "--save", "./a.csv")
 need(told == "flumina: save fault\n  ./a.csv: the run reads or writes that file by another name\n", f"why it was not put: {told!r}")
 with open(folder.path("report"), "wb") as out:
-    status, told = at_a_terminal(folder, "run", "job", "--save", "save", out=out, env=watch.env(fail=[f"fsync:out:{errno.EIO}"]))
+    status, _, told = folder.at_a_terminal("run", "job", "--save", "save", out=out, env=watch.env(fail=[f"fsync:out:{errno.EIO}"]))
 need(status == 12 and told.startswith("flumina: save fault\n  standard output: "), f"what was not flushed: {told!r}")
 print("shown_names: as it should be")

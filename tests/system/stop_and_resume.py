@@ -2,12 +2,13 @@
 """Stops a run of 100,000 rows after each of its rounds in turn, and at random moments from outside, and resumes it from its
 checkpoint: what is written before and after together is the whole report.
 
-    tests/system/stop_and_resume.py PROGRAM [KILLS]
+    tests/system/stop_and_resume.py PROGRAM [KILLS [ROWS]]
 
 A run is stopped after a round by sources that have one row more than the rounds up to it need, and no `end`: its status is 6, and
 it wrote and saved these rounds. It is stopped from outside by SIGKILL, KILLS times (20 if not given), after a random time; then the
 commands of docs/GUIDE.md, "Stopping and going on", are run exactly as written: those that discard what the report has after the
-checkpoint's border, and the one that resumes the run. It ends with status 1 at the first wrong answer, and else prints how often it
+checkpoint's border, and the one that resumes the run. If ROWS is given, the runs that are killed have rounds of as many rows, and leave the
+flushes out; those that resume them have the usual ones. It ends with status 1 at the first wrong answer, and else prints how often it
 stopped and resumed."""
 
 import json
@@ -100,10 +101,12 @@ def behind_each_round(program, folder, made, whole):
     return stops
 
 
-def killed(program, folder, made, whole, times, draw):
+def killed(program, folder, made, whole, times, round_rows, draw):
     write(folder, made)
+    options = ["--round", round_rows] if round_rows else []
+    options += ["--save", "rides.save"] + (["--unflushed"] if round_rows else [])
     began = time.monotonic()
-    run(program, folder)
+    run(program, folder, *options)
     takes = time.monotonic() - began
     path = dict(os.environ, PATH=f"{os.path.dirname(program)}:{os.environ['PATH']}")
     cut, on = told()
@@ -113,7 +116,7 @@ def killed(program, folder, made, whole, times, draw):
         if os.path.exists(f"{folder}/rides.save"):
             os.remove(f"{folder}/rides.save")
         with open(f"{folder}/report.csv", "wb") as out:
-            child = subprocess.Popen([program, "run", "rides.job", "--save", "rides.save"], cwd=folder, stdout=out)
+            child = subprocess.Popen([program, "run", "rides.job", *options], cwd=folder, stdout=out)
             time.sleep(draw.random() * takes)
             child.kill()
             stopped += child.wait() != 0
@@ -129,6 +132,7 @@ def killed(program, folder, made, whole, times, draw):
 def main():
     program = os.path.abspath(sys.argv[1])
     times = int(sys.argv[2]) if len(sys.argv) > 2 else 20
+    round_rows = sys.argv[3] if len(sys.argv) > 3 else None
     draw = random.Random(1)
     with tempfile.TemporaryDirectory() as folder:
         made = rows(draw)
@@ -138,7 +142,7 @@ def main():
         status, whole, line = run(program, folder)
         need(status == 0 and whole, f"status {status} of the whole run: {line}")
         rounds = behind_each_round(program, folder, made, whole)
-        kills, resumed = killed(program, folder, made, whole, times, draw)
+        kills, resumed = killed(program, folder, made, whole, times, round_rows, draw)
         print(f"{len(whole)} bytes of report; stopped after {rounds} rounds, and resumed each time")
         print(f"stopped {kills} of {times} times from outside, and {resumed} times resumed from a checkpoint")
 

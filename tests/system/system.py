@@ -2,6 +2,7 @@
 C library, which writes down calls that reach the system and lets some of them fail."""
 
 import os
+import pty
 import subprocess
 import sys
 import tempfile
@@ -176,6 +177,25 @@ class Folder:
         except subprocess.TimeoutExpired:
             return None, b"", b""
         return done.returncode, done.stdout, done.stderr
+
+    def at_a_terminal(self, *words, out=subprocess.DEVNULL, env=None):
+        """The status of a call whose standard error is a terminal of its own, what it wrote on standard output if that is a pipe, and what the
+        terminal got."""
+        near, far = pty.openpty()
+        with subprocess.Popen([program(), *words], cwd=self.at, stdin=subprocess.DEVNULL, stdout=out, stderr=far, env=env) as child:
+            os.close(far)
+            shown = b""
+            while True:
+                try:
+                    more = os.read(near, 65_536)
+                except OSError:
+                    break
+                if not more:
+                    break
+                shown += more
+            written = child.stdout.read() if child.stdout else b""
+        os.close(near)
+        return child.returncode, written, shown.decode().replace("\r\n", "\n")
 
 
 class Watch:
