@@ -116,6 +116,15 @@ def three_sources():
 
 
 @made
+def side_by_side():
+    """Counts of three sources whose rows take turns, 100,000 each; the third one has a read in place of each hundredth of its own."""
+    job("turns.job", "count.head", 'a "a.csv": inc', 'b "b.csv": inc', 'c "c.csv": inc, read')
+    for name, first in ("a", 1), ("b", 2), ("c", 3):
+        rows = 'for (t = 0; t < rows; t++) print 3 * t + first (reads && t % 100 == 99 ? ",read" : ",inc," t % 1000); print "end"'
+        gawk(rows, f"{name}.csv", first=first, reads=int(name == "c"), rows=some(100000))
+
+
+@made
 def late_rows():
     """1,000,000 rows that come late by less than 1,000, and the same rows in order."""
     rows = some(1000000)

@@ -303,6 +303,22 @@ def rounds(bench):
         row(f"{inputs.some(rows):,}", *[cell for it in figures.values() for cell in (it, f"{it.held // 2**20} MB")])
 
 
+@measurement("Rounds of few rows: what a live report costs")
+def live(bench):
+    """The rows of three files that take turns, so that nothing is waited for: what is measured is the work of the rounds alone."""
+    table("Rows of a round", "rounds", "`run`, 300,000 rows", "rows a second", "microseconds a round", "times `fold`")
+    inputs.side_by_side()
+    sizes = 1, 16, 256, 4096
+    commands = {"fold": bench.flumina("fold", "turns.job")}
+    for size in sizes:
+        commands[f"run{size}"] = bench.flumina("run", "turns.job", "--round", str(size))
+    figures = bench.compare(same=commands, **commands)
+    own, rows = figures["fold"], inputs.some(100000)
+    for size in sizes:
+        it, rounds = figures[f"run{size}"], -(-rows // size)
+        row(f"{size:,}", f"{rounds:,}", it, f"{3 * rows / it.wall:,.0f}", f"{(it.wall - own.wall) / rounds * 1e6:.1f}", f"{it.wall / own.wall:.2f}")
+
+
 @measurement("Checkpoints", runs=3)
 def checkpoints(bench):
     inputs.totals()
