@@ -33,19 +33,19 @@ def plans():
     return {"slow": (slow, "sample,1"), "often": (often, "sample,2"), "quiet": (quiet, "beat")}
 
 
-def feed(folder, name, times, row, began, written):
+def feed(folder, name, times, row, began, due):
     with open(f"{folder}/{name}.fifo", "w", buffering=1) as pipe:
         for at in times:
             time.sleep(max(0.0, began + at / 1000 - time.monotonic()))
             pipe.write(f"{at},{row}\n")
-            written.append((at, time.monotonic()))
+            due.append((at, began + at / 1000))
         pipe.write("end\n")
-        written.append((2**63, time.monotonic()))
+        due.append((2**63, began + max(times) / 1000))
 
 
-def passed(written, at):
-    """When a source had a row at a time or later."""
-    return next(moment for time_, moment in written if time_ >= at)
+def passed(due, at):
+    """When a source was to have a row at a time or later: it has one then, unless the run lets the pipe wait."""
+    return next(moment for time_, moment in due if time_ >= at)
 
 
 def lateness(program, rows):
