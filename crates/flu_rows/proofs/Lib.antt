@@ -6,3 +6,5 @@ pub mod FieldCuts
 pub mod Alike
 pub mod Runs
 pub mod StepLemmas
+pub mod Cuts
+pub mod UsualRows

@@ -6,4 +6,5 @@ pub mod Reading
 pub mod LoopRuns
 pub mod LoopNames
 pub mod LoopFields
+pub mod LoopCuts
 pub mod LoopSteps

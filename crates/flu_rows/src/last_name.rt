@@ -33,7 +33,8 @@ impl LastName {
     }
 
     /// The name at the front of a tag, if there is one, and what comes after it.
-    #[tactic(auto, using(crate::proofs::NameBytes::at_front_name, crate::proofs::NameBytes::name_bytes, crate::proofs::NameBytes::ascii_name))]
+    #[inline(always)]
+    #[tactic(auto, using(crate::proofs::NameBytes::at_front_name))]
     pub(crate) fn name_at_front<'a>(&mut self, tag: &'a [u8]) -> Option<(ShortName, &'a [u8])>
         ensures { option_map (λ n. (n.0, n.1.now)) result ≡ name_at_front tag.now }
     {
@@ -42,6 +43,15 @@ impl LastName {
                 return Some((name.copy(), rest));
             }
         }
+        self.other_name(tag)
+    }
+
+    // The same where it may be any name, which is tested.
+    #[inline(never)]
+    #[tactic(auto, using(crate::proofs::NameBytes::name_bytes, crate::proofs::NameBytes::ascii_name))]
+    fn other_name<'a>(&mut self, tag: &'a [u8]) -> Option<(ShortName, &'a [u8])>
+        ensures { option_map (λ n. (n.0, n.1.now)) result ≡ name_at_front tag.now }
+    {
         let (name, rest) = tag.split_at(name_len(tag));
         if !are_name(name) {
             return None;
@@ -53,6 +63,7 @@ impl LastName {
 }
 
 // What comes after a name at the front of a tag, if the name ends there.
+#[inline(always)]
 fn rest_of<'a>(tag: &'a [u8], name: &[u8]) -> Option<&'a [u8]>
     ensures { IfSome result (λ rest. StartsWithName tag.now name.now rest.now) }
 {

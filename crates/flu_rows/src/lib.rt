@@ -1,6 +1,7 @@
 //! The rows of a source's file, one after another (`docs/LANGUAGE.md`, "Rows").
 #![tactic(auto)]
 
+mod cutting;
 mod fields;
 mod front;
 mod last_name;
