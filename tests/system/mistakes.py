@@ -29,19 +29,26 @@ program()
 folder = Folder()
 
 
-def mistake(words, status, line, *hints):
-    """Makes a call in each way; each of the hints has to occur in what follows the line."""
+def mistake(words, status, line, *hints, out=b""):
+    """Makes a call in each way; each of the hints has to occur in what follows the line. Returns the whole hint."""
     plain = folder.call(*words)
-    need(plain == (status, b"", line.encode()), f"{words}: {plain}")
+    need(plain == (status, out, line.encode()), f"{words}: {plain}")
     asked = folder.call("--hints", *words)
     shown = asked[2].decode()
-    need(asked[:2] == (status, b"") and shown.startswith(line), f"--hints {words}: {asked}")
+    need(asked[:2] == (status, out) and shown.startswith(line), f"--hints {words}: {asked}")
     for hint in hints:
         need(hint in shown[len(line):], f"{words}: {hint!r} is not in {shown!r}")
     by_environment = folder.call(*words, env={**os.environ, "FLUMINA_HINTS": "1"})
     need(by_environment == asked, f"FLUMINA_HINTS=1 {words}: {by_environment}")
-    need(folder.at_a_terminal(*words, out=subprocess.PIPE) == (status, b"", shown), f"{words} at a terminal")
-    need(folder.at_a_terminal("--no-hints", *words, out=subprocess.PIPE) == (status, b"", line), f"--no-hints {words}")
+    need(folder.at_a_terminal(*words, out=subprocess.PIPE) == (status, out, shown), f"{words} at a terminal")
+    need(folder.at_a_terminal("--no-hints", *words, out=subprocess.PIPE) == (status, out, line), f"--no-hints {words}")
+    return shown[len(line):]
+
+
+def remark(words, *hints):
+    """The same of a call that is not refused, whose hint consists of these lines and no others."""
+    shown = mistake(words, 0, "", out=folder.call(*words)[1])
+    need(shown == "".join(hints), f"{words}: {shown!r} is not {''.join(hints)!r}")
 
 
 def job(text, **files):
@@ -113,4 +120,44 @@ job(RIDES, north_csv=NORTH.replace("545", "500"))
 mistake(["fold", "rides.job"], 6, "flumina: source north row 3: disordered, last 530, got 500\n", "  the row is late by 30: slack 31 on the source takes it, unless an earlier row has its time\n")
 job(RIDES.replace('"north.csv":', '"north.csv" slack 31:'), north_csv=NORTH.replace("545", "500"))
 need(folder.call("fold", "rides.job")[0] == 0, "the slack that the hint names takes the row")
+# The dependencies: one that is missing, all that are missing, and one at equal keys.
+job(RIDES.replace("depends ride day\n", ""))
+DEPENDS = "  to make these two dependent: depends ride day\n"
+shown = mistake(["check", "rides.job"], 4, "flumina: conflict: ride[1] and day on rides[1]\n", "  rides.job, line 3\n  tag ride keyed int\n", DEPENDS)
+need(shown.endswith(DEPENDS), f"one conflict: {shown!r}")
+job(RIDES.replace("depends ride day\n", "").replace("depends day day\n", ""))
+for words in (["check", "rides.job"], ["plan", "rides.job"], ["run", "rides.job"]):
+    shown = mistake(words, 4, "flumina: conflict: ride[1] and day on rides[1]\n", DEPENDS, "  the job lacks 2 lines, one for each two kinds that conflict:\n")
+    need("  depends ride day  # ride[1] and day on rides[1]\n" in shown and "  depends day day  # day and day on rides[" in shown, f"all conflicts: {shown!r}")
+lacking = "".join(it + "\n" for it in shown.splitlines() if it.startswith("  depends "))
+folder.write("mended.job", folder.read("rides.job").decode() + lacking)
+need(folder.call("check", "mended.job")[0] == 0, f"the lines that the hint shows are enough: {lacking!r}")
+SETS = """cell state keyed last
+tag gate keyed int
+tag day none
+depends gate day
+depends day day
+on gate: set state[key] value
+on day: flush state "{key} {cell}"
+source gates "gates.csv": gate[1..2]
+source clock "days.csv": day
+"""
+job(SETS, gates_csv="end\n")
+mistake(["check", "rides.job"], 4, "flumina: conflict: gate[1] and gate[1] on state[1]\n", "  to make these two dependent: depends gate gate same\n")
+job(SETS.replace("set state[key]", "set state[1]"), gates_csv="end\n")
+mistake(["check", "rides.job"], 4, "flumina: conflict: gate[1] and gate[1] on state[1]\n", "  to make these two dependent: depends gate gate\n")
+
+# What a job declares and does not use, and what is not there.
+job(RIDES)
+remark(["check", "rides.job"])
+job(RIDES.replace("tag day none", "cell extra sum\ntag other int\ntag day none").replace("raise longest value", "raise longest value; add extra 1"))
+UNUSED = ["  no source lists other: no event is of that kind\n", "  the cell extra is never read: no expression, text or flush names it\n"]
+remark(["check", "rides.job"], *UNUSED)
+os.remove(folder.path("north.csv"))
+ABSENT = "  north.csv, the file of source north: No such file or directory (os error 2)\n"
+remark(["check", "rides.job"], *UNUSED, ABSENT)
+folder.write("rides.job", RIDES.replace("depends ride day\n", ""))
+mistake(["check", "rides.job"], 4, "flumina: conflict: ride[1] and day on rides[1]\n", DEPENDS, ABSENT)
+folder.write("empty.job", "")
+remark(["check", "empty.job"], "  the job has no source: it reads nothing and writes nothing\n")
 print("mistakes: as it should be")

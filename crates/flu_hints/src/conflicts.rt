@@ -1,12 +1,17 @@
-//! The declarations of two tags that conflict, and the one that makes them dependent.
+//! The declarations of two tags that conflict, and the `depends` lines that a job lacks.
 
-use crate::hints::text_of;
+use crate::hints::{program_of, text_of};
+use crate::missing::{Missing, missing_of};
 use crate::places::push_line;
-use std::alloc::AllocError;
+use flu_model::{Cell, Program, tag_text};
+use std::alloc::{AllocError, Global};
 use std::{rt, str};
 
+/// The most `depends` lines that are shown.
+const MOST_SHOWN: usize = 64;
+
 /// Where the kinds of the two tags in an answer's line such as `flumina: conflict: ride[1] and day on rides[1]` are declared, and the
-/// `depends` that makes the two dependent.
+/// `depends` that makes the two dependent; and, if the job has conflicts of other kinds too, all lines that it lacks.
 pub fn conflict_hint<R: rt::Files + AllocGlobal>(
     rt: &R,
     name: Option<&String>,
@@ -18,19 +23,104 @@ pub fn conflict_hint<R: rt::Files + AllocGlobal>(
     };
     let (kind, key) = kind_and_key(a);
     let (other, other_key) = kind_and_key(b);
+    let mut is_same = key.is_some() && key == other_key;
+    let mut lines = String::new(rt.alloc());
     if let Some(name) = name {
         push_declarations(rt, &mut told, name.as_str(), kind, other)?;
+        if let Some(program) = program_of(rt, name.as_str()) {
+            let missing = missing_of(rt.alloc(), &program)?;
+            if let Some(first) = named(&program, missing.as_slice(), kind, other) {
+                is_same = first.same;
+            }
+            push_missing(rt.alloc(), &mut lines, &program, missing.as_slice())?;
+        }
     }
-    let same = if key.is_some() && key == other_key {
-        " same"
-    } else {
-        ""
-    };
+    let same = if is_same { " same" } else { "" };
     let depends = format!(in rt.alloc();
         "  to make these two dependent: depends {kind} {other}{same}\n"
     )?;
     told.push_str(depends.as_str())?;
+    told.push_str(lines.as_str())?;
     Ok(told)
+}
+
+// The two kinds with these names, in either order, if the job lacks their `depends`.
+fn named<'m>(
+    program: &Program,
+    missing: &'m [Missing],
+    kind: &str,
+    other: &str,
+) -> Option<&'m Missing> {
+    for known in missing {
+        let first = kind_name(program, known.a.kind);
+        let second = kind_name(program, known.b.kind);
+        if first == kind && second == other || first == other && second == kind {
+            return Some(known);
+        }
+    }
+    None
+}
+
+// Appends all lines that a job lacks, each with a comment that says why, if it lacks more than one.
+fn push_missing(
+    alloc: Global,
+    told: &mut String,
+    program: &Program,
+    missing: &[Missing],
+) -> Result<(), AllocError> {
+    let count = missing.len();
+    if count < 2 {
+        return Ok(());
+    }
+    let head = format!(in alloc;
+        "the job lacks {count} lines, one for each two kinds that conflict:"
+    )?;
+    push_line(told, head.as_str())?;
+    for known in missing.iter().take(MOST_SHOWN) {
+        push_depends(alloc, told, program, known)?;
+    }
+    if count > MOST_SHOWN {
+        push_line(told, "and more, which are shown once these are there")?;
+    }
+    Ok(())
+}
+
+// Appends the line that two kinds lack.
+fn push_depends(
+    alloc: Global,
+    told: &mut String,
+    program: &Program,
+    known: &Missing,
+) -> Result<(), AllocError> {
+    let kind = kind_name(program, known.a.kind);
+    let other = kind_name(program, known.b.kind);
+    let same = if known.same { " same" } else { "" };
+    let a = tag_text(alloc, program, known.a)?;
+    let b = tag_text(alloc, program, known.b)?;
+    let cell = cell_text(alloc, program, known.cell)?;
+    let (a, b, cell) = (a.as_str(), b.as_str(), cell.as_str());
+    let line = format!(in alloc; "depends {kind} {other}{same}  # {a} and {b} on {cell}")?;
+    push_line(told, line.as_str())
+}
+
+fn kind_name(program: &Program, kind: u32) -> &str {
+    match program.kinds.items().get(kind as usize) {
+        Some(kind) => kind.name.as_str(),
+        None => "",
+    }
+}
+
+fn cell_text(alloc: Global, program: &Program, cell: Cell) -> Result<String, AllocError> {
+    let Some(family) = program.families.items().get(cell.family as usize) else {
+        return Ok(String::new(alloc));
+    };
+    let name = family.name.as_str();
+    if family.keyed {
+        let key = cell.key;
+        format!(in alloc; "{name}[{key}]")
+    } else {
+        String::from_str(alloc, name)
+    }
 }
 
 // Appends the lines that declare two kinds to a text, one line if they are one kind.
@@ -51,8 +141,8 @@ fn push_declarations<R: rt::Files + AllocGlobal>(
     for line in text.lines() {
         number = number.saturating_add(1);
         if declares(line, kind) || declares(line, other) {
-            let place = format!(in rt.alloc(); "  {name}, line {number}\n")?;
-            told.push_str(place.as_str())?;
+            let place = format!(in rt.alloc(); "{name}, line {number}")?;
+            push_line(told, place.as_str())?;
             push_line(told, line)?;
         }
     }

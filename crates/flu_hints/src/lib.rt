@@ -5,6 +5,7 @@ mod conflicts;
 mod hints;
 mod jobs;
 mod limits;
+mod missing;
 mod places;
 mod plans;
 mod reasons;
@@ -12,6 +13,7 @@ mod row_reasons;
 mod rows;
 mod texts;
 mod traces;
+mod unused;
 mod words;
 
 pub use hints::hint;

@@ -1,10 +1,9 @@
 //! The row of a source's defect, and the forms that rows have.
 
-use crate::hints::text_of;
+use crate::hints::{program_of, text_of};
 use crate::places::{push_line, short_text};
 use crate::row_reasons::push_reason;
 use flu_model::{Program, Source};
-use flu_parse::read_job;
 use std::alloc::AllocError;
 use std::rt;
 
@@ -47,12 +46,6 @@ fn row_of(line: &str) -> Option<(&str, u64)> {
     let (row, _) = behind.split_once(": ")?;
     let row = row.parse::<u64>().ok()?;
     Some((source, row))
-}
-
-// The job in a file, if it can be read again.
-fn program_of<R: rt::Files + AllocGlobal>(rt: &R, job: &str) -> Option<Program> {
-    let bytes = text_of(rt, job)?;
-    read_job(rt.alloc(), bytes.as_slice()).ok()
 }
 
 // The source of a job that has a name.
