@@ -1,3 +1,4 @@
 pub mod Events
 pub mod Growing
 pub mod Rates
+pub mod SharedJobs

@@ -13,6 +13,7 @@ ghost use Rattle.flu_streams.specs.Counts.{grown, no_counts};
 ghost use Rattle.flu_adaptive.specs.Observed.{IsObservedPlan};
 ghost use Rattle.flu_adaptive.specs.Ways.{IsWayOf};
 
+use crate::beside::{Given, in_way_beside};
 use crate::choosing::Chooser;
 use crate::counting::{count_events, counts_of, no_counts};
 use crate::observing::observed_plan;
@@ -196,14 +197,27 @@ impl<'a, G: Gate, R: Threads + Wait + Sync, B: Engine<R> + Drop> Adaptive<'a, G,
         ensures stays { self.old.adapts ≡ false → self.new ≡ self.old }
     {
         let ran = self.run(rt, alloc, opening, s)?;
+        self.follow(alloc, s)?;
+        Ok(ran)
+    }
+
+    // Counts the events of a batch that was run, and makes the plan anew by the counts, if the engine adapts.
+    fn follow(&mut self, alloc: Global, s: &Streams) -> Result<(), AllocError>
+        requires { length (listed s.now) ≡ count_of_itags (program_of self.old.checked) }
+        ensures same { self.new.checked ≡ self.old.checked }
+        ensures adapts { self.new.adapts ≡ self.old.adapts }
+        ensures counts { OnOk result (IsTrue self.old.adapts → self.new.counts ≡ grown self.old.counts (listed s.now)) }
+        ensures observed { OnOk result (IsTrue self.old.adapts → IsObservedPlan (program_of self.old.checked) self.new.counts (plan_of self.new.valid).nodes) }
+        ensures stays { self.old.adapts ≡ false → self.new ≡ self.old }
+    {
         if !self.adapts {
-            return Ok(ran);
+            return Ok(());
         }
         count_events(self.checked.program(), &mut self.counts, s);
         let anew = observed_plan(alloc, self.checked, self.counts.as_slice())?;
         self.tables = None;
         self.valid = anew;
-        Ok(ran)
+        Ok(())
     }
 
     // Runs all events of the streams in the way that is chosen for them.
@@ -268,5 +282,90 @@ impl<'a, G: Gate, R: Threads + Wait + Sync, B: Engine<R> + Drop> Adaptive<'a, G,
                 chooser.last = Some(planned);
             }
         }
+    }
+}
+
+impl<'a, G: Gate, R: Threads + Wait + Sync, B: Engine<R> + Drop + Send> Adaptive<'a, G, R, B> {
+    /// The same as [`Adaptive::batch`], in a thread of its own, while `meanwhile` is called once on the calling thread. If the thread is
+    /// refused, the batch is run on the calling thread after that.
+    ///
+    /// # Errors
+    ///
+    /// Only if memory runs out. `meanwhile` was called nevertheless.
+    pub fn batch_beside<T, M: FnMut() -> T>(
+        &mut self,
+        rt: &R,
+        alloc: Global,
+        opening: State,
+        s: &Streams,
+        meanwhile: &mut M,
+    ) -> (Result<(State, Outs), AllocError>, T)
+        requires lists { length (listed s.now) ≡ count_of_itags (program_of self.old.checked) }
+        requires sorts { IsStateOf (program_of self.old.checked).families (held opening) }
+        requires meanwhile { M.pre meanwhile.old }
+        ensures state { IfOk result.0 (λ r. held r.0 ≡ final_state (program_of self.old.checked) (held opening) (listed s.now)) }
+        ensures sorts { IfOk result.0 (λ r. IsStateOf (program_of self.old.checked).families (held r.0)) }
+        ensures outputs { IfOk result.0 (λ r. IsPermutation (final_outputs (program_of self.old.checked) (held opening) (listed s.now)) r.1) }
+        ensures same { self.new.checked ≡ self.old.checked }
+        ensures adapts { self.new.adapts ≡ self.old.adapts }
+        ensures counts { OnOk result.0 (IsTrue self.old.adapts → self.new.counts ≡ grown self.old.counts (listed s.now)) }
+        ensures observed { OnOk result.0 (IsTrue self.old.adapts → IsObservedPlan (program_of self.old.checked) self.new.counts (plan_of self.new.valid).nodes) }
+        ensures stays { self.old.adapts ≡ false → self.new ≡ self.old }
+        ensures meanwhile { M.step meanwhile.old result.1 meanwhile.new }
+    {
+        let (ran, told) = self.run_beside(rt, alloc, opening, s, meanwhile);
+        let ran = match ran {
+            Ok(ran) => ran,
+            Err(e) => return (Err(e), told),
+        };
+        match self.follow(alloc, s) {
+            Ok(()) => (Ok(ran), told),
+            Err(e) => (Err(e), told),
+        }
+    }
+
+    // Runs all events of the streams in the way that is chosen for them, in a thread of its own.
+    fn run_beside<T, M: FnMut() -> T>(
+        &mut self,
+        rt: &R,
+        alloc: Global,
+        opening: State,
+        s: &Streams,
+        meanwhile: &mut M,
+    ) -> (Result<(State, Outs), AllocError>, T)
+        requires lists { length (listed s.now) ≡ count_of_itags (program_of self.old.checked) }
+        requires sorts { IsStateOf (program_of self.old.checked).families (held opening) }
+        requires meanwhile { M.pre meanwhile.old }
+        ensures state { IfOk result.0 (λ r. held r.0 ≡ final_state (program_of self.old.checked) (held opening) (listed s.now)) }
+        ensures sorts { IfOk result.0 (λ r. IsStateOf (program_of self.old.checked).families (held r.0)) }
+        ensures outputs { IfOk result.0 (λ r. IsPermutation (final_outputs (program_of self.old.checked) (held opening) (listed s.now)) r.1) }
+        ensures same { self.new ≡ self.old }
+        ensures meanwhile { M.step meanwhile.old result.1 meanwhile.new }
+    {
+        let way = match self.way(alloc, s) {
+            Ok(way) => way,
+            Err(e) => return (Err(e), meanwhile()),
+        };
+        let given = Given {
+            tables: self.tables.take(),
+            way,
+            backup: self.backup.take().unwrap(),
+            opening,
+        };
+        let (gives, told) = in_way_beside(
+            rt,
+            alloc,
+            self.checked,
+            &self.valid,
+            given,
+            self.gate,
+            s,
+            meanwhile,
+        );
+        let (ran, backup, tables, way) = gives;
+        self.backup = Some(backup);
+        self.tables = tables;
+        self.take_back(way);
+        (ran, told)
     }
 }

@@ -2,8 +2,10 @@
 #![tactic(auto)]
 
 mod adaptive;
+mod beside;
 mod choosing;
 mod counting;
+mod crossing;
 mod observing;
 mod ways;
 

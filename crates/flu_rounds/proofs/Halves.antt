@@ -12,10 +12,10 @@ use Rattle.flu_outside.specs.Outside.{Contents as Files, WhereTold}
 use Rattle.flu_outside.specs.Writing.{AppendsAll, AppendsPart}
 use Rattle.flu_rows.specs.declared.rows.Next.{Next}
 use Rattle.flu_streams.specs.declared.border.Border.{Border}
-use Rattle.flu_streams.specs.Holding.{Holding, AreHeldBehind, AreInAll, Fills, KeepsJob, Cuts}
+use Rattle.flu_streams.specs.Holding.{Holding, AreInAll, Fills, Cuts, border_after}
 use Rattle.flu_streams.specs.Rounds.{IsRound, lists_between}
 use Rattle.flu_rounds.specs.Standing.{Standing, round_lists, round_report}
-use Rattle.flu_rounds.specs.Halves.{Begins, LawOfHalves, LawOfHalf}
+use Rattle.flu_rounds.specs.Halves.{LawOfParts, LawOfHalves, LawOfHalf}
 
 -- ---- the first half: a refill and a cut
 -- what a refill read is what the cut leaves read
@@ -31,19 +31,22 @@ fills_cut old mid new left left' end before fills cuts =
     × AreInAll new fills.now is whole)
     left left' (λ was is f whole all. let k = f whole all in (k.0, cuts.still' fills.now whole is k.1)) fills.round
 
-pub begins : (inside old : Standing) (p : Program) (left left' : Option Files) (end : Border) (mid new : Holding) (opening : State) (rows : List (List Item))
-    → inside ≡ old → old.held.program ≡ p → opening ≡ inside.state → KeepsJob inside.held mid
-    → ((before : ℕ → List Next) → AreHeldBehind inside.held before → Fills inside.held mid left left' end before) → Cuts mid new end
-    → ((lines : ℕ → List Next) → AreHeldBehind mid lines → rows ≡ lists_between p mid.border end lines)
-    → Begins old new left left' end opening rows
-begins inside old p left left' end mid new opening rows same job was keeps filled cuts lists =
-    subst (λ (s : Standing). Begins s new left left' end opening rows) same (record {
-      state = ap held was;
-      filled = λ before behind. let fills = filled before behind in (
-        record { now = fills.now; behind = cuts.behind fills.now fills.behind; round = fills_cut inside.held mid new left left' end before fills cuts },
-        lists fills.now fills.behind ∙ (λ i. lists_between (sym (ap (λ (s : Standing). s.held.program) same ∙ job) i) (keeps.border i) end fills.now),
-      );
-    })
+pub law_of_parts : LawOfParts
+law_of_parts p old mid new left left' end opening rows job was keeps filled cuts lists = (
+  record {
+    state = was;
+    filled = λ before behind. let fills = filled before behind in (
+      record { now = fills.now; behind = cuts.behind fills.now fills.behind; round = fills_cut old.held mid new left left' end before fills cuts },
+      lists fills.now fills.behind ∙ (λ i. lists_between (sym job i) (keeps.border i) end fills.now),
+    );
+  },
+  record {
+    program = cuts.program ∙ keeps.program;
+    rows = cuts.rows ∙ keeps.rows;
+    border = cuts.border ∙ ap (border_after end) keeps.border;
+    stage = cuts.stage;
+  },
+)
 
 -- ---- both halves
 text_is : (p : Program) (old : Standing) (end : Border) (opening : State) (rows : List (List Item)) (now : ℕ → List Next) → p ≡ old.held.program

@@ -12,14 +12,25 @@ use Rattle.flu_outside.specs.Outside.{Contents as Files, WhereTold}
 use Rattle.flu_outside.specs.Writing.{AppendsAll, AppendsPart}
 use Rattle.flu_rows.specs.declared.rows.Next.{Next}
 use Rattle.flu_streams.specs.declared.border.Border.{Border}
-use Rattle.flu_streams.specs.Holding.{Holding, AreHeldBehind, Fills}
-use Rattle.flu_rounds.specs.Standing.{Standing, Runs, IsRoundOf, round_lists, round_report}
+use Rattle.flu_streams.specs.Holding.{Holding, AreHeldBehind, Fills, KeepsJob, Cuts}
+use Rattle.flu_streams.specs.Rounds.{lists_between}
+use Rattle.flu_rounds.specs.Standing.{Standing, Runs, IsRoundOf, StandsBehind, round_lists, round_report}
 
 -- THE FIRST HALF: the sources were filled for the round, and the state before it and its rows were handed out
 pub record Begins (old : Standing) (new : Holding) (left left' : Option Files) (end : Border) (opening : State) (rows : List (List Item)) : Type 0 where
   pub state : held opening ≡ held old.state
   pub filled : (before : ℕ → List Next) → AreHeldBehind old.held before
       → (fills : Fills old.held new left left' end before) × (rows ≡ round_lists old end fills.now)
+
+-- LAW OF PARTS: the first half in two parts. What is held was filled for the round, from a standing, and its rows were cut out; and the
+-- opening is the state of that standing, whether it was known when the sources were filled or not.
+abbrev pub LawOfParts : Type 0
+LawOfParts =
+    (p : Program) (old : Standing) (mid new : Holding) (left left' : Option Files) (end : Border) (opening : State) (rows : List (List Item))
+    → old.held.program ≡ p → held opening ≡ held old.state → KeepsJob old.held mid
+    → ((before : ℕ → List Next) → AreHeldBehind old.held before → Fills old.held mid left left' end before) → Cuts mid new end
+    → ((lines : ℕ → List Next) → AreHeldBehind mid lines → rows ≡ lists_between p mid.border end lines)
+    → Begins old new left left' end opening rows × StandsBehind old.held new end
 
 -- BETWEEN THEM: the state and the outputs of the fold of the rows, the outputs in some order
 pub record AreRun (p : Program) (opening : State) (rows : List (List Item)) (state : State) (outs : List Out) : Type 0 where

@@ -7,7 +7,7 @@ ghost use Rattle.flu_rounds.specs.Coming.{LawOfBeginningFrom, LawOfGoingOnFrom, 
 ghost use Rattle.flu_rounds.specs.Coming.{LawOfTextAndState, LawOfNextTextAndState, LawOfNextState, LawOfDefectAndState};
 ghost use Rattle.flu_rounds.specs.Coming.{LawOfOtherNames, LawOfReportFronts, LawOfNextReportFronts};
 ghost use Rattle.flu_rounds.specs.Counting.{LawOfFirstCounts, LawOfNextCounts, LawOfLastCounts};
-ghost use Rattle.flu_rounds.specs.Halves.{LawOfHalves, LawOfHalf};
+ghost use Rattle.flu_rounds.specs.Halves.{LawOfParts, LawOfHalves, LawOfHalf};
 
 use flu_streams::{
     last_round_has_all_rows, last_round_has_later_rows, rounds_are_counted_in_turn,
@@ -81,6 +81,12 @@ pub fn runs_count_their_events()
 pub fn halves_make_a_round()
     ensures round { LawOfHalves }
     ensures part { LawOfHalf }
+{}
+
+/// What was filled for a round and then handed out makes the first half of that round, from any standing with what was held before
+/// and the state that was handed out.
+pub fn parts_make_a_half()
+    ensures { LawOfParts }
 {}
 
 /// How far a run has come is not affected if, between two rounds, names change that are no source's file.

@@ -13,6 +13,8 @@ ghost use Rattle.flu_streams.specs.declared.border.Border.{Border};
 ghost use Rattle.flu_streams.specs.declared.held.Stage.{Stage};
 ghost use Rattle.flu_streams.specs.Files.{files_of, LeavesOthers, CountsOfNames, OneRose};
 ghost use Rattle.flu_streams.specs.Holding.{AreHeldBehind, ClosedAreReadOut, AreClosed, IsNewBorder, HidesNoRoundFault, HoldsFew, HoldsAtMost, HaveAtMost};
+ghost use Rattle.flu_streams.specs.Holding.{Fills, KeepsJob, Cuts};
+ghost use Rattle.flu_streams.specs.Rounds.{lists_between};
 ghost use Rattle.flu_rounds.specs.Halves.{Begins, AppendsReport, AppendsPartOfReport};
 ghost use Rattle.flu_rounds.specs.Standing.{IsFirst, IsFirstFrom, round_report, Runs, IsRoundOf, IsSourceFault, StandsBehind};
 
@@ -214,8 +216,88 @@ impl Rounds {
             → HidesNoRoundFault self.old.held (F.left files.old) (F.left files.new) (F.faults files.old) (F.faults files.new) before }
         ensures cause { IsErrOf result RoundsFault.ReadFault → OneRose (files_of p.now.sources) (F.faults files.old) (F.faults files.new) }
     {
+        let border = self.fill(alloc, p, files)?;
+        let Begun { opening, rows, .. } = self.hand_out(alloc, p, border)?;
+        Ok(Begun {
+            border,
+            opening,
+            rows,
+        })
+    }
+
+    /// The first part of [`Rounds::begin`]: reads the sources until each holds what the round needs of it, and answers the round's
+    /// border. It reads and changes what is held of the sources alone, so the round before may still run meanwhile.
+    ///
+    /// # Errors
+    ///
+    /// See [`RoundsFault`]; a write fault is not possible. After an error no further round may be run.
+    pub fn fill<F: Files>(
+        &mut self,
+        alloc: Global,
+        p: &Program,
+        files: &mut F,
+    ) -> Result<Border, RoundsFault>
+        requires program { self.old.held.program ≡ p.now }
+        requires stage { self.old.held.stage ≡ Stage.Filling }
+
+        ensures filled { IfOk result (λ end. (before : ℕ → List Next) → AreHeldBehind self.old.held before
+            → Fills self.old.held self.new.held (F.left files.old) (F.left files.new) end before) }
+        ensures border { IfOk result (IsNewBorder self.old.held.border) }
+        ensures stage { IfOk result (λ end. self.new.held.stage ≡ Stage.Filled end) }
+        ensures same { KeepsJob self.old.held self.new.held }
+        ensures state { self.new.state ≡ self.old.state }
+        ensures read_out { OnOk result (ClosedAreReadOut self.old.held (F.left files.old) → ClosedAreReadOut self.new.held (F.left files.new)) }
+        ensures closed { result ≡ Ok Border.Closed → AreClosed self.new.held }
+
+        // What is held of the sources is bounded, whatever the answer.
+        ensures few { OnOk result (HoldsFew self.new.held) }
+        ensures most { HoldsAtMost 64096 self.new.held }
+
+        // A source fault is the defect that the round meets.
+        ensures fault { IfErr result (λ f. IsSourceFault self.old.held (F.left files.old) (F.left files.new) f) }
+        ensures unwritten { result ≢ Err RoundsFault.WriteFault }
+
+        // Only bytes from the front of the sources' files are taken, and a read fault has its cause there: no other answer comes
+        // after a take that failed.
+        ensures fronts { WhereTold (F.left files.old) (F.left files.new) TookFronts }
+        ensures others { WhereTold (F.left files.old) (F.left files.new) (LeavesOthers (files_of p.now.sources)) }
+        ensures counts { CountsOfNames (F.left files.old) (files_of p.now.sources) (F.faults files.old) (F.faults files.new) }
+        ensures quiet { result ≢ Err RoundsFault.ReadFault → SameCounts (F.faults files.old) (F.faults files.new) }
+        ensures puts { SameCounts (F.put_faults files.old) (F.put_faults files.new) }
+        ensures hides { IsErrOf result RoundsFault.ReadFault → (before : ℕ → List Next) → AreHeldBehind self.old.held before
+            → HidesNoRoundFault self.old.held (F.left files.old) (F.left files.new) (F.faults files.old) (F.faults files.new) before }
+        ensures cause { IsErrOf result RoundsFault.ReadFault → OneRose (files_of p.now.sources) (F.faults files.old) (F.faults files.new) }
+    {
         let above = self.held.border();
         let border = self.held.refill(alloc, p, files, above)?;
+        Ok(border)
+    }
+
+    /// The second part of [`Rounds::begin`]: hands out what has to be run of a round that was filled up to this border, once the state
+    /// after the rounds before it is known.
+    ///
+    /// # Errors
+    ///
+    /// Only lack of memory, after which no further round may be run.
+    pub fn hand_out(
+        &mut self,
+        alloc: Global,
+        p: &Program,
+        border: Border,
+    ) -> Result<Begun, AllocError>
+        requires program { self.old.held.program ≡ p.now }
+        requires stage { self.old.held.stage ≡ Stage.Filled border }
+        ensures border { IfOk result (λ begun. begun.border ≡ border) }
+        ensures opening { IfOk result (λ begun. held begun.opening ≡ held self.old.state) }
+        ensures sorts { IfOk result (λ begun. IsStateOf p.now.families (held begun.opening)) }
+        ensures lists { IfOk result (λ begun. (lines : ℕ → List Next) → AreHeldBehind self.old.held lines
+            → listed begun.rows ≡ lists_between p.now self.old.held.border border lines) }
+        ensures itags { IfOk result (λ begun. length (listed begun.rows) ≡ count_of_itags p.now) }
+        ensures cut { OnOk result (Cuts self.old.held self.new.held border) }
+        ensures few { OnOk result (HoldsFew self.new.held) }
+        ensures most { HoldsAtMost 64096 self.new.held }
+        ensures few_items { IfOk result (λ begun. HaveAtMost 64096 (listed begun.rows)) }
+    {
         let opening = mem::replace(&mut self.state, State::new(alloc));
         let rows = self.held.cut(alloc, p, border)?;
         Ok(Begun {

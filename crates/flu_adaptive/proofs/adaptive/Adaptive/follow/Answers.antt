@@ -3,7 +3,7 @@ use Rattle.flu_model.specs.Itags.{count_of_itags}
 use Rattle.flu_model.specs.Listed.{listed}
 use Rattle.flu_deps.specs.Checking.{program_of}
 use Rattle.flu_adaptive.proofs.Growing.{grown_each}
-use Rattle.flu_adaptive.proofs.adaptive.Adaptive.batch.Goals as goal
+use Rattle.flu_adaptive.proofs.adaptive.Adaptive.follow.Goals as goal
 
 pub observed_plan-requires : goal.observed_plan-requires
 observed_plan-requires g c =
