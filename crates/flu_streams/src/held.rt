@@ -1,6 +1,6 @@
 //! What is held of the sources from round to round.
 
-ghost use Rattle.std.specs.Prelude.{◌≡◌, ◌≢◌, ◌≤◌, ◌<◌, ◌^◌, ℕ, length, map, slice_get, vec_len, List, Option, Some, IsTrue, IfOk, IfErr, OnOk, IsErrOf, Ok};
+ghost use Rattle.std.specs.Prelude.{◌≡◌, ◌≢◌, ◌≤◌, ◌<◌, ◌^◌, ℕ, length, map, slice_get, vec_len, List, Option, Some, IsTrue, IfOk, IfErr, OnOk, OnErr, IsErrOf, Ok};
 ghost use Rattle.std.specs.Prelude.{Err};
 ghost use Rattle.flu_model.specs.Itags.{count_of_itags};
 ghost use Rattle.flu_model.specs.Listed.{listed};
@@ -146,6 +146,7 @@ impl Held {
             → Fills self.old self.new (F.left files.old) (F.left files.new) end before) }
         ensures border { IfOk result (IsNewBorder self.old.border) }
         ensures stage { IsFilled result self.new.stage }
+        ensures over { OnErr result (self.new.stage ≡ Stage.Over) }
         ensures same { KeepsJob self.old self.new }
         ensures read_out { OnOk result (ClosedAreReadOut self.old (F.left files.old) → ClosedAreReadOut self.new (F.left files.new)) }
 
@@ -190,6 +191,7 @@ impl Held {
             → listed streams ≡ lists_between p.now self.old.border b lines) }
         ensures itags { IfOk result (λ streams. length (listed streams) ≡ count_of_itags p.now) }
         ensures cut { OnOk result (Cuts self.old self.new b) }
+        ensures over { OnErr result (self.new.stage ≡ Stage.Over) }
         ensures few { OnOk result (HoldsFew self.new) }
         ensures most { HoldsAtMost 64096 self.new }
         ensures few_items { IfOk result (λ streams. HaveAtMost 64096 (listed streams)) }

@@ -1,6 +1,6 @@
 //! The worker.
 
-ghost use Rattle.std.specs.Prelude.{◌≡◌, ◌<◌, ◌≤◌, ◌↔◌, ℕ, Some, [], false, true, is_some, length, slice_index, slice_index_or, slice_set, IfOk, OnOk, IsSome};
+ghost use Rattle.std.specs.Prelude.{◌≡◌, ◌<◌, ◌≤◌, ◌↔◌, ℕ, Some, [], false, true, is_some, length, slice_index, slice_index_or, slice_set, IfOk, OnOk, OnErr, IsSome};
 ghost use Rattle.std.specs.Prelude.{IfSome};
 ghost use Rattle.flu_model.specs.Listed.{listed};
 ghost use Rattle.flu_fork.specs.declared.lots.Ask.{Ask as AskNote};
@@ -9,7 +9,7 @@ ghost use Rattle.flu_fork.specs.Serving.{AsksAbove, GrownFrom, Served};
 ghost use Rattle.flu_worker.specs.declared.hand.Side.TheVariants.{Left, Right};
 ghost use Rattle.flu_worker.specs.Calls.{IsNew, HoldsLot, GivesLot, HandlesEvent, CountsEvent, LendsPart, IsFitPart, TakesPart, IsWholeState, IsWholeLot};
 ghost use Rattle.flu_worker.specs.Calls.{KeepsTarget, IsAskable, HasDoneAll, IsFinished};
-ghost use Rattle.flu_worker.specs.Hands.{is_open, is_whole, may_lend, may_take, at_side};
+ghost use Rattle.flu_worker.specs.Hands.{is_lost, is_open, is_whole, may_lend, may_take, at_side};
 ghost use Rattle.flu_worker.specs.Notes.{lent_to};
 ghost use Rattle.flu_worker.specs.Choosing.{may_give, next_of, target_of};
 ghost use Rattle.flu_worker.specs.Keeping.{HasRule};
@@ -204,7 +204,8 @@ impl Worker {
         requires empty { is_open self.old.hand ≡ false }
         requires fits { LotFits self.old.case self.old.node lot }
         requires grown { GrownFrom self.old.case self.old.node self.old.given lot.upto }
-        ensures { OnOk result (HoldsLot lot self.old self.new) }
+        ensures holds { OnOk result (HoldsLot lot self.old self.new) }
+        ensures lost { OnErr result (is_lost self.new.hand ≡ true) }
     {
         laws_below();
         let since = Snapshot::of(&lot.since);
@@ -248,6 +249,7 @@ impl Worker {
         requires next { next_of self.old ≡ Some x }
         ensures note { OnOk result (HandlesEvent x self.old self.new) }
         ensures texts { OnOk result (CountsEvent self.old.case x self.old.counts self.new.counts outs.old outs.new) }
+        ensures lost { OnErr result (is_lost self.new.hand ≡ true) }
     {
         laws_below();
         let Some(event) = self.mail.pending(case.streams(), x.itag) else {
@@ -376,7 +378,8 @@ impl Worker {
         requires fits { (l r : ℕ) → kids self.old.case self.old.node ≡ Some (l, r) → LotFits self.old.case (at_side side l r) lot }
         requires served { (l r : ℕ) (y : AskNote) → kids self.old.case self.old.node ≡ Some (l, r) → self.old.kept ≡ Some y
             → Served self.old.case (at_side side l r) (lent_to side self.old) y lot }
-        ensures { OnOk result (TakesPart side lot self.old self.new) }
+        ensures takes { OnOk result (TakesPart side lot self.old self.new) }
+        ensures lost { OnErr result (is_lost self.new.hand ≡ true) }
     {
         match side {
             Side::Left => self.take_left(alloc, case, lot),
@@ -392,7 +395,8 @@ impl Worker {
         requires fits { (l r : ℕ) → kids self.old.case self.old.node ≡ Some (l, r) → LotFits self.old.case l lot }
         requires served { (l r : ℕ) (y : AskNote) → kids self.old.case self.old.node ≡ Some (l, r) → self.old.kept ≡ Some y
             → Served self.old.case l self.old.lent_left y lot }
-        ensures { OnOk result (TakesPart Left lot self.old self.new) }
+        ensures takes { OnOk result (TakesPart Left lot self.old self.new) }
+        ensures lost { OnErr result (is_lost self.new.hand ≡ true) }
     {
         laws_below();
         let upto = Snapshot::of(&lot.upto);
@@ -413,7 +417,8 @@ impl Worker {
         requires fits { (l r : ℕ) → kids self.old.case self.old.node ≡ Some (l, r) → LotFits self.old.case r lot }
         requires served { (l r : ℕ) (y : AskNote) → kids self.old.case self.old.node ≡ Some (l, r) → self.old.kept ≡ Some y
             → Served self.old.case r self.old.lent_right y lot }
-        ensures { OnOk result (TakesPart Right lot self.old self.new) }
+        ensures takes { OnOk result (TakesPart Right lot self.old self.new) }
+        ensures lost { OnErr result (is_lost self.new.hand ≡ true) }
     {
         laws_below();
         let upto = Snapshot::of(&lot.upto);

@@ -118,7 +118,7 @@ invariant_of-self-2 c =
       step = record { was = n; is = c.hold.new.self; rule = kept_at v.workers c.args.w c.hold.new.self lt c.keeps.ensures; at = at; case = refl; gone = refl; seen = refl; workers = refl };
       lot = lot;
       lent = lent;
-      does = c.in_ok-hold.ensures;
+      does = c.in_ok-hold.ensures.holds;
       edges = c.put.ensures.is;
       outs = refl;
     } in
@@ -154,7 +154,7 @@ returns-clause-made c =
       step = record { was = n; is = c.hold.new.self; rule = kept_at v.workers c.args.w c.hold.new.self lt c.keeps.ensures; at = at; case = refl; gone = refl; seen = refl; workers = refl };
       lot = lot;
       lent = lent;
-      does = c.in_ok-hold.ensures;
+      does = c.in_ok-hold.ensures.holds;
       edges = c.put.ensures.is;
       outs = refl;
     } in

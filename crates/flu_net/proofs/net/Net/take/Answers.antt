@@ -153,7 +153,7 @@ invariant_of-self-2 c =
       is_kid = kid;
       lot = lot;
       given = given;
-      does = c.in_ok-take_reply.ensures;
+      does = c.in_ok-take_reply.ensures.takes;
       edges = c.put.ensures.is;
       outs = refl;
     } in
@@ -193,7 +193,7 @@ returns-clause-made c =
       is_kid = kid;
       lot = lot;
       given = given;
-      does = c.in_ok-take_reply.ensures;
+      does = c.in_ok-take_reply.ensures.takes;
       edges = c.put.ensures.is;
       outs = refl;
     } in

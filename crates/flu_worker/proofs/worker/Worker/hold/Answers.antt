@@ -48,8 +48,8 @@ invariant_of-self-2 c =
     (sym (c.count_above.ensures.seen ∙ rule.mailed.seen))
     (subst (λ (m : LotCounts). Rule (record v { hand = hand_of h; holding = h; counts = counts_of new; held = m }) new h) (sym noted) held))
 
-pub returns : goal.returns
-returns c =
+pub returns-clause-holds : goal.returns-clause-holds
+returns-clause-holds c =
     let v = c.args.self.now in
     let old = c.self.inside.mail in
     let new = c.count_above.new.self in

@@ -43,8 +43,8 @@ invariant_of-self-2 c =
     subst (λ (x : WorkerNote). Rule (after c x c.of-upto.result.value) c.self.inside.mail c.in_ok-self-inside.field-0) (sym c.self.view_is)
     (subst (λ (u : List ℕ). Rule (after c v u) c.self.inside.mail c.in_ok-self-inside.field-0) (sym c.of-upto.ensures) (took c).rule)
 
-pub returns : goal.returns
-returns c =
+pub returns-clause-takes : goal.returns-clause-takes
+returns-clause-takes c =
     let v = c.args.self.now in
     subst (λ (x : WorkerNote). TakesPart Left c.args.lot v (after c x c.of-upto.result.value)) (sym c.self.view_is)
     (subst (λ (u : List ℕ). TakesPart Left c.args.lot v (after c v u)) (sym c.of-upto.ensures) (took c).note)
