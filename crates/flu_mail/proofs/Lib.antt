@@ -4,3 +4,6 @@ pub mod WaitingLemmas
 pub mod MailboxLemmas
 pub mod ListLemmas
 pub mod CountLemmas
+pub mod OrderLemmas
+pub mod OwnerLemmas
+pub mod KeyLemmas

@@ -87,10 +87,16 @@ serve_order : (own near pass : Bool) → (own && (near && not pass)) ≡ ((own &
 serve_order true near pass = refl
 serve_order false near pass = refl
 
--- what neither an itag of the node nor one above it holds up is ready
+and_turns : (a b : Bool) → (a && b) ≡ (b && a)
+and_turns true true = refl
+and_turns true false = refl
+and_turns false true = refl
+and_turns false false = refl
+
+-- what neither an itag above the node nor one of its own holds up is ready
 pub ready_told : (p : Program) (nodes : List Node) (lists : List (List Item)) (m : Mailbox) (x : Event) → IsAt p nodes m
-    → (not (list_any (holds_up p m lists Take x) (itags_where p (owns p nodes m.node)))
-    && not (list_any (holds_up p m lists Take x) (itags_where p (ancestors_own p nodes m.node)))) ≡ is_ready p nodes lists m.node (seen_of m) (counts_of m) x
+    → (not (list_any (holds_up p m lists Take x) (itags_where p (ancestors_own p nodes m.node)))
+    && not (list_any (holds_up p m lists Take x) (itags_where p (owns p nodes m.node)))) ≡ is_ready p nodes lists m.node (seen_of m) (counts_of m) x
 ready_told p nodes lists m x at =
     let h : Itag → Bool = holds_up p m lists Take x in
     let numbers = range_with_len 0 (count_of_itags p) in
@@ -98,7 +104,8 @@ ready_told p nodes lists m x at =
     let above : ℕ → Bool = λ j. ancestors_own p nodes m.node (itag j) in
     let pass : ℕ → Bool = λ j. passes (seen_items lists (seen_of m) j) (slice_index (counts_of m) j) x in
     let other : ℕ → Bool = λ j. not (j == x.itag.0) in
-    sym (not_or (list_any h (itags_where p (owns p nodes m.node))) (list_any h (itags_where p (ancestors_own p nodes m.node))))
+    and_turns (not (list_any h (itags_where p (ancestors_own p nodes m.node)))) (not (list_any h (itags_where p (owns p nodes m.node))))
+    ∙ sym (not_or (list_any h (itags_where p (owns p nodes m.node))) (list_any h (itags_where p (ancestors_own p nodes m.node))))
     ∙ (λ k. not (any_listed p h (owns p nodes m.node) k || any_listed p h (ancestors_own p nodes m.node) k))
     ∙ ap not (sym (list_any_or (λ j. own j && h (itag j)) (λ j. above j && h (itag j)) numbers))
     ∙ not_any_in_range (λ j. (own j && h (itag j)) || (above j && h (itag j))) (λ j. not (waits_for p nodes m.node x.itag j) || pass j) 0 (count_of_itags p)

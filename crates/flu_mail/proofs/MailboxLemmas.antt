@@ -3,7 +3,7 @@ use Rattle.std.proofs.Common.{◌≡◌, ◌<◌, ◌≤◌, ◌+◌, ◌^◌, �
 use Rattle.std.proofs.Common.{Vec, Global, length, get_or, refl, sym, ap, ◌∙◌, true, arith}
 use Rattle.std.specs.Prelude.{map, IfSome, slice_get, slice_index, slice_index_or}
 use Rattle.std.proofs.Math.ListN.{set}
-use Rattle.std.proofs.lemmas.List.{length-set, length-map, get_or_past}
+use Rattle.std.proofs.lemmas.List.{length-set, length-map, get_or_past, set-get_or}
 use Rattle.std.proofs.lemmas.Option.{slice_get_read}
 use Rattle.flu_lemmas.proofs.Elements.{each_set}
 use Rattle.flu_lemmas.proofs.Places.{slice_index-map}
@@ -14,11 +14,13 @@ use Rattle.flu_model.specs.declared.jobs.Program.{Program}
 use Rattle.flu_model.specs.declared.plans.Node.{Node}
 use Rattle.flu_model.specs.Streaming.{are_streams}
 use Rattle.flu_mail.specs.declared.entries.Entry.{Entry}
+use Rattle.flu_mail.specs.declared.entries.Owner.{Owner}
+use Rattle.flu_mail.specs.declared.entries.Owner.TheVariants.{Node as OfNode, Ancestor as OfAncestor}
 use Rattle.flu_mail.specs.declared.mailbox.Mailbox.{Mailbox}
 use Rattle.flu_mail.specs.Passing.{pending_event}
 use Rattle.flu_mail.specs.Waiting.{itag, is_leaf}
-use Rattle.flu_mail.specs.Entries.{IsEntryOver}
-use Rattle.flu_mail.specs.Mailboxes.{seen_of, counts_of, IsAt, IsOver}
+use Rattle.flu_mail.specs.Entries.{IsEntryOver, AreKeysOf, is_of}
+use Rattle.flu_mail.specs.Mailboxes.{seen_of, counts_of, keys_of, owned_by, IsAt, IsOver}
 use Rattle.flu_mail.proofs.PassingLemmas.{event_of_stream}
 use Rattle.flu_mail.proofs.WaitingLemmas.{stream_of}
 
@@ -36,6 +38,17 @@ entry_there m n j one_each lt = let size = length-seen m in omega arith
 pub entry_read : (m : Mailbox) (n j : ℕ) (e : Entry) → length (seen_of m) ≡ n → j < n → e ≡ get_or m.entries.items j e → slice_get m.entries.items j ≡ Some e
 entry_read m n j e one_each lt is = slice_get_read m.entries.items (length m.entries.items) j e refl (entry_there m n j one_each lt) is
 
+pub entry_is : (m : Mailbox) (j : ℕ) (e x : Entry) → slice_get m.entries.items j ≡ Some e → slice_get m.entries.items j ≡ Some x → e ≡ x
+entry_is m j e x there is = of_some (sym there ∙ is)
+  where
+    of_some : {a b : Entry} → Some a ≡ Some b → a ≡ b
+    of_some both = cc
+
+-- an entry with the same owners
+pub owner_kept : (o : Owner) (v e : Entry) → v.own ≡ e.own → v.above ≡ e.above → is_of o v ≡ is_of o e
+owner_kept OfNode v e own above = own
+owner_kept OfAncestor v e own above = above
+
 -- no stream has more items than there are numbers for
 pub few_items : (vs : List (Vec Item Global)) (i : ℕ) → length (slice_index_or (map (λ (v : Vec Item Global). v.items) vs) i []) < 2 ^ 63
 few_items [] i = omega arith
@@ -50,6 +63,8 @@ pub record Changes (m n : Mailbox) (i : ℕ) (e v : Entry) : Type 0 where
   pub leaf : n.leaf ≡ m.leaf
   pub items : n.entries.items ≡ set m.entries.items i v
   pub there : slice_get m.entries.items i ≡ Some e
+  pub owner : (o : Owner) → is_of o v ≡ is_of o e
+  pub in_order : (o : Owner) → AreKeysOf (is_of o) m.entries.items (keys_of o m) → AreKeysOf (is_of o) n.entries.items (keys_of o n)
 
 pub one_each_kept : (m n : Mailbox) (i : ℕ) (e v : Entry) → Changes m n i e v → length (seen_of n) ≡ length (seen_of m)
 one_each_kept m n i e v change = length-seen n ∙ ap length change.items ∙ length-set m.entries.items i v ∙ sym (length-seen m)
@@ -58,6 +73,10 @@ pub at_kept : (p : Program) (nodes : List Node) (m n : Mailbox) (i : ℕ) (e v :
 at_kept p nodes m n i e v change at = record {
   one_each = one_each_kept m n i e v change ∙ at.one_each;
   leaf = change.leaf ∙ at.leaf ∙ sym (ap (is_leaf nodes) change.node);
+  owners = λ o j x found.
+      each_set (λ k y. is_of o y ≡ owned_by p nodes m.node o (itag k)) m.entries.items i v (at.owners o)
+      (change.owner o ∙ at.owners o i e change.there) j x (ap (λ ys. slice_get ys j) (sym change.items) ∙ found)
+      ∙ ap (λ w. owned_by p nodes w o (itag j)) (sym change.node);
 }
 
 pub over_kept : (lists : List (List Item)) (m n : Mailbox) (i : ℕ) (e v : Entry) → Changes m n i e v → IsEntryOver (slice_index_or lists i []) v
@@ -67,7 +86,14 @@ over_kept lists m n i e v change here over = record {
   over_items =
       λ j x found. each_set (λ k y. IsEntryOver (slice_index_or lists k []) y) m.entries.items i v over.over_items here j x
       (ap (λ ys. slice_get ys j) (sym change.items) ∙ found);
+  in_order = λ o. change.in_order o (over.in_order o);
 }
+
+-- what is set to what it was stays the same
+pub set_to_same : (f : Entry → ℕ) (m : Mailbox) (i n : ℕ) (e : Entry) → slice_get m.entries.items i ≡ Some e → f e ≡ n
+    → map f m.entries.items ≡ set (map f m.entries.items) i n
+set_to_same f m i n e there same =
+    sym (ap (set (map f m.entries.items) i) (sym (slice_index-map f m.entries.items i e there ∙ same)) ∙ set-get_or (map f m.entries.items) i 0)
 
 -- ---- what is read
 

@@ -1,7 +1,10 @@
 pub mod Passing
 pub mod Waiting
 pub mod Places
+pub mod Keys
+pub mod Orders
 pub mod Entries
+pub mod First
 pub mod Mailboxes
 pub mod Laws
 pub mod LoopParts

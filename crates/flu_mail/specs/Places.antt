@@ -23,3 +23,8 @@ event_in None = None
 event_in (Some (EventItem x)) = Some x
 event_in (Some (Beat t)) = None
 event_in (Some End) = None
+
+-- the time of an event; 0 if there is none
+abbrev pub time_in : Option Event → ℕ
+time_in None = 0
+time_in (Some x) = x.time

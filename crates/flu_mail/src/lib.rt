@@ -2,8 +2,11 @@
 #![tactic(auto)]
 
 mod entries;
+mod keys;
 pub mod laws;
 mod mailbox;
+mod order;
+mod owners;
 mod passing;
 mod places;
 mod waiting;

@@ -1,9 +1,10 @@
 //! The places of the events of an itag among its items.
 
-ghost use Rattle.std.specs.Prelude.{◌≡◌, ◌≤◌, ◌+◌, length, drop};
+ghost use Rattle.std.specs.Prelude.{◌≡◌, ◌≤◌, ◌+◌, length, drop, slice_get};
 ghost use Rattle.flu_model.specs.Merging.{events_of};
-ghost use Rattle.flu_mail.specs.Places.{place_of, is_event};
+ghost use Rattle.flu_mail.specs.Places.{place_of, is_event, event_in, time_in};
 
+use crate::passing::event_at;
 use flu_model::Item;
 
 /// The place of the event with index n, all items if there is none, from that of an earlier one.
@@ -41,5 +42,15 @@ fn is_event(item: &Item) -> bool
     match item {
         Item::Event(_) => true,
         Item::Beat(_) | Item::End => false,
+    }
+}
+
+/// The time of the event at a place; 0 if there is none.
+pub fn time_at(items: &[Item], place: u64) -> u64
+    ensures { result ≡ time_in (event_in (slice_get items.now place)) }
+{
+    match event_at(items, place) {
+        Some(x) => x.time,
+        None => 0,
     }
 }

@@ -1,9 +1,10 @@
 //! Which itags an event waits for.
 
 ghost use Rattle.std.specs.Prelude.{◌≡◌};
-ghost use Rattle.flu_mail.specs.LoopParts.{asks};
+ghost use Rattle.flu_mail.specs.LoopParts.{asks, least_passes};
 
-use flu_model::Itag;
+use crate::keys::{Key, is_less, key_at};
+use flu_model::{Event, Itag};
 
 /// What an event waits for: that the node takes it, or that the node gives up its state for it.
 #[derive(Clone, Copy)]
@@ -20,5 +21,19 @@ pub fn asks(purpose: Purpose, i: Itag, j: Itag) -> bool
     match purpose {
         Purpose::Take => j.0 != i.0,
         Purpose::Serve => true,
+    }
+}
+
+/// Whether all itags of which this is the least key let x pass: its own itag has the key of x itself, if x is to be taken, and
+/// the others have later ones.
+pub fn least_passes(purpose: Purpose, least: Option<Key>, x: &Event) -> bool
+    ensures { result ≡ least_passes purpose least x.now }
+{
+    match least {
+        Some(key) => match purpose {
+            Purpose::Take => !is_less(key, key_at(x)),
+            Purpose::Serve => is_less(key_at(x), key),
+        },
+        None => false,
     }
 }

@@ -41,11 +41,11 @@ first_is : (s : Sight) → first_due s ≡ due_of (least_next s)
 first_is s = dues (next_at s) (own_itags s.case s.node) None
 
 -- the next event of its own itag is the one that was found
-record IsNextOwn (s : Sight) (x : Event) : Type 0 where
-  known : x.itag.0 < count_of_itags (job s.case)
-  next : next_at s x.itag ≡ Some x
+pub record IsNextOwn (s : Sight) (x : Event) : Type 0 where
+  pub known : x.itag.0 < count_of_itags (job s.case)
+  pub next : next_at s x.itag ≡ Some x
 
-least_is_next : LawsBelow → (s : Sight) (x : Event) → least_next s ≡ Some x → IsNextOwn s x
+pub least_is_next : LawsBelow → (s : Sight) (x : Event) → least_next s ≡ Some x → IsNextOwn s x
 least_is_next laws s =
     found_is (IsNextOwn s) (next_at s) (own_itags s.case s.node)
     (all_where (job s.case) (owns (job s.case) (nodes s.case) s.node) (λ i. (x : Event) → next_at s i ≡ Some x → IsNextOwn s x) (λ i lt mine. next_own i lt))

@@ -3,6 +3,7 @@ pub mod CountLemmas
 pub mod Nodes
 pub mod Changing
 pub mod EarliestLemmas
+pub mod Firsts
 pub mod Dues
 pub mod Rising
 pub mod Aiming

@@ -26,7 +26,7 @@ use Rattle.flu_worker.proofs.EarliestLemmas.{NotBefore, none_before, where_all}
 use Rattle.flu_worker.proofs.Serving.{hand_whole, next_aims, next_exact, own_some, whole_next}
 
 -- of two events of which neither is before the other, the itags are the same
-same_itag : (x y : Event) → is_before x y ≡ false → is_before y x ≡ false → x.itag.0 ≡ y.itag.0
+pub same_itag : (x y : Event) → is_before x y ≡ false → is_before y x ≡ false → x.itag.0 ≡ y.itag.0
 same_itag x y a b = grind (arith, common_steps)
 
 pub least_one : LeastIsOne

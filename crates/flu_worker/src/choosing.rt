@@ -108,8 +108,8 @@ fn first_due(case: &Case, node: u32, mail: &Mailbox) -> Option<Due>
     found
 }
 
-// The least next event of the node's own itags.
-fn least_next(case: &Case, node: u32, mail: &Mailbox) -> Option<Event>
+// The least next event of the node's own itags, by a look at each.
+fn search_next(case: &Case, node: u32, mail: &Mailbox) -> Option<Event>
     requires mail { IsMailFor case.now node mail.now }
     ensures { result ≡ least_next (sight_at case.now node mail.now) }
 {
@@ -117,6 +117,18 @@ fn least_next(case: &Case, node: u32, mail: &Mailbox) -> Option<Event>
     match first_due(case, node, mail) {
         Some(due) => next_at(case, node, mail, due.itag),
         None => None,
+    }
+}
+
+// The least next event of the node's own itags. The mailbox mostly has it at hand.
+fn least_next(case: &Case, node: u32, mail: &Mailbox) -> Option<Event>
+    requires mail { IsMailFor case.now node mail.now }
+    ensures { result ≡ least_next (sight_at case.now node mail.now) }
+{
+    laws_below();
+    match mail.first(case.streams()) {
+        Some(x) => Some(x),
+        None => search_next(case, node, mail),
     }
 }
 

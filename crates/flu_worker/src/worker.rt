@@ -223,8 +223,9 @@ impl Worker {
     /// itags that is ready; at an inner worker that has its lot, its target, if that is its own. `laws::next_events_are_least` says that
     /// this is what `next_of` gives, and that there is no other. It takes no memory.
     ///
-    /// At a leaf it checks each of the node's own itags once, and then once each itag for which the least event waits; if this one is
-    /// not ready, the others are tried.
+    /// At a leaf the least next event is mostly at hand, and so is whether it is ready. Where an itag may have items that were not
+    /// seen, each of the node's own itags is checked once, and then each itag for which the least event waits; if this one is not
+    /// ready, the others are tried.
     pub fn can_handle(&self, case: &Case) -> Option<Ask>
         requires { case.now ≡ self.now.case }
         ensures { result ≡ next_of self.now }

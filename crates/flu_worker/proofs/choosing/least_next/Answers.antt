@@ -1,16 +1,19 @@
-use Rattle.std.proofs.Common.{sym, ◌∙◌}
+use Rattle.std.proofs.Common.{ℕ, subst}
+use Rattle.flu_model.specs.declared.streams.Streams.{Streams}
+use Rattle.flu_model.specs.Listed.{listed}
+use Rattle.flu_fork.specs.Lots.{job, nodes}
+use Rattle.flu_mail.specs.First.{IsFirstOwn}
+use Rattle.flu_mail.specs.Mailboxes.{node_of, seen_of, counts_of}
 use Rattle.flu_worker.specs.Choosing.{sight_at}
-use Rattle.flu_worker.proofs.Dues.{due_known, next_found, none_found}
+use Rattle.flu_worker.proofs.Firsts.{first_is_least}
 use Rattle.flu_worker.proofs.choosing.least_next.Goals as goal
-
-pub next_at-requires-clause-known : goal.next_at-requires-clause-known
-next_at-requires-clause-known c =
-    due_known c.laws_below.ensures (sight_at c.args.case.now c.args.node c.args.mail.now) c.in-Some.due (sym c.first_due.ensures ∙ c.in-Some.is)
 
 pub returns-in-Some : goal.returns-in-Some
 returns-in-Some c =
-    c.next_at.ensures
-    ∙ next_found c.laws_below.ensures (sight_at c.args.case.now c.args.node c.args.mail.now) c.in-Some.due (sym c.first_due.ensures ∙ c.in-Some.is)
-
-pub returns-in-None : goal.returns-in-None
-returns-in-None c = none_found (sight_at c.args.case.now c.args.node c.args.mail.now) (sym c.first_due.ensures ∙ c.in-None.is)
+    let k = c.args.case.now in
+    let m = c.args.mail.now in
+    let x = c.in-Some.x in
+    first_is_least c.laws_below.ensures (sight_at k c.args.node m) x
+    (subst (λ (w : ℕ). IsFirstOwn (job k) (nodes k) (listed k.streams) w (seen_of m) (counts_of m) x) c.requires.mail.node
+    (subst (λ (s : Streams). IsFirstOwn (job k) (nodes k) (listed s) (node_of m) (seen_of m) (counts_of m) x) c.streams.ensures
+    (c.in-Some.ensures.some (job k) (nodes k) c.requires.mail.at_node)))

@@ -1,37 +1,60 @@
-use Rattle.std.proofs.Common.{length, refl}
+use Rattle.std.proofs.Common.{length, map, refl, ap, ◌∙◌}
 use Rattle.std.proofs.lemmas.List.{map-set}
 use Rattle.flu_lemmas.proofs.Places.{map-set_alike}
 use Rattle.flu_mail.specs.declared.entries.Entry.{Entry}
 use Rattle.flu_mail.specs.Mailboxes.{seen_of}
-use Rattle.flu_mail.proofs.MailboxLemmas.{entry_read, at_kept, over_kept}
+use Rattle.flu_mail.proofs.MailboxLemmas.{Changes, entry_read, entry_is, at_kept, over_kept, owner_kept, set_to_same}
 use Rattle.flu_mail.proofs.mailbox.Mailbox.see.Goals as goal
 
-pub returns-clause-seen : goal.returns-clause-seen
-returns-clause-seen c = map-set (λ (e : Entry). e.seen) c.args.self.now.entries.items c.args.i.0 (record c.index_mut.result.now { seen = c.args.count })
-
-pub returns-clause-counts : goal.returns-clause-counts
-returns-clause-counts c =
+pub returns-then-entry-count : goal.returns-then-entry-count
+returns-then-entry-count c =
     let m = c.args.self.now in
-    let e = c.index_mut.result.now in
-    let there = entry_read m (length (seen_of m)) c.args.i.0 e refl c.requires.in_range c.index_mut.ensures.value in
-    map-set_alike (λ (x : Entry). x.count) m.entries.items c.args.i.0 e (record e { seen = c.args.count }) there refl
+    let e = c.index-entry.result.now in
+    let there = entry_read m (length (seen_of m)) c.args.i.0 e refl c.requires.in_range c.index-entry.ensures in
+    record {
+      seen = set_to_same (λ (x : Entry). x.seen) m c.args.i.0 c.args.count e there c.if-entry-count.true;
+      counts = refl;
+      node = refl;
+      at = λ p nodes at. at;
+      over = λ lists within over. over;
+    }
 
-pub returns-clause-at : goal.returns-clause-at
-returns-clause-at c =
+pub put-requires-clause-owner : goal.put-requires-clause-owner
+put-requires-clause-owner c =
     let m = c.args.self.now in
-    let e = c.index_mut.result.now in
-    let there = entry_read m (length (seen_of m)) c.args.i.0 e refl c.requires.in_range c.index_mut.ensures.value in
-    λ p nodes at. at_kept p nodes m _ c.args.i.0 e (record e { seen = c.args.count }) (record { node = refl; leaf = refl; items = refl; there = there }) at
+    let e = c.index-entry.result.now in
+    let there = entry_read m (length (seen_of m)) c.args.i.0 e refl c.requires.in_range c.index-entry.ensures in
+    λ o x is.
+    let same = entry_is m c.args.i.0 e x there is in
+    owner_kept o (record e { seen = c.args.count }) x (ap (λ (z : Entry). z.own) same) (ap (λ (z : Entry). z.above) same)
 
-pub returns-clause-over : goal.returns-clause-over
-returns-clause-over c =
+pub returns : goal.returns
+returns c =
     let m = c.args.self.now in
-    let e = c.index_mut.result.now in
-    let there = entry_read m (length (seen_of m)) c.args.i.0 e refl c.requires.in_range c.index_mut.ensures.value in
-    λ lists within over.
-    let old = over.over_items c.args.i.0 e there in
-    over_kept lists m _ c.args.i.0 e (record e { seen = c.args.count }) (record { node = refl; leaf = refl; items = refl; there = there }) (record {
-      seen = within;
-      count = old.count;
-      place = old.place;
-    }) over
+    let i = c.args.i.0 in
+    let e = c.index-entry.result.now in
+    let there = entry_read m (length (seen_of m)) i e refl c.requires.in_range c.index-entry.ensures in
+    let v : Entry = record e { seen = c.args.count } in
+    let change : Changes m c.put.new.self i e v = record {
+      node = c.put.ensures.node;
+      leaf = c.put.ensures.leaf;
+      items = c.put.ensures.entries;
+      there = there;
+      owner = λ o. owner_kept o v e refl refl;
+      in_order = c.put.ensures.in_order;
+    } in
+    record {
+      seen = ap (map (λ (x : Entry). x.seen)) change.items ∙ map-set (λ (x : Entry). x.seen) m.entries.items i v;
+      counts = ap (map (λ (x : Entry). x.count)) change.items ∙ map-set_alike (λ (x : Entry). x.count) m.entries.items i e v there refl;
+      node = change.node;
+      at = λ p nodes at. at_kept p nodes m c.put.new.self i e v change at;
+      over = λ lists within over.
+          let old = over.over_items i e there in
+          over_kept lists m c.put.new.self i e v change (record {
+            all = old.all;
+            seen = within;
+            count = old.count;
+            place = old.place;
+            time = old.time;
+          }) over;
+    }
