@@ -7,4 +7,3 @@ pub mod Stays
 pub mod Starts
 pub mod Seeing
 pub mod Rests
-pub mod LoopFeeding

@@ -36,6 +36,8 @@ use std::sync::Wait;
 fn reach(
     alloc: Global,
     case: &Case,
+    parkers: &Parkers,
+    node: u32,
     worker: &mut Worker,
     left: &mut Upper,
     right: &mut Upper,
@@ -53,7 +55,7 @@ fn reach(
     ensures left_end { OnOk result (IsSameUpper left.old left.new) }
     ensures right_end { OnOk result (IsSameUpper right.old right.new) }
 {
-    let sent = request(case, worker, left, right, end, asked);
+    let sent = request(case, parkers, node, worker, left, right, end, asked);
     let from_left = take(alloc, case, worker, left, Side::Left)?;
     let from_right = take(alloc, case, worker, right, Side::Right)?;
     Ok(any(sent, from_left, from_right))
@@ -62,6 +64,8 @@ fn reach(
 // Asks for the parts that are out, if there is a target; returns whether it did.
 fn request(
     case: &Case,
+    parkers: &Parkers,
+    node: u32,
     worker: &mut Worker,
     left: &mut Upper,
     right: &mut Upper,
@@ -84,12 +88,20 @@ fn request(
         return false;
     };
     let to_left = ask(worker, left, Side::Left, target);
+    parkers.wake_below(node, Side::Left, to_left);
     let to_right = ask(worker, right, Side::Right, target);
+    parkers.wake_below(node, Side::Right, to_right);
     any(to_left, to_right, false)
 }
 
 // Lends the parts that are still to be lent, and returns whether there were any.
-fn hand_down(worker: &mut Worker, left: &mut Upper, right: &mut Upper) -> bool
+fn hand_down(
+    parkers: &Parkers,
+    node: u32,
+    worker: &mut Worker,
+    left: &mut Upper,
+    right: &mut Upper,
+) -> bool
     requires inner { IsSome (kids worker.old.case worker.old.node) }
     requires left { Lets Left worker.old left.old }
     requires right { Lets Right worker.old right.old }
@@ -100,7 +112,9 @@ fn hand_down(worker: &mut Worker, left: &mut Upper, right: &mut Upper) -> bool
     ensures right_end { IsSameUpper right.old right.new }
 {
     let to_left = lend(worker, left, Side::Left);
+    parkers.wake_below(node, Side::Left, to_left);
     let to_right = lend(worker, right, Side::Right);
+    parkers.wake_below(node, Side::Right, to_right);
     any(to_left, to_right, false)
 }
 
@@ -136,12 +150,9 @@ fn turn_inner<G: Gate>(
     ensures left_end { OnOk result (IsSameUpper left.old left.new) }
     ensures right_end { OnOk result (IsSameUpper right.old right.new) }
 {
-    let reached = reach(alloc, case, worker, left, right, end, asked)?;
+    let reached = reach(alloc, case, parkers, node, worker, left, right, end, asked)?;
     let turned = turn(alloc, case, gate, parkers, node, worker, end, outs, asked)?;
-    let lent = hand_down(worker, left, right);
-    if any(reached, lent, false) {
-        parkers.wake_below(node);
-    }
+    let lent = hand_down(parkers, node, worker, left, right);
     Ok(any(reached, turned, lent))
 }
 
@@ -165,10 +176,11 @@ fn are_stopped(worker: &Worker, end: &mut End, left: &mut Upper, right: &mut Upp
 }
 
 // Tells all the workers around it to stop.
-fn stop_all(end: &mut End, left: &mut Upper, right: &mut Upper) {
+fn stop_all(parkers: &Parkers, end: &mut End, left: &mut Upper, right: &mut Upper) {
     end.stop();
     left.stop();
     right.stop();
+    parkers.wake_all();
 }
 
 /// What a worker with children has, once it has no event left.
@@ -208,12 +220,13 @@ fn take_turns<G: Gate, R: Wait>(
 {
     let mut pause = Pause::new();
     let mut idle = true;
+    let mut all = false;
     for _ in rt.forever() {
         if are_stopped(worker, end, left, right) {
-            stop_all(end, left, right);
+            stop_all(parkers, end, left, right);
             return Err(Why::Stopped);
         }
-        observe_idle(idle, case, node, worker, watch);
+        all = observe_idle(idle, all, case, node, worker, watch);
         let asked = look(worker, end);
         if idle && asked.is_none() && worker.finished(case) {
             return Ok(());
@@ -221,7 +234,7 @@ fn take_turns<G: Gate, R: Wait>(
         let Ok(moved) = turn_inner(
             alloc, case, gate, parkers, node, worker, end, left, right, outs, asked,
         ) else {
-            stop_all(end, left, right);
+            stop_all(parkers, end, left, right);
             return Err(Why::NoMemory);
         };
         parkers.wait(rt, node, &mut pause, moved);

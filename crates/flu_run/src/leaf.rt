@@ -51,10 +51,8 @@ pub fn turn<G: Gate>(
     ensures home { OnOk result (StaysHome worker.old worker.new) }
 {
     let gave = reply(case, worker, end, asked, outs);
-    if gave {
-        parkers.wake_above(node);
-    }
     let received = receive(alloc, case, worker, end, outs)?;
+    parkers.wake_above(node, any(gave, received, false));
     let acted = act(alloc, case, gate, node, worker, end, outs)?;
     Ok(any(gave, received, acted))
 }
@@ -111,17 +109,19 @@ fn take_turns<G: Gate, R: Wait>(
 {
     let mut pause = Pause::new();
     let mut idle = true;
+    let mut all = false;
     for _ in rt.forever() {
         if end.stopped() {
             return Err(Why::Stopped);
         }
-        observe_idle(idle, case, node, worker, watch);
+        all = observe_idle(idle, all, case, node, worker, watch);
         let asked = look(worker, end);
         if idle && asked.is_none() && worker.finished(case) {
             return Ok(());
         }
         let Ok(moved) = turn(alloc, case, gate, parkers, node, worker, end, outs, asked) else {
             end.stop();
+            parkers.wake_all();
             return Err(Why::NoMemory);
         };
         parkers.wait(rt, node, &mut pause, moved);
@@ -185,12 +185,13 @@ fn work<G: Gate, R: Wait>(
 }
 
 // Gives up because memory ran out.
-fn give_up(end: End, watch: Watch) -> Ended
+fn give_up(parkers: &Parkers, end: End, watch: Watch) -> Ended
     ensures { Keeps (end_note end) result }
 {
     let _watch = watch;
     let mut end = end;
     end.stop();
+    parkers.wake_all();
     Ended::Cut(Why::NoMemory)
 }
 
@@ -224,6 +225,6 @@ pub fn leaf<H: HasCase, G: Gate, R: Wait>(
             end,
             watch,
         ),
-        Err(_) => give_up(end, watch),
+        Err(_) => give_up(parkers, end, watch),
     }
 }

@@ -1,43 +1,36 @@
 //! Running a case on the tree of threads.
 
-ghost use Rattle.std.specs.Prelude.{◌≡◌, IfOk, vec_len};
+ghost use Rattle.std.specs.Prelude.{◌≡◌, IfOk};
 ghost use Rattle.std.specs.List.Sorted.{IsPermutation};
-ghost use Rattle.std.specs.Thread.{IsSync};
 ghost use Rattle.flu_model.specs.Folding.{final_state, final_outputs};
 ghost use Rattle.flu_model.specs.Listed.{listed};
 ghost use Rattle.flu_model.specs.Sorts.{IsStateOf};
 ghost use Rattle.flu_cells.specs.Holding.{held};
 ghost use Rattle.flu_fork.specs.Lots.{job};
-ghost use Rattle.flu_arrive.specs.Notes.{zeros};
-ghost use Rattle.flu_run.specs.EndNotes.{end_note};
-ghost use Rattle.flu_run.specs.Ended.{Keeps, EndsWhole, IsWhole};
-ghost use Rattle.flu_run.specs.Seeing.{WatchesFrom};
-ghost use Rattle.flu_run.specs.Starts.{StartsAt};
+ghost use Rattle.flu_run.specs.Ended.{EndsWhole, IsWhole};
 
 use crate::backup::fall_back;
 use crate::ends::End;
 use crate::feeding::{feed_all, limits, words};
-use crate::handed::{Done, Ended, FromEnd, Why};
+use crate::handed::{Done, Ended, Why};
 use crate::holder::HasCase;
 use crate::laws::laws_below;
 use crate::tree::subtree;
 use crate::waiting::Parkers;
-use flu_arrive::{Feeder, Watch};
 use flu_cells::State;
 use flu_fork::Lot;
 use flu_model::{Outs, itag_count};
 use flu_seq::{Engine, Gate};
 use std::alloc::{AllocError, Global};
-use std::snapshot::Snapshot;
 use std::sync::Wait;
-use std::thread;
 use std::thread::Threads;
 
-/// Runs the events of a case on a tree of threads, one for each worker of its plan, while the calling thread lets the items arrive
-/// (`docs/TREE.md`). The state is the fold's, which holds values of the job's sorts, and the outputs are the fold's in some order.
+/// Runs the events of a case on a tree of threads, one for each worker of its plan: the root's is the calling thread, which first lets
+/// all items arrive (`docs/TREE.md`). The state is the fold's, which holds values of the job's sorts, and the outputs are the fold's in
+/// some order.
 ///
-/// Each worker passes the gate before and after each of its updates. It waits for lots, asks and items by polling, a little later
-/// each time, and finally sleeps until a worker beside it wakes it, or for a moment.
+/// Each worker passes the gate before and after each of its updates. It waits for lots and asks by looking again a few times, and then
+/// sleeps until a worker beside it hands something to it, or for a tenth of a second.
 ///
 /// If a thread is refused, all workers stop, and the backup, an engine of the same job, runs the batch from a copy of the opening
 /// state.
@@ -67,7 +60,7 @@ pub fn run_tree<H: HasCase + Sync, G: Gate, B: Engine<R>, R: Threads + Wait + Sy
     }
 }
 
-// Runs all workers in threads, and feeds the items meanwhile.
+// Feeds all items, and then runs all workers.
 fn run_all<H: HasCase + Sync, G: Gate, R: Threads + Wait + Sync>(
     rt: &R,
     alloc: Global,
@@ -82,70 +75,22 @@ fn run_all<H: HasCase + Sync, G: Gate, R: Threads + Wait + Sync>(
     let Ok(limits) = limits(alloc, case) else {
         return Ended::Cut(Why::NoMemory);
     };
-    let Ok((feeder, watch)) = words(alloc, limits.as_slice()) else {
+    let Ok((mut feeder, watch)) = words(alloc, limits.as_slice()) else {
         return Ended::Cut(Why::NoMemory);
     };
     let Ok(parkers) = Parkers::new(alloc, case.valid()) else {
         return Ended::Cut(Why::NoMemory);
     };
-    let top = End::Top(case.note());
-    let from = FromEnd(Snapshot::of(&top));
-    started(
+    feed_all(&mut feeder, limits.as_slice(), itags);
+    subtree(
         rt,
         alloc,
         holder,
         gate,
         &parkers,
-        (feeder, limits, itags),
-        top,
+        0,
+        End::Top(case.note()),
         watch,
-        from,
-    )
-}
-
-// Runs all workers in threads, below the given end, and feeds the items that are left meanwhile.
-fn started<H: HasCase + Sync, G: Gate, R: Threads + Wait + Sync>(
-    rt: &R,
-    alloc: Global,
-    holder: &H,
-    gate: &G,
-    parkers: &Parkers,
-    feed: (Feeder, Vec<u64>, u32),
-    top: End,
-    watch: Watch,
-    from: FromEnd,
-) -> Ended
-    requires starts { StartsAt (H.content holder.now) 0 (end_note top) }
-    requires watches { WatchesFrom (H.content holder.now) watch }
-    requires from { from.0.value ≡ top }
-    requires fresh { feed.0.counts ≡ zeros feed.0.limits }
-    requires left { feed.1.items ≡ feed.0.limits }
-    requires one_each { vec_len feed.1 ≡ feed.2 }
-    ensures { Keeps (end_note top) result }
-{
-    let (mut feeder, left, itags) = feed;
-    thread::scope(
-        thread::scope_env(),
-        rt,
-        move |scope| -> Ended
-            requires { IsSync R.row × IsSync H.row × IsSync G.row × StartsAt (H.content holder.now) 0 (end_note top) × WatchesFrom (H.content holder.now) watch
-                × (from.0.value ≡ top) × (feeder.counts ≡ zeros feeder.limits) × (left.items ≡ feeder.limits) × (vec_len left ≡ itags) }
-            ensures { Keeps (end_note top) result }
-        {
-            let Ok(root) = scope.spawn_with(
-                from,
-                move || -> Ended
-                    requires { IsSync R.row × IsSync H.row × IsSync G.row × StartsAt (H.content holder.now) 0 (end_note top)
-                        × WatchesFrom (H.content holder.now) watch }
-                    ensures { Keeps (end_note top) result }
-                { subtree(rt, alloc, holder, gate, parkers, 0, top, watch) },
-            ) else {
-                return Ended::Cut(Why::Refused);
-            };
-            feed_all(&mut feeder, left, itags);
-            parkers.wake_all();
-            root.join(rt)
-        },
     )
 }
 

@@ -46,6 +46,10 @@ fn why(ended: &Ended) -> Why {
     }
 }
 
+fn is_cut(ended: &Ended) -> bool {
+    matches!(ended, Ended::Cut(_))
+}
+
 // What a worker with children and their subtrees hand on, if all came to their ends.
 fn settle<H: HasCase>(
     alloc: Global,
@@ -172,7 +176,11 @@ fn manage<H: HasCase + Sync, G: Gate, R: Threads + Wait + Sync>(
     );
     let left_ended = first.join(rt);
     let right_ended = second.join(rt);
-    settle(alloc, holder, node, given, rest, left_ended, right_ended)
+    let ended = settle(alloc, holder, node, given, rest, left_ended, right_ended);
+    if is_cut(&ended) {
+        parkers.wake_all();
+    }
+    ended
 }
 
 // A worker with its ends and those of its children, and the watches, before any thread is started.
@@ -286,6 +294,7 @@ pub fn subtree<H: HasCase + Sync, G: Gate, R: Threads + Wait + Sync>(
         return leaf(rt, alloc, holder, gate, parkers, node, end, watch);
     };
     let Some(prepared) = prepare(alloc, holder, (node, left, right), end, watch) else {
+        parkers.wake_all();
         return Ended::Cut(Why::NoMemory);
     };
     let Prepared {
@@ -322,6 +331,7 @@ pub fn subtree<H: HasCase + Sync, G: Gate, R: Threads + Wait + Sync>(
                 { subtree(rt, alloc, holder, gate, parkers, left, left_end, left_watch) },
             ) else {
                 end.stop();
+                parkers.wake_all();
                 return Ended::Cut(Why::Refused);
             };
             let Ok(second) = scope.spawn_with(
@@ -345,6 +355,7 @@ pub fn subtree<H: HasCase + Sync, G: Gate, R: Threads + Wait + Sync>(
             ) else {
                 left_upper.stop();
                 end.stop();
+                parkers.wake_all();
                 return Ended::Cut(Why::Refused);
             };
             manage(

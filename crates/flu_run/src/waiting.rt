@@ -3,50 +3,116 @@
 ghost use Rattle.std.specs.Prelude.{◌<◌, length};
 ghost use Rattle.flu_deps.specs.Validated.{plan_of};
 
-use crossbeam_utils::Backoff;
+use crossbeam_utils::CachePadded;
 use flu_deps::Valid;
+use flu_worker::Side;
 use std::alloc::{AllocError, Global};
+use std::hint::spin_loop;
 use std::sync::Wait;
-use std::thread::Parker;
+use std::sync::atomic::{AtomicU64, Ordering};
 use std::time::Duration;
 
-// How often a worker checks again before it sleeps: if windows are short, what it waits for comes in this time.
-const LOOKS: u32 = 200;
+// A worker for which nothing moves looks again at least and at most so often before it sleeps, and so often the first time.
+const FEWEST: u32 = 2;
 
-// A worker that nobody wakes checks again after this many microseconds.
-const MOMENT: u64 = 1000;
+const MOST: u32 = 80;
 
-/// How long a worker has waited: how often it has checked since something moved.
+const FIRST: u32 = 20;
+
+// A worker that nobody wakes looks again after this many milliseconds.
+const LONGEST: u64 = 100;
+
+// What the word of a worker says: nothing was handed to it since it last looked; something was; or it sleeps, or is about to.
+const AWAKE: u64 = 0;
+
+const WOKEN: u64 = 1;
+
+const ASLEEP: u64 = 2;
+
+/// How a worker waits: how often it has looked again since something moved, how often it may before it sleeps, and whether its word
+/// says that it sleeps.
 #[derive(Drop)]
 pub struct Pause {
-    backoff: Backoff,
     looks: u32,
+    most: u32,
+    asleep: bool,
 }
 
 impl Pause {
     /// It has not waited yet.
     pub fn new() -> Pause {
         Pause {
-            backoff: Backoff::new(),
             looks: 0,
+            most: FIRST,
+            asleep: false,
         }
+    }
+
+    // Something moved. If that took looks, they paid, and the next time there may be more of them.
+    fn end(&mut self) {
+        if self.looks > 0 {
+            self.most = self.most.saturating_mul(2).min(MOST);
+        }
+        self.looks = 0;
+        self.asleep = false;
+    }
+
+    // The looks did not pay, since the worker slept: the next time there are fewer of them.
+    fn slept(&mut self) {
+        self.most = (self.most / 2).max(FEWEST);
+        self.looks = 0;
+        self.asleep = false;
     }
 }
 
-// Where the worker of a node sleeps, and the nodes beside it.
+// The word on which the worker of a node sleeps, and the nodes beside it.
 #[derive(Drop)]
 struct Place {
-    parker: Parker,
+    word: AtomicU64,
     above: Option<u32>,
     below: Option<(u32, u32)>,
 }
 
+impl Place {
+    // Wakes the worker. If it is not asleep, it looks once more before it sleeps.
+    fn wake(&self) {
+        let word = &self.word;
+        if word.load(Ordering::SeqCst) != WOKEN && word.swap(WOKEN, Ordering::SeqCst) == ASLEEP {
+            word.wake_one();
+        }
+    }
+
+    // From now on the worker has to be woken, unless it was since it last looked. Returns whether it has to be.
+    fn lie_down(&self) -> bool {
+        let word = &self.word;
+        let lies = word
+            .compare_exchange(AWAKE, ASLEEP, Ordering::SeqCst, Ordering::SeqCst)
+            .is_ok();
+        if !lies {
+            self.get_up();
+        }
+        lies
+    }
+
+    // The worker is about to look.
+    fn get_up(&self) {
+        self.word.store(AWAKE, Ordering::SeqCst);
+    }
+
+    // The worker sleeps until it is woken, or for the longest time.
+    fn sleep<R: Wait>(&self, rt: &R) {
+        let longest = Duration::from_millis(LONGEST);
+        self.word.park_timeout(rt, ASLEEP as u32, longest);
+        self.get_up();
+    }
+}
+
 /// Where the workers of a plan sleep while nothing moves, and who wakes whom.
 ///
-/// No promise depends on it: a worker that nobody wakes checks again by itself.
+/// No promise depends on it: a worker that nobody wakes looks again by itself.
 #[derive(Drop)]
 pub struct Parkers {
-    places: Vec<Place>,
+    places: Vec<CachePadded<Place>>,
 }
 
 impl Parkers {
@@ -54,13 +120,16 @@ impl Parkers {
     pub fn new(alloc: Global, plan: &Valid) -> Result<Parkers, AllocError> {
         let mut places = Vec::new(alloc);
         for node in 0..plan.count() {
-            places.push(place_at(plan, node))?;
+            places.push(CachePadded::new(place_at(plan, node)))?;
         }
         Ok(Parkers { places })
     }
 
-    /// Wakes the worker above a node, if there is one.
-    pub fn wake_above(&self, node: u32) {
+    /// Wakes the worker above a node, if there is one, where something was handed to it.
+    pub fn wake_above(&self, node: u32, handed: bool) {
+        if !handed {
+            return;
+        }
         if let Some(place) = self.places.get(node as usize) {
             if let Some(above) = place.above {
                 self.wake(above);
@@ -68,48 +137,66 @@ impl Parkers {
         }
     }
 
-    /// Wakes the workers of a node's children, if it has any.
-    pub fn wake_below(&self, node: u32) {
+    /// Wakes the worker of a node's child, if it has children, where something was handed to it.
+    pub fn wake_below(&self, node: u32, side: Side, handed: bool) {
+        if !handed {
+            return;
+        }
         if let Some(place) = self.places.get(node as usize) {
             if let Some((left, right)) = place.below {
-                self.wake(left);
-                self.wake(right);
+                match side {
+                    Side::Left => self.wake(left),
+                    Side::Right => self.wake(right),
+                }
             }
         }
     }
 
-    // Wakes the worker of a node. If it is not asleep, it does not fall asleep the next time it would.
     fn wake(&self, node: u32) {
         if let Some(place) = self.places.get(node as usize) {
-            place.parker.unpark();
+            place.wake();
         }
     }
 
     /// Wakes all workers.
     pub fn wake_all(&self) {
         for place in &self.places {
-            place.parker.unpark();
+            place.wake();
         }
     }
 
-    /// Waits a little longer each time, until something moves again; finally the worker sleeps until it is woken, for a moment at
-    /// most.
+    /// What the worker of a node does between two turns: nothing if something moved. If nothing did, it looks again at once, until
+    /// that was often enough; then it says that it sleeps, looks once more, and sleeps until it is woken.
     pub fn wait<R: Wait>(&self, rt: &R, node: u32, pause: &mut Pause, moved: bool) {
         if moved {
-            pause.backoff.reset();
-            pause.looks = 0;
-        } else if pause.looks < LOOKS {
-            pause.backoff.snooze();
+            self.go_on(node, pause);
+        } else if pause.looks < pause.most {
             pause.looks += 1;
+            spin_loop();
         } else {
-            self.sleep(rt, node);
+            self.rest(rt, node, pause);
         }
     }
 
-    // The worker of a node sleeps until it is woken, for a moment at most.
-    fn sleep<R: Wait>(&self, rt: &R, node: u32) {
+    // Something moved.
+    fn go_on(&self, node: u32, pause: &mut Pause) {
+        if pause.asleep {
+            if let Some(place) = self.places.get(node as usize) {
+                place.get_up();
+            }
+        }
+        pause.end();
+    }
+
+    // The worker looked again often enough.
+    fn rest<R: Wait>(&self, rt: &R, node: u32, pause: &mut Pause) {
         if let Some(place) = self.places.get(node as usize) {
-            place.parker.park_timeout(rt, Duration::from_micros(MOMENT));
+            if pause.asleep {
+                place.sleep(rt);
+                pause.slept();
+            } else {
+                pause.asleep = place.lie_down();
+            }
         }
     }
 }
@@ -118,7 +205,7 @@ fn place_at(plan: &Valid, node: u32) -> Place
     requires { node < length (plan_of plan.now).nodes }
 {
     Place {
-        parker: Parker::new(),
+        word: AtomicU64::new(AWAKE),
         above: plan.parent(node),
         below: plan.kids(node),
     }

@@ -1,6 +1,0 @@
-use Rattle.std.proofs.Common.{◌<◌, ◌≤◌, ℕ}
-use Rattle.std.specs.Prelude.{slice_index}
-use Rattle.flu_run.proofs.feeding.greatest.Given as goal
-
-abbrev pub invariant-loop-n : goal.invariant-loop-n
-invariant-loop-n l = (i : ℕ) → i < l.n-index → slice_index l.numbers i ≤ l.most
