@@ -24,3 +24,4 @@ pub mod Bounds
 pub mod RefillEnds
 pub mod Cuts
 pub mod Fronts
+pub mod Later

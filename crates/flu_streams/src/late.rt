@@ -1,7 +1,7 @@
 //! How a time is tested, and an item inserted, among those that are held of a source; and how items are counted.
 
-ghost use Rattle.std.specs.Prelude.{◌≡◌, ◌==◌, ◌≤◌, false, [], is_some, unwrap_or, IsTrue, None, OnOk, OnErr, IfOk, IfErr};
-ghost use Rattle.std.specs.List.{list_any};
+ghost use Rattle.std.specs.Prelude.{◌≡◌, ◌==◌, ◌≤◌, false, [], nat_le, is_some, unwrap_or, IsTrue, None, OnOk, OnErr, IfOk, IfErr};
+ghost use Rattle.std.specs.List.{list_all, list_any};
 ghost use Rattle.flu_lemmas.specs.Late.{put_late, rises_from};
 ghost use Rattle.flu_streams.specs.Lists.{item_time, times_in};
 ghost use Rattle.flu_streams.specs.LoopHeld.{held_with, test_held};
@@ -18,7 +18,7 @@ use std::alloc::AllocError;
 const MOST_ITEMS: u64 = 16_777_216;
 
 /// Tests a time among the items that are held: none of them has it, and it is above the greatest one that was read, `last`, less
-/// the slack.
+/// the slack. Above that none of them is looked at.
 pub(crate) fn test_time(
     items: &mut TimedItems,
     last: Option<u64>,
@@ -27,6 +27,7 @@ pub(crate) fn test_time(
 ) -> Result<(), RowRefusal>
     requires rising { IsTrue (rises_from item_time 0 items.old) }
     requires none { last ≡ None → items.old ≡ [] }
+    requires within { IsTrue (list_all (λ item. nat_le (item_time item) (unwrap_or last 0)) items.old) }
     ensures same { items.new ≡ items.old }
     ensures passes { OnOk result (test_behind slack (times_in items.old) last time ≡ None) }
     ensures apart { OnOk result (list_any (λ t. t == time) (times_in items.old) ≡ false) }
@@ -35,8 +36,11 @@ pub(crate) fn test_time(
     let Some(last) = last else {
         return Ok(());
     };
+    if time > last {
+        return Ok(());
+    }
     let late = RowRefusal::Fault(Why::Disordered { last, got: time });
-    if time <= last && last - time >= slack {
+    if last - time >= slack {
         return Err(late);
     }
     match items.has(time) {
