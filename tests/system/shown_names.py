@@ -7,7 +7,7 @@ The program's standard error is a terminal of its own, whose other end is read."
 
 import errno
 
-from system import Folder, Watch, need, program
+from system import JOB, Folder, Watch, need, program
 
 program()
 watch = Watch()
@@ -17,9 +17,12 @@ STEERING = ["\x1b[31m", "\x07", "\u009b", "\u202e", "\u2066", "\u200b", "\u200f"
 for steering in STEERING:
     name = f"a{steering}b"
     folder.write(name, "cell count sum\ncell count sum\n")
-    for words in (["fold", name], ["check", f"no{name}"], ["valid", "job", name], ["run", "job", name], ["run", "job", "--save", f"nowhere/{name}"]):
+    folder.write(f"conflict{name}", JOB.replace("depends view tick\n", ""))
+    folder.write("absent", JOB.replace("a.csv", f"a{steering}b.csv".translate({code: "b" for code in range(32)})))
+    calls = [["fold", name], ["check", f"no{name}"], ["valid", "job", name], ["run", "job", name], ["run", "job", "--save", f"nowhere/{name}"]]
+    for words in (*calls, ["check", f"conflict{name}"], ["check", "absent"]):
         status, _, told = folder.at_a_terminal(*words)
-        need(status in (3, 5, 7, 12), f"{words}: {status}")
+        need(status in (0, 3, 4, 5, 7, 12) and (status == 0) == (words[-1] == "absent"), f"{words}: {status}")
         need("b" in told and not any(c in told for c in steering if not c.isascii() or c < " "), f"{words}: {told!r}")
 status, _, told = folder.at_a_terminal("fold", "a\x1b[31mb")
 need("  a?[31mb, line 2, column 6\n" in told, f"`?` stands for it: {told!r}")

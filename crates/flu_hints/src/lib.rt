@@ -2,6 +2,7 @@
 #![tactic(auto)]
 
 mod conflicts;
+mod endings;
 mod hints;
 mod jobs;
 mod limits;
@@ -11,11 +12,15 @@ mod plans;
 mod reasons;
 mod row_reasons;
 mod rows;
+mod sizes;
+mod spans;
 mod texts;
 mod traces;
 mod unused;
 mod words;
 
+pub use endings::{Report, report_hint};
 pub use hints::hint;
 pub use limits::limit_place;
 pub use reasons::Failure;
+pub use sizes::bytes_to_read;
