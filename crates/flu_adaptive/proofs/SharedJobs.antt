@@ -24,6 +24,9 @@ program_sync kind = struct_sync (declared.shape Program.the_type) (
   ),
 )
 
+pub whole_program_sync : IsSync Kind.the_row → IsSync Program.the_row
+whole_program_sync kind = recorded_sync _ _ _ (Program.the_type.to_one) (program_sync kind)
+
 -- a job, whose one field is the program
 pub checked_sync : IsSync Kind.the_row → IsSync Checked.the_row
 checked_sync kind = recorded_sync _ _ _ (Checked.the_type.to_one) (struct_sync (declared.shape Checked.the_type) (program_sync kind, tt))

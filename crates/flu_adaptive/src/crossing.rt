@@ -7,6 +7,7 @@ ghost use Rattle.flu_fork.specs.contracts.tree_tables.TreeTables as TablesRow;
 ghost use Rattle.flu_cells.specs.contracts.state.State as StateRow;
 ghost use Rattle.flu_model.specs.contracts.jobs.Act as ActRow;
 ghost use Rattle.flu_model.specs.contracts.jobs.Kind as KindRow;
+ghost use Rattle.flu_model.specs.contracts.jobs.Program as ProgramRow;
 ghost use Rattle.flu_model.specs.contracts.streams.Streams as StreamsRow;
 ghost use Rattle.flu_adaptive.specs.contracts.ways.Way as WayRow;
 
@@ -14,7 +15,7 @@ use crate::ways::Way;
 use flu_cells::State;
 use flu_deps::{Checked, Valid};
 use flu_fork::TreeTables;
-use flu_model::{Act, Kind, Streams};
+use flu_model::{Act, Kind, Program, Streams};
 
 // Threads may share values of the type.
 fn is_shared<T: Sync>()
@@ -38,6 +39,14 @@ fn kinds_are_shared()
 {
     acts_are_shared();
     is_shared::<Kind>();
+}
+
+/// Threads may share the program of a job.
+pub fn programs_are_shared()
+    ensures { IsSync ProgramRow.the_row }
+{
+    kinds_are_shared();
+    is_shared::<Program>();
 }
 
 /// Threads may share an accepted job.

@@ -10,3 +10,4 @@ mod observing;
 mod ways;
 
 pub use adaptive::Adaptive;
+pub use crossing::programs_are_shared;
