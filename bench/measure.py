@@ -8,8 +8,8 @@ kept, so that a later call measures at once. Commands that are compared alternat
 saves and adapt), and each figure is the minimum: wall time and, in brackets, processor time, in seconds; of memory it is the maximum.
 The reports of commands that are compared have to be the same. The words after `--` are put before each command, as `chrt -r 1` on a
 machine that does other work too, or `taskset -c 0,1` for two processors. `--part N` makes an N-th of the rows, to try a measurement. It
-needs gawk and GNU time; items and fold also need mawk, fold rustc, leaf, planning and prices valgrind, planning the kit, and lines a C
-compiler.
+needs gawk and GNU time; items and fold also need mawk, fold rustc, leaf, planning and prices valgrind, planning and leaves the kit,
+and lines a C compiler.
 
 """
 
@@ -423,7 +423,7 @@ def by_a_program(name):
 
 
 # The crates that a program of `by_a_program` may use.
-USED = "flu_model flu_cells flu_seq flu_outside flu_report flu_parse flu_deps flu_check flu_planner flu_streams".split()
+USED = "flu_model flu_cells flu_seq flu_outside flu_report flu_parse flu_deps flu_check flu_planner flu_streams flu_fork flu_worker flu_run".split()
 
 
 def counted(bench, name, words):
@@ -534,6 +534,13 @@ def leaf(bench):
         ("a leaf's turn in all", "leaf::turn"),
     ):
         row(what, f"{each(name):.0f}", f"{each(name) / update:.1f}")
+
+
+@measurement("An event at a leaf, by how many itags it has; built with checks")
+def leaves(bench):
+    table("Itags", "Who handles the events", "times the fold")
+    for itags, folded, who, took in re.findall(r"(\d+) itags: fold (\d+) ns, (.*) (\d+) ns", by_a_program("leaves.txt")):
+        row(itags, who, f"{int(took) / int(folded):.1f}")
 
 
 def main():
