@@ -283,6 +283,30 @@ def go_on(page, folder):
     same(folder.read("report.csv"), report, "the report without its truncated last line")
 
 
+def how_far(page, folder):
+    need(re.fullmatch(r"read \d+\.\d of \d+\.\d MB, \d+ %, \d+\.\d MB/s\n", page.block("read ")), "the line that a terminal shows")
+    report = folder.quiet("flumina fold rides.job")
+    out, err = folder.call(page.code("flumina --progress fold rides.job 2> log"))
+    same(out + err, report, "a line on what was read leaves the report as it is")
+    form, shown = r"  read (\d+) bytes in \d+\.\d s, \d+\.\d MB/s\n", page.block("  read ")
+    found = re.fullmatch(form, folder.read("log"))
+    need(found and re.fullmatch(form, shown), f"the closing line, {folder.read('log')}")
+    read = sum(len(folder.read(name)) for name in ("rides.job", "north.csv", "south.csv", "days.csv"))
+    need(found[1] == re.fullmatch(form, shown)[1] == str(read), f"{read} bytes were read: {folder.read('log')}")
+    same(folder.quiet(page.code("flumina --no-progress fold rides.job")), report, "the same without it")
+
+
+def missing_lines(page, folder):
+    days = (page.code("1772495999,day"), page.code("1772582399,day"), "end")
+    folder.write(page.code("seconds.csv"), "".join(f"{it}\n" for it in days))
+    folder.edit("rides.job", page.code("seconds.job"), (page.code('"days.csv"'), page.code('"seconds.csv"')))
+    out, err = folder.call(page.code("flumina --hints fold seconds.job"))
+    same(out + err, page.block("1772495999,day,longest"), "what is not in a report")
+    folder.edit("seconds.job", page.code("silent.job"), ('; emit "longest ride {longest} minutes"', ""))
+    out, err = folder.call(page.code("flumina --hints fold silent.job"))
+    same(out + err, page.block("  no line was written"), "what is not in an empty report")
+
+
 def refusals(page, folder):
     folder.refused(page.code("flumina flod rides.job"), 2, page.block("flumina: bad words"), terminal=False)
     need("\n  flumina check JOB\n" in folder.call("flumina flod", status=2, terminal=True)[1], "a terminal shows the commands")
@@ -354,7 +378,7 @@ def refusals(page, folder):
 
 def guide(program):
     page, folder = Page("docs/GUIDE.md"), Folder(program)
-    for part in log_to_report, many_keys, late_and_open, live, instead, steps_and_counts, go_on, refusals:
+    for part in log_to_report, many_keys, late_and_open, live, instead, steps_and_counts, go_on, how_far, missing_lines, refusals:
         part(page, folder)
     page.end()
 

@@ -159,5 +159,46 @@ remark(["check", "rides.job"], *UNUSED, ABSENT)
 folder.write("rides.job", RIDES.replace("depends ride day\n", ""))
 mistake(["check", "rides.job"], 4, "flumina: conflict: ride[1] and day on rides[1]\n", DEPENDS, ABSENT)
 folder.write("empty.job", "")
-remark(["check", "empty.job"], "  the job has no source: it reads nothing and writes nothing\n")
+for words in (["check", "empty.job"], ["fold", "empty.job"], ["run", "empty.job"]):
+    remark(words, "  the job has no source: it reads nothing and writes nothing\n")
+
+# What was read and is not in the report.
+job(RIDES)
+remark(["fold", "rides.job"])
+FLUSHED = RIDES.replace('; emit "longest ride {longest} minutes"', "")
+job(FLUSHED, days_csv="1,day\nend\n", north_csv="485000,ride[1],12\n530000,ride[2],34\nend\n")
+for words in (["fold", "rides.job"], ["run", "rides.job"]):
+    remark(
+        words,
+        "  no line was written; only these kinds can write one: day\n",
+        "  source north: 2 events, at 485000 to 530000\n",
+        "  source clock: 1 event, at 1\n",
+        "  kind day came once, at 1; events after that: 2\n",
+        "  not empty at the end: rides at 2 keys, longest\n",
+        "  the times of clock end at 1, those of north begin at 485000: are they in the same unit?\n",
+    )
+job(FLUSHED, days_csv="end\n", north_csv="end\n")
+remark(
+    ["fold", "rides.job"],
+    "  no line was written; only these kinds can write one: day\n",
+    "  source north: no event\n",
+    "  source clock: no event\n",
+    "  no event of kind day came\n",
+)
+job(RIDES, north_csv=NORTH.replace("end\n", "1500,ride[2],3\n1600,ride[2],4\nend\n"))
+LOST = ["  2 events came after the last line, at 1440; the last of them is at 1600\n", "  not empty at the end: rides at 1 key, longest\n"]
+for words in (["fold", "rides.job"], ["run", "rides.job"]):
+    remark(words, *LOST)
+job(RIDES.replace('flush rides "station {key}: {cell} rides"; ', "").replace("; clear longest", ""))
+shown = folder.call("--hints", "fold", "rides.job")[2].decode()
+need(shown == "  no event came after the last line, at 1440\n  not empty at the end: rides at 2 keys, longest\n", f"asked: {shown!r}")
+need(folder.at_a_terminal("fold", "rides.job")[2] == "", "nothing that was lost")
+job(RIDES.replace('flush rides "station {key}: {cell} rides"; emit "longest ride {longest} minutes"; ', ""))
+remark(["fold", "rides.job"], "  the job has no emit and no flush: it writes nothing\n")
+
+# The plan that `--adapt` writes can be kept as it is, whatever the report lacks.
+job(RIDES, north_csv=NORTH.replace("end\n", "1500,ride[2],3\nend\n"))
+for words in (["run", "rides.job", "--adapt"], ["--hints", "run", "rides.job", "--adapt"]):
+    status, _, plan = folder.call(*words)
+    need(status == 0 and plan.startswith(b"node ") and b"event" not in plan, f"{words}: {plan}")
 print("mistakes: as it should be")

@@ -1,19 +1,23 @@
 //! The call of the program.
 
-use crate::asking::{Asked, environment_asks, take_hint_word};
+use crate::asking::{Asked, environment_asks, take_asking_words};
 use crate::help;
-use crate::words::{call_of, words_of};
-use flu_adapt::{HostFiles, HostSink, Standard, StandardStream};
-use flu_hints::Failure;
-use flu_outside::{Files, MemSink, Sink, write_all};
+use crate::progress::{Progress, Shown};
+use crate::watched::{WatchedFiles, WatchedWriter};
+use crate::words::{call_of, files_of, words_of};
+use flu_adapt::{FileFailure, HostFiles, HostSink, Standard, StandardStream};
+use flu_hints::{Failure, Report, bytes_to_read, report_hint};
+use flu_outside::{Files, MemSink, Sink};
 use flu_seq::OpenGate;
 use flu_top::flumina;
+use std::alloc::AllocError;
 use std::env::Env;
 use std::io::{IsTerminal, Write};
 use std::process::ExitCode;
 use std::sync::Wait;
 use std::thread::Threads;
-use std::{rt, str};
+use std::time::Clock;
+use std::{io, rt, str};
 
 /// The status if a file failed, as the proved call has it.
 const READ_FAULT: u8 = 7;
@@ -28,69 +32,159 @@ const NO_MEMORY: u8 = 9;
 /// bytes, in at most 15 nodes.
 const LINE_ROOM: usize = 32_768;
 
+/// Whether hints are written.
+#[derive(Clone, Copy)]
+struct Hints {
+    /// Whether they are wanted.
+    are_wanted: bool,
+    /// Whether a word or the environment asks for them.
+    are_asked: bool,
+}
+
 /// Does what the words of the call say with the files of the system, as `flu_top` has it, and answers the status. `out` and `err` are
-/// standard output and standard error, and `process` is the number of the process. Hints are written if the first word asks for them, or
-/// the environment, or, if neither says anything, if standard error is a terminal.
+/// standard output and standard error, and `process` is the number of the process. Hints are written if a word before the command asks
+/// for them, or the environment, or, if neither says anything, if standard error is a terminal; and if it is one, a line there says how
+/// much was read, unless a word asks for none.
 pub fn answer_call<
-    R: rt::Files + Env + AllocGlobal + Threads + Wait + Sync,
-    O: Write + Drop,
+    R: rt::Files + Env + Clock + AllocGlobal + Threads + Wait + Sync,
+    O: Write + IsTerminal + Drop,
     E: Write + IsTerminal + Drop,
 >(rt: &R, out: O, err: E, process: u32) -> ExitCode {
     let Some(words) = words_of(rt) else {
         return ExitCode::from(NO_MEMORY);
     };
-    let Asked { hints, command } = take_hint_word(words.as_slice());
-    let is_for_a_person = hints.unwrap_or(err.is_terminal() || environment_asks(rt));
-    let mut files = HostFiles::of_program(rt, call_of(rt.alloc(), command, process));
-    let mut out = HostSink::new(StandardStream::new(rt, Standard::Output, out));
-    let mut err = HostSink::new(StandardStream::new(rt, Standard::Error, err));
-    let status = if is_for_a_person {
-        answer_a_person(rt, command, &mut files, &mut out, &mut err)
+    let asked = take_asking_words(words.as_slice());
+    let command = asked.command;
+    let environment = environment_asks(rt);
+    let hints = Hints {
+        are_wanted: asked.hints.unwrap_or(environment || err.is_terminal()),
+        are_asked: asked.hints.unwrap_or(environment),
+    };
+    let shown = shown_of(rt, asked, out.is_terminal(), err.is_terminal());
+    let files = HostFiles::of_program(rt, call_of(rt.alloc(), command, process));
+    let out = StandardStream::new(rt, Standard::Output, out);
+    let err = StandardStream::new(rt, Standard::Error, err);
+    let status = if hints.are_wanted || shown.live || shown.closing {
+        answer_watched(rt, command, files, out, err, hints, shown)
     } else {
-        answer(rt, command, &mut files, &mut out, &mut err)
+        answer_plainly(rt, command, files, out, err)
     };
     ExitCode::from(status)
 }
 
-// Answers with a hint after the line on err. A failure to make or write the hint changes nothing else.
-fn answer_a_person<R: rt::Files + AllocGlobal + Threads + Wait + Sync, O: Write + Drop, E: Sink>(
+// What is shown of the reading: nothing for a command that does not read sources.
+fn shown_of<R: rt::Files + AllocGlobal>(
+    rt: &R,
+    asked: Asked<'_>,
+    is_out_seen: bool,
+    is_err_seen: bool,
+) -> Shown {
+    let Some((job, plan)) = files_of(asked.command) else {
+        return Shown {
+            live: false,
+            until_report: false,
+            closing: false,
+            total: None,
+        };
+    };
+    let live = is_err_seen && asked.progress.unwrap_or(true);
+    Shown {
+        live,
+        until_report: is_out_seen,
+        closing: asked.progress.unwrap_or(false),
+        total: if live {
+            bytes_to_read(rt, job, plan)
+        } else {
+            None
+        },
+    }
+}
+
+// Answers with the line on err alone.
+fn answer_plainly<
+    R: rt::Files + AllocGlobal + Threads + Wait + Sync,
+    O: Write + Drop,
+    E: Write + Drop,
+>(rt: &R, words: &[String], mut files: HostFiles<&R>, out: O, err: E) -> u8 {
+    let mut out = HostSink::new(out);
+    let mut err = HostSink::new(err);
+    answer(rt, words, &mut files, &mut out, &mut err)
+}
+
+// Answers with a line on what is read meanwhile, and a hint after the line on err. A failure to make or write these changes nothing else.
+fn answer_watched<
+    R: rt::Files + Clock + AllocGlobal + Threads + Wait + Sync,
+    O: Write + Drop,
+    E: Write + Drop,
+>(
     rt: &R,
     words: &[String],
-    files: &mut HostFiles<&R>,
-    out: &mut HostSink<O>,
-    err: &mut E,
+    files: HostFiles<&R>,
+    out: O,
+    err: E,
+    hints: Hints,
+    shown: Shown,
 ) -> u8 {
     let Ok(mut line) = MemSink::with_room(rt.alloc(), LINE_ROOM) else {
-        return answer(rt, words, files, out, err);
+        return answer_plainly(rt, words, files, out, err);
     };
-    let status = answer(rt, words, files, out, &mut line);
-    let _ = write_all(err, line.bytes());
-    let Ok(text) = str::from_utf8(line.bytes()) else {
-        return status;
-    };
-    let failure = last_failure(status, files, out);
-    if let Ok(hint) = flu_hints::hint(rt, words, status, text, failure) {
-        let _ = write_all(err, hint.as_str().as_bytes());
+    let progress = Progress::new(rt, rt.alloc(), err, shown);
+    let mut files = WatchedFiles::new(files, &progress);
+    let mut out = HostSink::new(WatchedWriter::new(out, &progress));
+    let status = answer(rt, words, &mut files, &mut out, &mut line);
+    progress.end();
+    progress.say(line.bytes());
+    if hints.are_wanted {
+        let failure = failure_of(status, files.files().last_failure(), out.last_failure());
+        let report = Report {
+            is_empty: !progress.has_report(),
+            is_asked: hints.are_asked,
+        };
+        if let Ok(hint) = hint_of(rt, words, status, line.bytes(), failure, report) {
+            progress.say(hint.as_str().as_bytes());
+        }
     }
+    progress.close();
     status
 }
 
-// What failed, if the status says that a file or standard output did.
-fn last_failure<'t, R: rt::Files + AllocGlobal, O: Write>(
+// The hint after a line, and what a report does not show, unless the line is the text of a plan, which may be kept as it is.
+fn hint_of<R: rt::Files + AllocGlobal>(
+    rt: &R,
+    words: &[String],
     status: u8,
-    files: &'t HostFiles<R>,
-    out: &HostSink<O>,
-) -> Option<Failure<'t>> {
+    line: &[u8],
+    failure: Option<Failure>,
+    report: Report,
+) -> Result<String, AllocError> {
+    let Ok(text) = str::from_utf8(line) else {
+        return Ok(String::new(rt.alloc()));
+    };
+    if status == 0 && text.is_empty() {
+        let told = report_hint(rt, &mut HostFiles::new(rt), words, report)?;
+        if !told.is_empty() {
+            return Ok(told);
+        }
+    }
+    flu_hints::hint(rt, words, status, text, failure)
+}
+
+// What failed, if the status says that a file or standard output did.
+fn failure_of(
+    status: u8,
+    file: Option<&FileFailure>,
+    out: Option<io::Error>,
+) -> Option<Failure<'_>> {
     match status {
         READ_FAULT | SAVE_FAULT => {
-            let failure = files.last_failure()?;
+            let failure = file?;
             Some(Failure {
                 name: failure.name.as_str(),
                 error: failure.error,
             })
         }
         help::WRITE_FAULT => {
-            let error = out.last_failure()?;
+            let error = out?;
             Some(Failure {
                 name: "standard output",
                 error,

@@ -4,8 +4,10 @@
 mod asking;
 mod calling;
 mod help;
+mod progress;
 #[cfg(test)]
 mod tests;
+mod watched;
 mod words;
 
 pub use calling::answer_call;

@@ -74,3 +74,13 @@ pub(crate) fn call_of(alloc: Global, words: &[String], process: u32) -> ProgramC
         unflushed,
     }
 }
+
+/// The names of the job and, if it names one, of the plan, of a command that reads sources; none for any other words.
+pub(crate) fn files_of(words: &[String]) -> Option<(&str, Option<&str>)> {
+    match read_words(words) {
+        Ok(Command::Fold { job }) => Some((job, None)),
+        Ok(Command::Run { job, plan, .. }) => Some((job, plan)),
+        Ok(Command::Simulate { job, plan, .. }) => Some((job, Some(plan))),
+        _ => None,
+    }
+}

@@ -1,0 +1,82 @@
+//! Files and writers of which someone is told how much is read, and when the first bytes are written.
+
+use flu_outside::{Files, PutFault, TakeFault};
+use std::io;
+use std::io::Write;
+
+/// Who is told what a call reads and writes, as it does.
+pub(crate) trait Watch {
+    /// So many bytes were taken from a file.
+    fn took(&self, count: usize);
+
+    /// Bytes are about to be written.
+    fn writes(&self);
+}
+
+/// Files that tell how many bytes each take gave.
+#[derive(Drop)]
+pub(crate) struct WatchedFiles<'w, F: Files + Drop, W: Watch> {
+    files: F,
+    watch: &'w W,
+}
+
+impl<'w, F: Files + Drop, W: Watch> WatchedFiles<'w, F, W> {
+    /// The files, which tell this watch.
+    pub fn new(files: F, watch: &'w W) -> WatchedFiles<'w, F, W> {
+        WatchedFiles { files, watch }
+    }
+
+    /// The files themselves.
+    pub fn files(&self) -> &F {
+        &self.files
+    }
+}
+
+impl<'w, F: Files + Drop, W: Watch> Files for WatchedFiles<'w, F, W> {
+    ghost left = { λ w. F.left w.files };
+
+    ghost faults = { λ w. F.faults w.files };
+
+    ghost put_faults = { λ w. F.put_faults w.files };
+
+    fn take(&mut self, name: &str, buf: &mut [u8]) -> Result<usize, TakeFault> {
+        let taken = self.files.take(name, buf);
+        if let Ok(count) = taken {
+            self.watch.took(count);
+        }
+        taken
+    }
+
+    fn put(&mut self, name: &str, bytes: Vec<u8>) -> Result<(), PutFault> {
+        self.files.put(name, bytes)
+    }
+
+    ghost shared = { λ w. F.shared w.files };
+
+    ghost shared_puts = { λ w. F.shared_puts w.files };
+}
+
+/// A writer that tells before each write.
+#[derive(Drop)]
+pub(crate) struct WatchedWriter<'w, O: Write + Drop, W: Watch> {
+    writer: O,
+    watch: &'w W,
+}
+
+impl<'w, O: Write + Drop, W: Watch> WatchedWriter<'w, O, W> {
+    /// The writer, which tells this watch.
+    pub fn new(writer: O, watch: &'w W) -> WatchedWriter<'w, O, W> {
+        WatchedWriter { writer, watch }
+    }
+}
+
+impl<'w, O: Write + Drop, W: Watch> Write for WatchedWriter<'w, O, W> {
+    fn write(&mut self, buf: &[u8]) -> io::Result<usize> {
+        self.watch.writes();
+        self.writer.write(buf)
+    }
+
+    fn flush(&mut self) -> io::Result<()> {
+        self.writer.flush()
+    }
+}
