@@ -100,13 +100,16 @@ fn shown_of<R: rt::Files + AllocGlobal>(
     }
 }
 
-// Answers with the line on err alone.
+// Answers with the line on err alone. The files have the same type with a watch and without, here and below: what reads them is then
+// compiled once, and as well as if there were no watch.
 fn answer_plainly<
-    R: rt::Files + AllocGlobal + Threads + Wait + Sync,
+    R: rt::Files + Clock + AllocGlobal + Threads + Wait + Sync,
     O: Write + Drop,
     E: Write + Drop,
->(rt: &R, words: &[String], mut files: HostFiles<&R>, out: O, err: E) -> u8 {
-    let mut out = HostSink::new(out);
+>(rt: &R, words: &[String], files: HostFiles<&R>, out: O, err: E) -> u8 {
+    let watch: Option<&Progress<'_, R, E>> = None;
+    let mut files = WatchedFiles::new(files, watch);
+    let mut out = HostSink::new(WatchedWriter::new(out, watch));
     let mut err = HostSink::new(err);
     answer(rt, words, &mut files, &mut out, &mut err)
 }
@@ -129,8 +132,8 @@ fn answer_watched<
         return answer_plainly(rt, words, files, out, err);
     };
     let progress = Progress::new(rt, rt.alloc(), err, shown);
-    let mut files = WatchedFiles::new(files, &progress);
-    let mut out = HostSink::new(WatchedWriter::new(out, &progress));
+    let mut files = WatchedFiles::new(files, Some(&progress));
+    let mut out = HostSink::new(WatchedWriter::new(out, Some(&progress)));
     let status = answer(rt, words, &mut files, &mut out, &mut line);
     progress.end();
     progress.say(line.bytes());
@@ -140,7 +143,7 @@ fn answer_watched<
             is_empty: !progress.has_report(),
             is_asked: hints.are_asked,
         };
-        if let Ok(hint) = hint_of(rt, words, status, line.bytes(), failure, report) {
+        if let Ok(hint) = hint_of::<R, E>(rt, words, status, line.bytes(), failure, report) {
             progress.say(hint.as_str().as_bytes());
         }
     }
@@ -149,7 +152,7 @@ fn answer_watched<
 }
 
 // The hint after a line, and what a report does not show, unless the line is the text of a plan, which may be kept as it is.
-fn hint_of<R: rt::Files + AllocGlobal>(
+fn hint_of<R: rt::Files + Clock + AllocGlobal, E: Write + Drop>(
     rt: &R,
     words: &[String],
     status: u8,
@@ -161,7 +164,9 @@ fn hint_of<R: rt::Files + AllocGlobal>(
         return Ok(String::new(rt.alloc()));
     };
     if status == 0 && text.is_empty() {
-        let told = report_hint(rt, &mut HostFiles::new(rt), words, report)?;
+        let watch: Option<&Progress<'_, R, E>> = None;
+        let mut files = WatchedFiles::new(HostFiles::new(rt), watch);
+        let told = report_hint(rt, &mut files, words, report)?;
         if !told.is_empty() {
             return Ok(told);
         }

@@ -17,12 +17,12 @@ pub(crate) trait Watch {
 #[derive(Drop)]
 pub(crate) struct WatchedFiles<'w, F: Files + Drop, W: Watch> {
     files: F,
-    watch: &'w W,
+    watch: Option<&'w W>,
 }
 
 impl<'w, F: Files + Drop, W: Watch> WatchedFiles<'w, F, W> {
-    /// The files, which tell this watch.
-    pub fn new(files: F, watch: &'w W) -> WatchedFiles<'w, F, W> {
+    /// The files, which tell this watch, if there is one.
+    pub fn new(files: F, watch: Option<&'w W>) -> WatchedFiles<'w, F, W> {
         WatchedFiles { files, watch }
     }
 
@@ -41,8 +41,10 @@ impl<'w, F: Files + Drop, W: Watch> Files for WatchedFiles<'w, F, W> {
 
     fn take(&mut self, name: &str, buf: &mut [u8]) -> Result<usize, TakeFault> {
         let taken = self.files.take(name, buf);
-        if let Ok(count) = taken {
-            self.watch.took(count);
+        if let Some(watch) = self.watch {
+            if let Ok(count) = taken {
+                watch.took(count);
+            }
         }
         taken
     }
@@ -60,19 +62,21 @@ impl<'w, F: Files + Drop, W: Watch> Files for WatchedFiles<'w, F, W> {
 #[derive(Drop)]
 pub(crate) struct WatchedWriter<'w, O: Write + Drop, W: Watch> {
     writer: O,
-    watch: &'w W,
+    watch: Option<&'w W>,
 }
 
 impl<'w, O: Write + Drop, W: Watch> WatchedWriter<'w, O, W> {
-    /// The writer, which tells this watch.
-    pub fn new(writer: O, watch: &'w W) -> WatchedWriter<'w, O, W> {
+    /// The writer, which tells this watch, if there is one.
+    pub fn new(writer: O, watch: Option<&'w W>) -> WatchedWriter<'w, O, W> {
         WatchedWriter { writer, watch }
     }
 }
 
 impl<'w, O: Write + Drop, W: Watch> Write for WatchedWriter<'w, O, W> {
     fn write(&mut self, buf: &[u8]) -> io::Result<usize> {
-        self.watch.writes();
+        if let Some(watch) = self.watch {
+            watch.writes();
+        }
         self.writer.write(buf)
     }
 
