@@ -13,6 +13,7 @@ pub mod AsValid
 pub mod RunReports
 pub mod Checkpoints
 pub mod Roundings
+pub mod Beside
 pub mod Runnings
 pub mod Simulations
 pub mod Replays

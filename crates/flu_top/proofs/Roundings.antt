@@ -27,8 +27,8 @@ use Rattle.flu_streams.specs.declared.border.Border.TheVariants.{At, Closed}
 use Rattle.flu_streams.specs.declared.faults.SourceFault.{SourceFault}
 use Rattle.flu_streams.specs.Counts.{grown, grown_in_turn, no_counts, OneMoreInTurn}
 use Rattle.flu_streams.specs.Files.{files_of, LeavesOthers, AreReadOut}
-use Rattle.flu_streams.specs.Holding.{AreHeldBehind, AreInAll, ClosedAreReadOut, AreClosed, IsNewBorder, HidesNoRoundFault}
-use Rattle.flu_streams.specs.Rounds.{IsRound, IsRoundFault, IsPassed, LawOfNoRows, Reads, Starts, Turn, defect_in, is_enough, lists_between}
+use Rattle.flu_streams.specs.Holding.{Holding, AreHeldBehind, AreInAll, ClosedAreReadOut, AreClosed, IsNewBorder, HidesNoRoundFault}
+use Rattle.flu_streams.specs.Rounds.{ComesFrom, IsRound, IsRoundFault, IsPassed, LawOfNoRows, Reads, Starts, Turn, defect_in, is_enough, lists_between}
 use Rattle.flu_rounds.specs.declared.faults.RoundsFault.{RoundsFault}
 use Rattle.flu_rounds.specs.declared.faults.RoundsFault.TheVariants.{Source as SourceDefect, ReadFault, WriteFault, NoMemory}
 use Rattle.flu_rounds.specs.Coming.{HasRunFrom, IsStateUpTo, LawOfBeginningFrom, LawOfGoingOnFrom, LawOfLastFrom, LawOfDefectFrom, LawOfTextAndState}
@@ -47,7 +47,7 @@ use Rattle.flu_top.specs.Products.{line_said}
 use Rattle.flu_top.specs.Reading.{HaveWritten, MeetsDefect, ReportsNext, put_by, greatest_border}
 use Rattle.flu_top.specs.Running.{GoesOn, StaysWithin, IsAllRun, HasFailed, RanAll, RanToDefect, RanSome, RanInto, RanUnsaved, EndsRounds, Steps, PutsAt, PutFailed}
 use Rattle.flu_top.specs.Running.{IsSavedTo, border_at, borders_above, put_behind}
-use Rattle.flu_top.specs.Running.{IsPlanSaid, SaysCounts, SaysPlan, all_lists}
+use Rattle.flu_top.specs.Running.{IsPlanSaid, IsWithin, SaysCounts, SaysPlan, all_lists}
 use Rattle.flu_top.specs.Starting.{IsNoSource, LeavesPut, LeavesAnything}
 use Rattle.flu_top.specs.Taking.{TookOnly, TookFrontsBut}
 
@@ -236,13 +236,6 @@ pub record IsRun (note note' : AdaptiveNote) (old new : Standing) (said : Option
   pub read_out : ClosedAreReadOut old.held c.left → ClosedAreReadOut new.held c.left_after
   pub quiet : c.count_after ≡ c.count
 
--- what is known of any round
-pub record IsWithin (old : Standing) (c : Call) : Type 0 where
-  pub fronts : WhereTold c.left c.left_after TookFronts
-  pub others : WhereTold c.left c.left_after (LeavesOthers (files_of old.held.program.sources))
-  pub rise : (n : List ℕ) → c.counts n ≤ c.counts_after n
-  pub puts : SameCounts c.puts c.puts_after
-
 -- what is known of a round that was refused
 pub record IsHalted (old : Standing) (c : Call) (f : RoundsFault) : Type 0 where
   pub fault : IsSourceFault old.held c.left c.left_after f
@@ -271,6 +264,45 @@ told_ends names P None (Some z) told ends = told
 told_ends names P (Some y) None told ends = told
 told_ends names P (Some y) (Some z) told ends = (told, ends)
 
+-- a source's file failed after these lines, which were read in some rounds, whether these were run or not
+pub failed_behind : (p : Program) (o : Opening) (a b d : Option Files) (k l m s u : List ℕ → ℕ) (had has : Option (List ℕ)) (x z : ℕ) (old : Holding)
+    (done : List (List (List Item))) (before : ℕ → List Next) → old.program ≡ p → old.rows ≡ o.rows
+    → WhereTold a b (λ was is. ComesFrom p o.rows (lines_in p was) o.border done old.border before × AreInAll old before is (lines_in p was))
+    → ((n : List ℕ) → k n ≤ l n) → HidesNoRoundFault old b d l m before → HasFailed p o (call a d k m s u had has x z)
+failed_behind p o a b d k l m s u had has x z old done before job number told rise h = record {
+  round = record {
+    done = done;
+    border = old.border;
+    before = before;
+    now = h.now;
+    at = h.at;
+    source = h.source;
+    is = subst (λ (r : Program). slice_get r.sources h.at ≡ Some h.source) job h.is;
+    more = h.more;
+    further = h.further;
+    sound = subst (λ (r : Program). defect_in r.kinds h.source (h.now h.at) ≡ None) job h.sound;
+    few = λ n le. subst (λ (r : ℕ). is_enough r old.border h.source (before h.at ++ take n h.more) ≡ false) number (h.few n le);
+    place = h.place;
+    form = h.form ∙ ap (λ (r : Program). form_of r.version) job;
+    file = h.file;
+    undecided = h.undecided;
+  };
+  rose = rose_behind (k h.source.file) (l h.source.file) (m h.source.file) (rise h.source.file) h.rose;
+  told = told_then _ _ _ a b d
+      (λ was mid is came found.
+      let both = found (lines_in p was) came.1 in
+      record {
+        rounds = came.0;
+        earlier = subst (λ (r : Program). AtEach (λ i s'. i < h.at → (turn : Turn)
+            × Reads r.kinds s' o.rows old.border (lines_in p was i) (before i) (h.now i) turn × IsPassed turn) r.sources)
+            job
+            (subst (λ (n : ℕ). AtEach (λ i s'. i < h.at → (turn : Turn)
+            × Reads old.program.kinds s' n old.border (lines_in p was i) (before i) (h.now i) turn × IsPassed turn)
+            old.program.sources) number both.0);
+        was = both.1;
+      }) told h.told;
+}
+
 -- a run from a start `a`, which has come to files `b`; a round takes it to files `d`
 module _ (adapts : Bool) (p : Program) (note : AdaptiveNote) (o : Opening) (named : Option (List ℕ)) (a b d : Option Files) (k l m s t u : List ℕ → ℕ)
     (had mid has : Option (List ℕ)) (x y z : ℕ) (old : Standing)
@@ -280,7 +312,7 @@ module _ (adapts : Bool) (p : Program) (note : AdaptiveNote) (o : Opening) (name
   others_of_job : WhereTold b d (LeavesOthers (files_of p.sources))
   others_of_job = subst (λ (r : Program). WhereTold b d (LeavesOthers (files_of r.sources))) go.came.program within.others
 
-  stays : StaysWithin p named (call a d k m s u had has x z)
+  pub stays : StaysWithin p named (call a d k m s u had has x z)
   stays = record {
     fronts = told_then (TookFrontsBut (IsSavedTo named)) TookFronts (TookFrontsBut (IsSavedTo named)) a b d
         (λ v w r first second. fronts_join (IsSavedTo named) v w r first (λ name rest other left. second name rest left)) go.within.fronts within.fronts;
@@ -326,7 +358,7 @@ module _ (adapts : Bool) (p : Program) (note : AdaptiveNote) (o : Opening) (name
         (told_both _ (LeavesPut named [] put) a d (laws.defect_state p o.rows a b d old go.written fault go.some go.came met) leaves_on);
   }
 
-  ran_some : Laws o → has ≡ mid → RanSome p o named (call a d k m s u had has x z)
+  pub ran_some : Laws o → has ≡ mid → RanSome p o named (call a d k m s u had has x z)
   ran_some laws nothing = record {
     text = go.written;
     wrote = still nothing;
@@ -341,39 +373,8 @@ module _ (adapts : Bool) (p : Program) (note : AdaptiveNote) (o : Opening) (name
   }
 
   has_failed : HidesNoRoundFault old.held b d l m go.came.before → HasFailed p o (call a d k m s u had has x z)
-  has_failed h = record {
-    round = record {
-      done = go.came.done;
-      border = old.held.border;
-      before = go.came.before;
-      now = h.now;
-      at = h.at;
-      source = h.source;
-      is = subst (λ (r : Program). slice_get r.sources h.at ≡ Some h.source) go.came.program h.is;
-      more = h.more;
-      further = h.further;
-      sound = subst (λ (r : Program). defect_in r.kinds h.source (h.now h.at) ≡ None) go.came.program h.sound;
-      few = λ n le. subst (λ (r : ℕ). is_enough r old.held.border h.source (go.came.before h.at ++ take n h.more) ≡ false) go.came.number (h.few n le);
-      place = h.place;
-      form = h.form ∙ ap (λ (r : Program). form_of r.version) go.came.program;
-      file = h.file;
-      undecided = h.undecided;
-    };
-    rose = rose_behind (k h.source.file) (l h.source.file) (m h.source.file) (go.within.rise h.source.file) h.rose;
-    told = told_then _ _ _ a b d
-        (λ was mid is came found.
-        let both = found (lines_in p was) came.1 in
-        record {
-          rounds = came.0;
-          earlier = subst (λ (r : Program). AtEach (λ i s'. i < h.at → (turn : Turn)
-              × Reads r.kinds s' o.rows old.held.border (lines_in p was i) (go.came.before i) (h.now i) turn × IsPassed turn) r.sources)
-              go.came.program
-              (subst (λ (n : ℕ). AtEach (λ i s'. i < h.at → (turn : Turn)
-              × Reads old.held.program.kinds s' n old.held.border (lines_in p was i) (go.came.before i) (h.now i) turn × IsPassed turn)
-              old.held.program.sources) go.came.number both.0);
-          was = both.1;
-        }) go.came.told h.told;
-  }
+  has_failed h = failed_behind p o a b d k l m s u had has x z old.held go.came.done go.came.before go.came.program go.came.number go.came.told
+      go.within.rise h
 
   rose_on : Rose y z → Rose x z
   rose_on rose = subst (λ (n : ℕ). Rose n z) go.quiet rose

@@ -31,6 +31,7 @@ pub mod Planning
 pub mod Refusing
 pub mod Ending
 pub mod Running
+pub mod ReadingAhead
 pub mod Replays
 pub mod Writing
 pub mod Headline

@@ -4,7 +4,7 @@ use Rattle.std.specs.Prelude.{Result, Ok, Err, Contains, IsTrue, ⊤}
 use Rattle.std.specs.Option.{option_map_or}
 use Rattle.flu_outside.specs.declared.files.PutFault.TheVariants.{Failed, NoMemory as NoMemoryToPut}
 use Rattle.flu_outside.specs.Outside.{Contents as Files, WhereTold, Rose, Puts, SameLeft, SameCounts}
-use Rattle.flu_outside.specs.Taking.{bytes_left, TookAtMost}
+use Rattle.flu_outside.specs.Taking.{bytes_left, TookAtMost, TookFronts}
 use Rattle.flu_outside.specs.Writing.{AppendsAll}
 use Rattle.flu_adaptive.specs.Notes.{AdaptiveNote}
 use Rattle.flu_adaptive.specs.Observed.{IsObservedPlan}
@@ -23,7 +23,7 @@ use Rattle.flu_streams.specs.declared.border.Border.TheVariants.{At, Closed}
 use Rattle.flu_streams.specs.declared.faults.SourceFault.{SourceFault}
 use Rattle.flu_streams.specs.declared.held.Stage.TheVariants.{Filling}
 use Rattle.flu_streams.specs.Counts.{grown, grown_in_turn, no_counts}
-use Rattle.flu_streams.specs.Files.{files_of}
+use Rattle.flu_streams.specs.Files.{files_of, LeavesOthers}
 use Rattle.flu_streams.specs.Good.{lists_of}
 use Rattle.flu_rounds.specs.declared.faults.RoundsFault.TheVariants.{Source, ReadFault, WriteFault, NoMemory}
 use Rattle.flu_rounds.specs.Coming.{CameFrom, lists_above}
@@ -145,6 +145,13 @@ pub record GoesOn (adapts : Bool) (p : Program) (e : AdaptiveNote) (o : Opening)
   pub leaves : WhereTold c.left c.left_after (LeavesPut named [] (put_behind p came.done now.held.border (held now.state)))
   pub within : StaysWithin p named c
   pub quiet : c.count_after ≡ c.count
+  pub puts : SameCounts c.puts c.puts_after
+
+-- what a round takes, whether it is run or not: bytes from the front of the sources' files alone, and no count of takes falls
+pub record IsWithin (old : Standing) (c : Call) : Type 0 where
+  pub fronts : WhereTold c.left c.left_after TookFronts
+  pub others : WhereTold c.left c.left_after (LeavesOthers (files_of old.held.program.sources))
+  pub rise : (n : List ℕ) → c.counts n ≤ c.counts_after n
   pub puts : SameCounts c.puts c.puts_after
 
 -- how many borders there may still be above one

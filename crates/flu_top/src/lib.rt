@@ -1,6 +1,7 @@
 //! The top call: what the program does with its words, its files and its streams.
 #![tactic(auto)]
 
+mod ahead;
 mod backup;
 mod checking;
 mod commands;

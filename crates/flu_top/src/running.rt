@@ -36,6 +36,7 @@ ghost use Rattle.flu_top.specs.Running.{EndsRounds, EndsRun, GoesOn, IsBegun, Is
 ghost use Rattle.flu_top.specs.Starting.{IsNoSource};
 ghost use Rattle.flu_top.specs.Wants.{if_named};
 
+use crate::ahead::{reads_ahead, rounds_ahead};
 use crate::backup::Backup;
 use crate::openings::{Opening, opening_of, same_name};
 use crate::planned::{Planned, planned_by, planned_greedily};
@@ -64,7 +65,7 @@ use std::thread::Threads;
 
 /// Why the rounds of a run ended before the last one.
 #[derive(Clone, Copy, Debug)]
-enum RunFault {
+pub enum RunFault {
     /// A round was not run, or not all of its report was written.
     Round(RoundsFault),
     /// A round's report was written, and its checkpoint could not be put.
@@ -204,7 +205,7 @@ fn run_in_rounds<F: Files, K: Sink, G: Gate, R: Threads + Wait + Sync>(
     ensures written_quiet { result ≢ Err Refusal.WriteFault → K.faults out.new ≡ K.faults out.old }
 {
     let Planned { checked, valid } = planned;
-    match rounds(
+    match all_rounds(
         rt, alloc, files, out, &checked, valid, opening, save, adapts, chooses, gate,
     ) {
         Ok(said) => Ok(said),
@@ -216,6 +217,46 @@ fn run_in_rounds<F: Files, K: Sink, G: Gate, R: Threads + Wait + Sync>(
         Err(RunFault::Round(RoundsFault::NoMemory)) => Err(Refusal::NoMemory),
         Err(RunFault::Unsaved(fault)) => Err(Refusal::from(fault)),
     }
+}
+
+// Runs all rounds of a job's sources, and answers what is said about them: each round is read while the one before it runs, if the run may
+// do so, and otherwise after that.
+fn all_rounds<F: Files, K: Sink, G: Gate, R: Threads + Wait + Sync>(
+    rt: &R,
+    alloc: Global,
+    files: &mut F,
+    out: &mut K,
+    checked: &Checked,
+    valid: Valid,
+    opening: Opening,
+    save: Option<&str>,
+    adapts: bool,
+    chooses: Option<Depth>,
+    gate: &G,
+) -> Result<Option<Said>, RunFault>
+    requires valid { IsValidFor (program_of checked.now) valid }
+    requires opening { IsOpening (program_of checked.now) (plain_opening opening) }
+    requires apart { IsNoSource (option_map (λ name. name.now) save) (program_of checked.now) }
+    ensures ends { EndsRounds adapts (program_of checked.now) (plain_opening opening) (option_map (λ name. name.now) save.entry)
+        (call (F.left files.old) (F.left files.new) (F.faults files.old) (F.faults files.new) (F.put_faults files.old) (F.put_faults files.new)
+        (K.taken out.old) (K.taken out.new) (K.faults out.old) (K.faults out.new)) result }
+    ensures within { StaysWithin (program_of checked.now) (option_map (λ name. name.now) save.entry)
+        (call (F.left files.old) (F.left files.new) (F.faults files.old) (F.faults files.new) (F.put_faults files.old) (F.put_faults files.new)
+        (K.taken out.old) (K.taken out.new) (K.faults out.old) (K.faults out.new)) }
+    ensures quiet { result ≢ Err (RunFault.Round RoundsFault.ReadFault) → SameCounts (F.faults files.old) (F.faults files.new) }
+    ensures puts { result ≢ Err (RunFault.Unsaved PutFault.Failed) → SameCounts (F.put_faults files.old) (F.put_faults files.new) }
+    ensures written_quiet { result ≢ Err (RunFault.Round RoundsFault.WriteFault) → K.faults out.new ≡ K.faults out.old }
+{
+    if let None = save {
+        if reads_ahead(rt, opening.rows.count) {
+            return rounds_ahead(
+                rt, alloc, files, out, checked, valid, opening, adapts, chooses, gate,
+            );
+        }
+    }
+    rounds(
+        rt, alloc, files, out, checked, valid, opening, save, adapts, chooses, gate,
+    )
 }
 
 // Runs all rounds of a job's sources, each of which writes its report, and then puts its checkpoint; and answers what is said about them.
@@ -264,7 +305,7 @@ fn rounds<F: Files, K: Sink, G: Gate, R: Threads + Wait + Sync>(
 }
 
 // The engine of a run in rounds. If a thread is refused, the job is folded.
-fn adaptive_of<'a, G: Gate, R: Threads + Wait + Sync>(
+pub fn adaptive_of<'a, G: Gate, R: Threads + Wait + Sync>(
     rt: &R,
     alloc: Global,
     checked: &'a Checked,
@@ -293,7 +334,7 @@ fn adaptive_of<'a, G: Gate, R: Threads + Wait + Sync>(
 }
 
 // A run before its first round, from its opening.
-fn first(alloc: Global, program: &Program, opening: Opening) -> Result<Rounds, RunFault>
+pub fn first(alloc: Global, program: &Program, opening: Opening) -> Result<Rounds, RunFault>
     requires { IsOpening program.now (plain_opening opening) }
     ensures first { IfOk result (IsFirstFrom program.now opening.rows.count opening.border (held opening.state)) }
     ensures no_memory { IfErr result (λ fault. fault ≡ RunFault.Round RoundsFault.NoMemory) }
@@ -422,7 +463,7 @@ fn round<F: Files, K: Sink, G: Gate, R: Threads + Wait + Sync, B: Engine<R> + Dr
 }
 
 // What is said after a round: the text of the plan in force, if it is the last round and the plan follows the counts.
-fn said_behind<G: Gate, R, B: Engine<R> + Drop>(
+pub fn said_behind<G: Gate, R, B: Engine<R> + Drop>(
     alloc: Global,
     engine: &Adaptive<G, R, B>,
     border: Border,

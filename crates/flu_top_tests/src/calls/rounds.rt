@@ -129,7 +129,8 @@ const CASES: &[Case] = &[
         out: "",
         err: DISORDERED,
     },
-    // the second round takes twice from the first source: its last bytes, and the end
+    // the second round takes twice from the first source: its last bytes, and the end; a run that saves does not read ahead, so the first
+    // round was written
     Case {
         calls: &["run J P"],
         behind: END,
@@ -142,7 +143,7 @@ const CASES: &[Case] = &[
         err: "flumina: read fault",
     },
     Case {
-        calls: &["run J P"],
+        calls: &["run J P --save S", "run J --save S"],
         behind: END,
         reads: READS,
         failing_take: 12,
@@ -153,7 +154,7 @@ const CASES: &[Case] = &[
         err: "flumina: read fault",
     },
     Case {
-        calls: &["run J P"],
+        calls: &["run J P --save S", "run J --save S"],
         behind: END,
         reads: READS,
         failing_take: 13,
@@ -271,6 +272,51 @@ fn a_later_round_fails(rt: HostRuntime) -> Result<(), Fail> {
     let adds = adds(rt.alloc())?;
     for case in cases() {
         check_case(&rt, rt.alloc(), &adds, case)?;
+    }
+    Ok(())
+}
+
+/// A run that reads ahead has not written the first round if a take for the second one fails; on a single processor it does not read
+/// ahead, and has.
+fn check_front<R: Abort + Threads + Wait + Sync>(
+    rt: &R,
+    alloc: Global,
+    adds: &str,
+    words: Words,
+    failing_take: u64,
+) -> Result<(), Fail> {
+    let case = Case {
+        calls: &[],
+        behind: END,
+        reads: READS,
+        failing_take,
+        failing_write: 0,
+        first: usize::MAX,
+        status: 7,
+        out: FIRST,
+        err: "flumina: read fault",
+    };
+    let settings = Settings {
+        failing_take,
+        ..SOUND
+    };
+    let mut files = files_for(alloc, adds, &case)?;
+    set_takes(&mut files, &settings)?;
+    let left = call_with(rt, alloc, words, &mut files, &settings, &OpenGate)?;
+    let out = if left.out.bytes().is_empty() {
+        ""
+    } else {
+        FIRST
+    };
+    assert_left(rt, &left, case.status, out.as_bytes(), case.err);
+    Ok(())
+}
+
+#[test]
+fn a_take_for_the_next_round_fails(rt: HostRuntime) -> Result<(), Fail> {
+    let adds = adds(rt.alloc())?;
+    for take in 12..14 {
+        check_front(&rt, rt.alloc(), &adds, "run J P", take)?;
     }
     Ok(())
 }

@@ -2,7 +2,8 @@ use Rattle.std.proofs.Common.{refl, ap, ◌∙◌, Ok, Err}
 use Rattle.std.specs.Prelude.{option_map}
 use Rattle.flu_deps.specs.Checking.{program_of}
 use Rattle.flu_top.specs.Ending.{call}
-use Rattle.flu_top.proofs.Roundings.{IsWithin, IsRun, ends_halted, ends_unsaved, laws_of, not_both, steps_on, still_named}
+use Rattle.flu_top.specs.Running.{IsWithin}
+use Rattle.flu_top.proofs.Roundings.{IsRun, ends_halted, ends_unsaved, laws_of, not_both, steps_on, still_named}
 use Rattle.flu_top.proofs.running.saved_round.Goals as goal
 
 pub returns-in-Err-clause-steps : goal.returns-in-Err-clause-steps
