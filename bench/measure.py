@@ -303,6 +303,28 @@ def rounds(bench):
         row(f"{inputs.some(rows):,}", *[cell for it in figures.values() for cell in (it, f"{it.held // 2**20} MB")])
 
 
+@measurement("Rounds that are read ahead, and rounds read in turns: those of one row less than the usual number")
+def ahead(bench):
+    table("What", "`fold`", "`run`, in turns", "`run`, read ahead", "times `fold`", "times the turns")
+
+    def beside(what, job):
+        commands = {"fold": bench.flumina("fold", job), "turns": bench.flumina("run", job, "--round", "4095"), "ahead": bench.flumina("run", job)}
+        figures = bench.compare(same=commands, **commands)
+        one, turns, own = (figures[it] for it in commands)
+        row(what, one, turns, own, f"{own.wall / one.wall:.2f}", f"{own.wall / turns.wall:.2f}")
+
+    inputs.plain("rows", 1000000, "", "\n")
+    beside("one source, no actions", "rows.job")
+    inputs.three_sources()
+    beside("three sources, counts", "counts.job")
+    inputs.pages()
+    beside("page views and updates", "pages.job")
+    inputs.windows()
+    for every in 10000, 1000, 100:
+        inputs.barriers(every)
+        beside(f"windows of {every} samples", "windows.job")
+
+
 @measurement("Rounds of few rows: what a live report costs")
 def live(bench):
     """The rows of three files that take turns, so that nothing is waited for: what is measured is the work of the rounds alone."""
