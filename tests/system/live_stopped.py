@@ -10,12 +10,13 @@ At last the files end, and the report has to be the one that `fold` makes of the
 
 import os
 import random
-import re
 import subprocess
 import sys
 import tempfile
 import threading
 import time
+
+from system import going_on, need
 
 JOB = """cell hits sum
 cell bytes sum
@@ -32,19 +33,9 @@ AT_ONCE = 20
 NAMES = "web", "clock"
 
 
-def need(holds, what):
-    if not holds:
-        sys.exit(f"not as it should be: {what}")
-
-
 def cutting():
-    """The commands of docs/GUIDE.md that cut a report at the border of a checkpoint, for the files of this run."""
-    with open(os.path.join(os.path.dirname(os.path.abspath(__file__)), "..", "..", "docs", "GUIDE.md")) as it:
-        page = re.search(r"^## Stopping and going on$(.*?)^## ", it.read(), re.M | re.S)[1]
-    blocks = [block.replace("\n    ", "\n").strip() for block in re.findall(r"\n\n((?:    .*\n)+)", page)]
-    cut = [block for block in blocks if "rides.save)" in block]
-    need(len(cut) == 1, "the commands of the guide")
-    return cut[0].replace("rides.save", "hits.save").replace("report.csv", "hits.csv")
+    """The commands of docs/GUIDE.md that cut a report, for the files of this run."""
+    return going_on()[0].replace("rides.save", "hits.save").replace("report.csv", "hits.csv")
 
 
 def feed(folder, over, draw):

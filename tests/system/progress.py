@@ -12,7 +12,7 @@ import subprocess
 import threading
 import time
 
-from system import Folder, need, program
+from system import Folder, need, program, shown_at
 
 LIVE = r"read \d+\.\d MB, \d+\.\d MB/s"
 KNOWN = r"read \d+\.\d of \d+\.\d MB, \d+ %, \d+\.\d MB/s"
@@ -123,18 +123,9 @@ rows = folder.read("a.csv").splitlines(True)
 thread = fed("slow.fifo", [*rows[:4], *(b"".join(rows[i:i + 40]) for i in range(4, len(rows), 40))], 0.3)
 with subprocess.Popen([program(), "--no-hints", "run", "slow.job", "--round", "1"], cwd=folder.at, stdin=subprocess.DEVNULL, stdout=far, stderr=far) as child:
     os.close(far)
-    shown = b""
-    while True:
-        try:
-            more = os.read(near, 65_536)
-        except OSError:
-            break
-        if not more:
-            break
-        shown += more
+    shown = shown_at(near)
 os.close(near)
 thread.join()
-shown = shown.decode().replace("\r\n", "\n")
 need(child.returncode == 0 and left_on_the_screen(shown) == REPORT.decode(), f"one terminal: {shown!r}")
 begin = shown.index("tick")
 need(re.search(LIVE, shown[:begin]) and "read " not in shown[begin:], f"no line within the report: {shown!r}")

@@ -14,11 +14,12 @@ stopped and resumed."""
 import json
 import os
 import random
-import re
 import subprocess
 import sys
 import tempfile
 import time
+
+from system import going_on, need
 
 JOB = """cell views keyed sum
 cell most keyed max
@@ -68,22 +69,6 @@ def border_of(folder):
         return json.load(it)["border"]
 
 
-def need(holds, what):
-    if not holds:
-        sys.exit(f"not as it should be: {what}")
-
-
-def told():
-    """The commands of docs/GUIDE.md: those that cut the report, and the one that resumes the run."""
-    with open(os.path.join(os.path.dirname(os.path.abspath(__file__)), "..", "..", "docs", "GUIDE.md")) as it:
-        page = re.search(r"^## Stopping and going on$(.*?)^## ", it.read(), re.M | re.S)[1]
-    blocks = [block.replace("\n    ", "\n").strip() for block in re.findall(r"\n\n((?:    .*\n)+)", page)]
-    cut = [block for block in blocks if "rides.save)" in block]
-    on = [block for block in blocks if "--resume" in block]
-    need(len(cut) == 1 and len(on) == 1, "the commands of the guide")
-    return cut[0], on[0]
-
-
 def behind_each_round(program, folder, made, whole):
     stops = 0
     for count in range(0, ROWS + ROUND, ROUND):
@@ -109,7 +94,7 @@ def killed(program, folder, made, whole, times, round_rows, draw):
     run(program, folder, *options)
     takes = time.monotonic() - began
     path = dict(os.environ, PATH=f"{os.path.dirname(program)}:{os.environ['PATH']}")
-    cut, on = told()
+    cut, on = going_on()
     stopped = 0
     resumed = 0
     for _ in range(times):

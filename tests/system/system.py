@@ -3,6 +3,7 @@ C library, which writes down calls that reach the system and lets some of them f
 
 import os
 import pty
+import re
 import subprocess
 import sys
 import tempfile
@@ -146,6 +147,31 @@ def need(holds, what):
         sys.exit(f"not as it should be: {what}")
 
 
+def shown_at(near):
+    """What a terminal gets until its last writer closes it, as text."""
+    shown = b""
+    while True:
+        try:
+            more = os.read(near, 65_536)
+        except OSError:
+            break
+        if not more:
+            break
+        shown += more
+    return shown.decode().replace("\r\n", "\n")
+
+
+def going_on():
+    """The commands of docs/GUIDE.md, "Stopping and going on": those that cut a report at the border of a checkpoint, and the one that resumes."""
+    with open(os.path.join(os.path.dirname(os.path.abspath(__file__)), "..", "..", "docs", "GUIDE.md")) as it:
+        page = re.search(r"^## Stopping and going on$(.*?)^## ", it.read(), re.M | re.S)[1]
+    blocks = [block.replace("\n    ", "\n").strip() for block in re.findall(r"\n\n((?:    .*\n)+)", page)]
+    cut = [block for block in blocks if "rides.save)" in block]
+    on = [block for block in blocks if "--resume" in block]
+    need(len(cut) == 1 and len(on) == 1, "the commands of the guide")
+    return cut[0], on[0]
+
+
 class Folder:
     """A folder with the job and its sources: this many views, and a tick after every few of them. A round has 4,096 of them."""
 
@@ -184,18 +210,10 @@ class Folder:
         near, far = pty.openpty()
         with subprocess.Popen([program(), *words], cwd=self.at, stdin=subprocess.DEVNULL, stdout=out, stderr=far, env=env) as child:
             os.close(far)
-            shown = b""
-            while True:
-                try:
-                    more = os.read(near, 65_536)
-                except OSError:
-                    break
-                if not more:
-                    break
-                shown += more
+            shown = shown_at(near)
             written = child.stdout.read() if child.stdout else b""
         os.close(near)
-        return child.returncode, written, shown.decode().replace("\r\n", "\n")
+        return child.returncode, written, shown
 
 
 class Watch:
