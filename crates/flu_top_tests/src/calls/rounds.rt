@@ -143,7 +143,7 @@ const CASES: &[Case] = &[
         err: "flumina: read fault",
     },
     Case {
-        calls: &["run J P --save S", "run J --save S"],
+        calls: &["run J P --save S"],
         behind: END,
         reads: READS,
         failing_take: 12,
@@ -154,7 +154,7 @@ const CASES: &[Case] = &[
         err: "flumina: read fault",
     },
     Case {
-        calls: &["run J P --save S", "run J --save S"],
+        calls: &["run J P --save S"],
         behind: END,
         reads: READS,
         failing_take: 13,
