@@ -1,5 +1,6 @@
 """The inputs of the measurements: jobs, plans and rows, written to the working folder. Jobs that several measurements share are in
-`bench/jobs`, without their sources. Rows are made by gawk, whose `srand` draws the same ones each time."""
+`bench/jobs` and `examples`, and are taken without their sources; the same in awk, where it is measured too, is in `bench/jobs`. Rows are made by gawk,
+whose `srand` draws the same ones each time."""
 
 import functools
 import hashlib
@@ -8,11 +9,14 @@ import os
 import random
 import shutil
 import subprocess
+import sys
 
 JOBS = os.path.join(os.path.dirname(os.path.abspath(__file__)), "jobs")
+EXAMPLES = os.path.join(JOBS, "..", "..", "examples")
+TESTS = os.path.join(JOBS, "..", "..", "tests", "system")
 
-# A Nth part of all rows is made, to try a measurement.
-part = 1
+# How many rows are made in place of 1,000,000, to try a measurement.
+million = 1000000
 
 
 # The folder in which inputs are kept for later calls, if there is one.
@@ -26,7 +30,7 @@ def made(function):
     def linked(*words, **named):
         if kept is None:
             return function(*words, **named)
-        place = os.path.join(kept, f"{function.__name__}_{hashlib.sha1(repr((part, words, named)).encode()).hexdigest()[:12]}")
+        place = os.path.join(kept, f"{function.__name__}_{hashlib.sha1(repr((million, words, named)).encode()).hexdigest()[:12]}")
         if not os.path.exists(place):
             here, new = os.getcwd(), place + ".new"
             shutil.rmtree(new, ignore_errors=True)
@@ -51,7 +55,7 @@ def cleared(name):
 
 def some(rows):
     """This many rows, or their part."""
-    return max(rows // part, 1)
+    return max(rows * million // 1000000, 1)
 
 
 def write(name, text):
@@ -62,6 +66,12 @@ def write(name, text):
 def shared(name):
     with open(os.path.join(JOBS, name)) as it:
         return it.read()
+
+
+def example(name):
+    """The job of an example, without its sources."""
+    with open(os.path.join(EXAMPLES, name, f"{name}.job")) as it:
+        return "".join(line for line in it if not line.startswith("source "))
 
 
 def job(name, head, *sources):
@@ -83,6 +93,11 @@ def gawk(program, to=None, **values):
     return rows.decode()
 
 
+def ticks(name, tag, every, rows=1000000):
+    """A source of events without a value, one after every so many of all the rows of the other sources."""
+    gawk('for (n = every; n <= rows; n += every) printf "%d,%s\\n", n, tag; print "end"', name, tag=tag, every=every, rows=some(rows))
+
+
 @made
 def plain(name, rows, quote="", end="\n"):
     """Rows of one source, whose only kind has no actions."""
@@ -96,6 +111,12 @@ def plain(name, rows, quote="", end="\n"):
         end=end.replace("\r", "\\r").replace("\n", "\\n"),
     )
     job(f"{name}.job", "tag inc int\n", f'a "{name}.csv": inc')
+
+
+def summed():
+    """The job that adds the rows of `plain` to a sum, which a second source reads at its end."""
+    job("sum.job", "count.head", 'a "rows.csv": inc', 'c "last.csv": read')
+    write("last.csv", f"{some(1000000) + 1},read\nend\n")
 
 
 @made
@@ -219,7 +240,39 @@ def many_itags():
     kinds = "".join(f"tag k{i} keyed none\n" for i in range(64))
     sources = [f's{i} "s{i}.csv" rate {i * 37 % 64}: k{i}[0..3]' for i in range(64)]
     job("chain.job", kinds + "".join(f"depends k{i} k{i + 1}\n" for i in range(63)), *sources)
-    job("crowded.job", kinds + "".join(f"depends k{i} k{j} same\n" for i in range(64) for j in range(64)), *sources)
+    job("crowded.job", crowded(" same"), *sources)
+
+
+def crowded(how):
+    """64 kinds with as many dependencies as a job may have."""
+    return "".join(f"tag k{i} keyed none\n" for i in range(64)) + "".join(f"depends k{i} k{j}{how}\n" for i in range(64) for j in range(64))
+
+
+@made
+def crowd():
+    """1,000,000 events of 256 itags from four sources, each of which depends on all."""
+    acts = "cell n keyed sum\n" + "".join(f"on k{i}: add n[key] {i + 1}" + ('; emit "{n[key]}"' if i == 63 else "") + "\n" for i in range(64))
+    job("crowd.job", acts + crowded(""), *[f's{s} "s{s}.csv": ' + ", ".join(f"k{i}[{s}]" for i in range(64)) for s in range(4)])
+    rows = 'for (n = s; n < rows; n += 4) printf "%d,k%d[%d]\\n", n + 1, int(n / 4) % 64, s; print "end"'
+    for s in range(4):
+        gawk(rows, f"s{s}.csv", s=s, rows=some(1000000))
+
+
+@made
+def demo(events):
+    """The job of the demo and its sources, as the tests make them."""
+    subprocess.run([sys.executable, os.path.join(TESTS, "demo_sources.py"), str(some(events)), "1", "."], check=True)
+
+
+@made
+def hostile_paths():
+    """The rows with items that tests/system/hostile.py folds and runs, but so many that all three sources have 1,000,000; and its plan."""
+    sys.path.insert(0, TESTS)
+    import hostile
+
+    for name, body in hostile.paths_files(random.Random(1), some(476190)).items():
+        write("paths.job" if name == "job" else name, body)
+    write("paths.plan", hostile.PATHS_PLAN)
 
 
 @made
@@ -251,34 +304,50 @@ def windows():
     """Four sources of two keys each have 1,000,000 samples in all; `barriers` makes the ends of their windows."""
     sources = [f's{s} "s{s}.csv" rate 1000: sample[{2 * s}..{2 * s + 1}]' for s in range(4)]
     job("windows.job", "windows.head", *sources, 'clock "clock.csv": barrier')
-    rows = 'srand(s + 1); for (n = s; n < rows; n += 4) printf "%d,sample[%d],%d\\n", n + 1, 2 * s + int(n / 4) % 2, rand() * 10000; print "end"'
     for s in range(4):
-        gawk(rows, f"s{s}.csv", s=s, rows=some(1000000))
+        samples(s, 4)
     plans("windows1", "windows3", "windows7", "windows15")
+
+
+def samples(s, step):
+    rows = 'srand(s + 1); for (n = s; n < rows; n += step) printf "%d,sample[%d],%d\\n", n + 1, 2 * s + int(n / 4) % 2, rand() * 10000; print "end"'
+    gawk(rows, f"s{s}.csv", s=s, step=step, rows=some(1000000))
 
 
 @made
 def barriers(every):
-    gawk('for (n = every; n <= rows; n += every) printf "%d,barrier\\n", n; print "end"', "clock.csv", every=every, rows=some(1000000))
+    ticks("clock.csv", "barrier", every)
 
 
 @made
 def one_source():
-    """The samples of the first source of `windows` alone: the others end at once."""
+    """All 1,000,000 samples of `windows` come from its first source: the others end at once."""
+    samples(0, 1)
     for s in range(1, 4):
         write(f"s{s}.csv", "end\n")
 
 
 @made
+def payments(every):
+    """Four sources have 1,000,000 payments in all, of which some 900 are suspect; a window ends after every so many."""
+    sources = [f'p{s} "p{s}.csv" rate 1000: payment' for s in range(4)]
+    job("fraud.job", example("fraud"), *sources, 'clock "windows.csv": window')
+    rows = 'srand(s + 1); for (n = s; n < rows; n += 4) printf "%d,payment,%d\\n", n + 1, rand() * 1000 * (n % 997 ? 1 : 20); print "end"'
+    for s in range(4):
+        gawk(rows, f"p{s}.csv", s=s, rows=some(1000000))
+    ticks("windows.csv", "window", every)
+    plans("fraud7")
+
+
+@made
 def fees():
-    """Views of four pages from two sources read the page's fee, which an update sets (`updates`): 1,000,000 views."""
+    """Views of four pages from two sources read the page's fee, which an update sets (`updates`): 1,000,000 views, printed by `hours`."""
     views = [f'{it} "{it}.csv" rate 1000: view[0..3]' for it in ("web", "app")]
-    job("views.job", "fees.head", *views, 'desk "desk.csv": update[0..3]', 'clock "hours.csv": hour')
+    job("views.job", example("views"), *views, 'desk "desk.csv": update[0..3]', 'clock "hours.csv": hour')
     for s, name in enumerate(("web", "app")):
         rows = 'for (n = 0; n < rows; n++) printf "%d,view[%d]\\n", 2 * n + s + 1, n % 4; print "end"'
         gawk(rows, f"{name}.csv", s=s, rows=some(500000))
-    updates(1000)
-    gawk('for (n = 100000; n <= rows; n += 100000) printf "%d,hour\\n", n; print "end"', "hours.csv", rows=some(1000000))
+    hours(100000)
     plans("views15")
 
 
@@ -288,24 +357,34 @@ def updates(every):
     gawk(rows, "desk.csv", every=every, rows=some(1000000))
 
 
+def hours(every):
+    ticks("hours.csv", "hour", every)
+
+
 @made
 def long_actions():
     """100,000 events of 32 long actions each, from four sources, with a barrier after every 10,000. Beside that job, `long.job`, stands
-    the same with the actions left out, `read.job`, and each source of either by itself, as `long0.job`."""
+    the same with the actions left out, `read.job`, and each source of either by itself, as `long0.job`; and `guarded.job`, whose actions are
+    maxima and sums of remainders, under guards."""
     tags = "tag work keyed int\ntag barrier none\ndepends work barrier\ndepends barrier barrier\n"
-    cells = "".join(f"cell c{i} sum\n" for i in range(32))
-    actions = ";\n".join(f"add c{j} {product([100 + f + j for f in range(1, 5)], 4)}" for j in range(32))
+    sums = "".join(f"cell c{i} sum\n" for i in range(32))
+    long = [product([100 + f + j for f in range(1, 5)], 4) for j in range(32)]
+    actions = ";\n".join(f"add c{j} {long[j]}" for j in range(32))
     emits = "on barrier: " + "; ".join(f'emit "c{j} {{c{j}}}"' for j in range(32)) + "\n"
     clock = 'clock "ends.csv": barrier'
     for name, acts in ("long", actions), ("read", "add c0 value"):
-        text = f"{cells}{tags}on work: {acts}\n{emits}"
+        text = f"{sums}{tags}on work: {acts}\n{emits}"
         job(f"{name}.job", text, *[f'w{s} "w{s}.csv" rate 1000: work[{s}]' for s in range(4)], clock)
         for s in range(4):
             job(f"{name}{s}.job", text, f'w{s} "w{s}.csv" rate 1000: work[{s}]', clock)
+    both = "".join(f"cell c{i} {('sum', 'max')[i % 2]}\n" for i in range(32))
+    deeds = [f"{('add', 'raise')[j % 2]} c{j} ({long[j]}) % {10007 + j} when value % {j + 3} != {j % 3}" for j in range(32)]
+    text = f"version 3\n{both}{tags}on work: " + ";\n".join(deeds) + f"\n{emits}"
+    job("guarded.job", text, *[f'w{s} "w{s}.csv" rate 1000: work[{s}]' for s in range(4)], clock)
     rows = some(100000)
     for s in range(4):
         gawk('for (n = s; n < rows; n += 4) printf "%d,work[%d],%d\\n", n + 1, s, n % 1000; print "end"', f"w{s}.csv", s=s, rows=rows)
-    gawk('for (n = 10000; n <= rows; n += 10000) printf "%d,barrier\\n", n; print "end"', "ends.csv", rows=rows)
+    ticks("ends.csv", "barrier", 10000, 100000)
     plans("long7")
 
 
@@ -345,7 +424,7 @@ def busy_source(rows):
     """Views of four pages, of which one source has a hundred times the rows of each other; `wrong.job` declares one rate for all."""
     rest = ['app "app.csv" rate 1: view[0..3]', 'desk "desk.csv" rate 1: update[0..3]', 'clock "hours.csv" rate 1: hour']
     for name, rate in ("wrong", 1), ("right", 100):
-        job(f"{name}.job", "fees.head", f'web "web.csv" rate {rate}: view[0..3]', *rest)
+        job(f"{name}.job", example("views"), f'web "web.csv" rate {rate}: view[0..3]', *rest)
     rows = some(rows)
     gawk('for (n = 1; n <= rows; n++) printf "%d,view[%d]\\n", n, n % 4; print "end"', "web.csv", rows=rows)
     gawk('for (n = 50; n <= rows; n += 100) printf "%d,view[%d]\\n", n, int(n / 100) % 4; print "end"', "app.csv", rows=rows)

@@ -1,15 +1,20 @@
 #!/usr/bin/env python3
 """Measures the built program, and prints the tables of docs/PERFORMANCE.md.
 
-    bench/measure.py NAME PROGRAM [--runs N] [--part N] [--folder FOLDER] [-- WORD..]
+    bench/measure.py NAME PROGRAM [--runs N] [--rows N] [--folder FOLDER] [-- WORD..]
 
 Each NAME is a measurement below, by its section in docs/PERFORMANCE.md. Inputs are made in a fresh folder, or in FOLDER, where they are
 kept, so that a later call measures at once. Commands that are compared alternate, N times (5 if not given; 3 for rounds, checkpoints,
 saves and adapt), and each figure is the minimum: wall time and, in brackets, processor time, in seconds; of memory it is the maximum.
 The reports of commands that are compared have to be the same. The words after `--` are put before each command, as `chrt -r 1` on a
-machine that does other work too, or `taskset -c 0,1` for two processors. `--part N` makes an N-th of the rows, to try a measurement. It
-needs gawk and GNU time; items and fold also need mawk, fold rustc, leaf, planning and prices valgrind, planning and leaves the kit,
-and lines a C compiler.
+machine that does other work too, or `taskset -c 0,1` for two processors. `--rows N` makes N rows in place of each 1,000,000, to try a
+measurement. It needs gawk and GNU time; aims, items and fold also need mawk, aims and fold rustc, leaf, planning and prices valgrind,
+planning and leaves the kit, and lines a C compiler.
+
+The first look is `bench/measure.py aims PROGRAM`, in some ten minutes where nothing else runs: what `run` takes beside `fold`, alone and
+beside busy programs, and both beside other programs, with the aim beside each figure. It says by itself on which machine and commit that
+was, so what it prints can be put into docs/PERFORMANCE.md as it is. Beside busy programs its figures are medians, and mean nothing under
+`chrt`.
 
 """
 
@@ -23,81 +28,10 @@ import sys
 import tempfile
 import time
 
+import aims  # Which adds a measurement to those below.
 import inputs
-
-HERE = os.path.dirname(os.path.abspath(__file__))
-MEASUREMENTS = {}
-
-
-def measurement(what, runs=5):
-    def add(function):
-        MEASUREMENTS[function.__name__] = (function, what, runs)
-        return function
-
-    return add
-
-
-class Figure:
-    """The least wall and processor time of some runs of a command, and the most memory that it held, in bytes."""
-
-    def __init__(self):
-        self.wall = self.busy = float("inf")
-        self.held = 0
-
-    def __str__(self):
-        return f"{self.wall:.2f} ({self.busy:.2f})"
-
-
-class Bench:
-    def __init__(self, program, before, runs):
-        self.program, self.before, self.runs = program, before, runs
-
-    def once(self, name, command, into):
-        """Runs a command, which is a list of words or a line of bash; what it writes goes to NAME.txt and NAME.err."""
-        words = command if isinstance(command, list) else ["bash", "-c", command]
-        timed = [*self.before, "/usr/bin/time", "-o", "figures", "-f", "%U %S %M", *words]
-        with open(f"{name}.txt", "wb") as out, open(f"{name}.err", "wb") as err:
-            began = time.monotonic()
-            status = subprocess.run(timed, stdin=subprocess.DEVNULL, stdout=out, stderr=err).returncode
-            into.wall = min(into.wall, time.monotonic() - began)
-        with open("figures") as it:
-            user, system, held = it.read().split()[-3:]
-        into.busy = min(into.busy, float(user) + float(system))
-        into.held = max(into.held, int(held) * 1024)
-        return status
-
-    def compare(self, same=(), **commands):
-        """The figures of commands by name, which alternate; those of `same` have to write the same bytes."""
-        figures, same = {name: Figure() for name in commands}, list(same)
-        for _ in range(self.runs):
-            for name, command in commands.items():
-                if self.once(name, command, figures[name]):
-                    sys.exit(f"refused: {command}\n{text(f'{name}.err')}")
-            for name in same:
-                if text(f"{name}.txt") != text(f"{same[0]}.txt"):
-                    sys.exit(f"{name} and {same[0]} write other bytes: {commands[name]}")
-        return figures
-
-    def flumina(self, *words):
-        return [self.program, *words]
-
-    def of(self, *words):
-        """The figure of one command of the program."""
-        return self.compare(it=self.flumina(*words))["it"]
-
-
-def text(name):
-    with open(name, "rb") as it:
-        return it.read()
-
-
-def table(*heads):
-    row(*heads)
-    row(*["---"] * len(heads), gap="")
-
-
-def row(*cells, gap=" "):
-    print(f"|{gap}" + f"{gap}|{gap}".join(str(it) for it in cells) + f"{gap}|", flush=True)
+from figures import HERE, MEASUREMENTS, Bench, Figure, measurement, row, table, text
+from others import page_views, sums_by_item
 
 
 @measurement("the first table: `fold`, and the same by other programs")
@@ -131,9 +65,7 @@ def fold(bench):
     inputs.three_sources()
     merged = """sort -m -s -t, -k1,1n a.csv b.csv c.csv | gawk -F, '$2 == "inc" { n += $3 } $2 == "read" { print $1 ",read,count " n; n = 0 }'"""
     beside("three sources, 1,000,000 rows in all", "counts.job", merged, 0.75, same=True)
-    inputs.pages()
-    subprocess.run(["rustc", "-O", "--edition", "2024", os.path.join(HERE, "pages.rs"), "-o", "pages"], check=True)
-    figures = bench.compare(same=("fold", "rust"), fold=bench.flumina("fold", "pages.job"), rust=["./pages", "web.csv", "app.csv", "clock.csv"])
+    figures = page_views(bench)
     own, rust, lines = figures["fold"].wall, figures["rust"].wall, text("fold.txt").count(b"\n")
     what = f"page views and updates by two sources and a clock, 1,000,000 rows, {lines:,} lines"
     row(what, f"{own:.3f}", "", f"{rust:.3f}, in Rust", "", f"{own / rust:.1f}", 1.3)
@@ -196,17 +128,10 @@ def cells(bench):
 @measurement("sums by item: a web log of 1,000,000 rows over many paths, beside awk, and what an event costs by the items in use")
 def items(bench):
     table("Paths", "`fold`", "gawk, C.UTF-8", "gawk, C", "mawk", "times gawk in C", "times gawk in C.UTF-8", "times mawk", "times 50 paths")
-    sums = "-F, '{ n[$3] += $4 } END { for (path in n) if (n[path]) print path, n[path] }' web.csv"
     few = None
     for paths in 50, 5000, 50000:
-        inputs.items("web", 1000000, paths)
-        commands = {"fold": bench.flumina("fold", "web.job"), "utf8": f"LC_ALL=C.UTF-8 gawk {sums}", "c": f"LC_ALL=C gawk {sums}", "mawk": f"mawk {sums}"}
-        figures = bench.compare(**commands)
-        made = sorted(line.split(b",", 2)[2] for line in text("fold.txt").splitlines())
-        for name in "utf8", "c", "mawk":
-            if made != sorted(text(f"{name}.txt").splitlines()):
-                sys.exit(f"fold and {commands[name]} have other sums")
-        own, utf8, c, mawk = (figures[it].wall for it in commands)
+        figures = sums_by_item(bench, paths, utf8="C.UTF-8 gawk", c="C gawk", mawk="C mawk")
+        own, utf8, c, mawk = (figures[it].wall for it in ("fold", "utf8", "c", "mawk"))
         few = few or own
         row(f"{paths:,}", *(f"{it:.3f}" for it in (own, utf8, c, mawk)), *(f"{own / it:.2f}" for it in (c, utf8, mawk, few)))
 
@@ -240,9 +165,8 @@ def lines(bench):
 @measurement("A simulated run")
 def simulate(bench):
     table("Events", "steps of the net", "`simulate`", "`fold`")
-    demo = os.path.join(HERE, "..", "tests", "system", "demo_sources.py")
     for events in 100000, 1000000:
-        subprocess.run([sys.executable, demo, str(inputs.some(events)), "1", "."], check=True)
+        inputs.demo(events)
         subprocess.run(f"'{bench.program}' plan job > plan", shell=True, check=True)
         figures = bench.compare(same=("fold", "simulate"), fold=bench.flumina("fold", "job"), simulate=bench.flumina("simulate", "job", "plan", "1"))
         steps = sum(int(it) for it in re.findall(rb"[a-z] (\d+)", text("simulate.err").rsplit(b" mark", 1)[0]))
@@ -254,11 +178,10 @@ def run(bench):
     table("What", "fold", "run PLAN", "run", "wall", "processor time")
 
     def beside(what, job, plan):
-        commands = {"fold": bench.flumina("fold", job), "run": bench.flumina("run", job, plan), "own": bench.flumina("run", job)}
-        figures = bench.compare(same=commands, **commands)
-        one, many, own = (figures[it] for it in ("fold", "run", "own"))
+        commands = bench.fold_and_run(job, plan)
+        one, many, own = bench.compare(same=commands, **commands).values()
         wall = f"{many.wall / one.wall:.2f} and {own.wall / one.wall:.2f} times"
-        row(what, one, many, own, wall, f"{many.busy / max(one.busy, 0.01):.2f} and {own.busy / max(one.busy, 0.01):.2f} times")
+        row(what, one, many, own, wall, f"{many.busy / one.busy:.2f} and {own.busy / one.busy:.2f} times")
 
     inputs.windows()
     for every in 10000, 1000, 100:
@@ -487,14 +410,14 @@ def busy(bench):
         figures = bench.compare(**commands)
         fold = figures["fold"].busy
         for name, it in figures.items():
-            row(f"{what}: `{name}`", f"{it.busy:.2f}", f"{it.busy / max(fold, 0.01):.2f} times `fold`")
+            row(f"{what}: `{name}`", f"{it.busy:.2f}", f"{it.busy / fold:.2f} times `fold`")
     rows = inputs.some(300000)
     inputs.very_late_rows(rows)
     for command in "fold", "run":
         names = ("ordered", "falling", "drawn")
         figures = bench.compare(same=names, **{it: bench.flumina(command, f"{it}.job") for it in names})
         for name, it in figures.items():
-            row(f"{rows:,} rows, {name}: `{command}`", f"{it.busy:.2f}", f"{it.busy / max(figures['ordered'].busy, 0.01):.2f} times in order")
+            row(f"{rows:,} rows, {name}: `{command}`", f"{it.busy:.2f}", f"{it.busy / figures['ordered'].busy:.2f} times in order")
 
 
 @measurement("Which rounds run on the tree: the prices of its estimates, in nanoseconds")
@@ -571,12 +494,12 @@ def main():
     words.add_argument("name", choices=MEASUREMENTS, metavar="NAME")
     words.add_argument("program", metavar="PROGRAM")
     words.add_argument("--runs", type=int)
-    words.add_argument("--part", type=int, default=1)
+    words.add_argument("--rows", type=int, default=1000000)
     words.add_argument("--folder")
     place = sys.argv.index("--") if "--" in sys.argv else len(sys.argv)
     said, before = words.parse_args(sys.argv[1:place]), sys.argv[place + 1 :]
     function, _, runs = MEASUREMENTS[said.name]
-    inputs.part = said.part
+    inputs.million = said.rows
     program = os.path.abspath(said.program)
     with tempfile.TemporaryDirectory(prefix="flumina-bench-") as folder:
         if said.folder:
