@@ -1,0 +1,7 @@
+//! Moments: the order of rows that share a time, as one number for each row, and the ticks of clocks.
+#![tactic(auto)]
+
+pub mod laws;
+mod moments;
+
+pub use moments::Moments;
