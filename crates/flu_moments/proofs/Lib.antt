@@ -1,1 +1,4 @@
 pub mod MomentLemmas
+pub mod NextLemmas
+pub mod StepLemmas
+pub mod TickLemmas

@@ -1,6 +1,6 @@
 -- The order of moments, their parts, borders and the greatest time.
 use Rattle.std.proofs.Common.{◌≡◌, ◌⊎◌, ◌↔◌, ℕ, ◌+◌, ◌-◌, ◌*◌, ◌/◌, ◌%◌, ◌^◌, ◌<◌, ◌≤◌, inl, inr, refl, sym, ap, ◌∙◌, arith}
-use Rattle.std.proofs.Math.Nat.{mul-le-mul_left, mul_comm, div-div-eq-div-mul, div-mul-le_self}
+use Rattle.std.proofs.Math.Nat.{mul-le-mul_left, mul_comm, div-div-eq-div-mul, div-mul-le_self, div-le_self}
 use Rattle.std.proofs.lemmas.Nat.{div-mul-add, mod-mul-add, div-add-mod', mod_below, same_from_place, le-div, div_below}
 use Rattle.std.proofs.lemmas.Bool.{cases_lt}
 use Rattle.flu_moments.specs.Moments.{moment, time_of, source_of, place_of, border, IsAllowed, greatest_time}
@@ -104,7 +104,7 @@ allowed_fits w time lt =
     let whole = div-mul-le_self (2 ^ 63) w in
     omega arith
 
-some_product : (a b : ℕ) → 0 < a → 0 < b → 0 < a * b
+pub some_product : (a b : ℕ) → 0 < a → 0 < b → 0 < a * b
 some_product a b some any = let rows = product_le 1 a b (omega arith) in omega arith
 
 a_time_is_allowed : (w : ℕ) → 0 < w → w ≤ 2 ^ 63 → 0 < 2 ^ 63 / w
@@ -150,3 +150,6 @@ borders_part_times sources ties time m some any = (up_to, from_time)
 
 pub one_row_at_a_time : OneRowAtATime
 one_row_at_a_time = record { moment = λ time. omega arith; time = λ m. omega arith; border = λ time. omega arith }
+
+pub greatest_below : (sources ties : ℕ) → greatest_time sources ties < 2 ^ 64
+greatest_below sources ties = let less = div-le_self (2 ^ 63) (sources * ties) in omega arith

@@ -3,5 +3,7 @@
 
 pub mod laws;
 mod moments;
+mod ticks;
 
 pub use moments::Moments;
+pub use ticks::Ticks;
