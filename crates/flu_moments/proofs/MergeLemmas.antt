@@ -1,9 +1,8 @@
 -- Rows in the order of their moments are the merge of the files.
-use Rattle.std.proofs.Common.{◌≡◌, ◌⊎◌, ℕ, suc, ◌+◌, ◌<◌, ◌≤◌, Bool, true, false, cond, List, [], ◌∷◌, ◌++◌, length, map, inl, inr, refl, sym, ap, subst, ◌∙◌, arith}
-use Rattle.std.specs.Prelude.{⊤, ◌==◌, nat_lt, nat_le, not, ◌&&◌, count_by, Contains, All, IsPermutation}
-use Rattle.std.specs.Cmp.{IsTotalOrder, IsStrictWeakOrder}
-use Rattle.std.specs.List.{AllByRecursion, filter}
-use Rattle.std.specs.List.Sorted.{IsSortedBy, ties as tied}
+use Rattle.std.proofs.Common.{◌≡◌, ◌⊎◌, ℕ, ◌+◌, ◌<◌, ◌≤◌, Bool, true, false, cond, List, [], ◌∷◌, ◌++◌, length, map, inl, inr, refl, sym, ap, subst, ◌∙◌, arith}
+use Rattle.std.specs.Prelude.{⊤, ◌==◌, nat_le, count_by, Contains, IsPermutation}
+use Rattle.std.specs.List.{AllByRecursion}
+use Rattle.std.specs.List.Sorted.{IsSortedBy}
 use Rattle.std.specs.Ordering.{nat_cmp, is_lt}
 use Rattle.std.specs.declared.cmp.Ordering.TheVariants.{Equal}
 use Rattle.std.proofs.lemmas.Bool.{cases_lt}
@@ -19,7 +18,7 @@ use Rattle.flu_lemmas.proofs.Containing.{contains_cases, contains_none}
 use Rattle.flu_lemmas.proofs.Elements.{all_map, all_append}
 use Rattle.flu_lemmas.proofs.OnlyOne.{count_by-cons}
 use Rattle.flu_lemmas.proofs.Sorting.{IsRising, sorted_from_rising, in_order-permutation, only_sorted}
-use Rattle.flu_moments.specs.Laws.{IsPlace, IsBefore}
+use Rattle.flu_moments.specs.Laws.{IsPlace}
 use Rattle.flu_moments.specs.Merging.{Row, Placed, placed_after, placed_from, moment_of, all_rows, HaveAtMost, IsByMoment, merged}
 use Rattle.flu_moments.proofs.MomentLemmas.{moments_from_order}
 

@@ -1,20 +1,19 @@
 -- The merge is the only stable sort of all rows by time.
-use Rattle.std.proofs.Common.{◌≡◌, ◌⊎◌, ℕ, ◌<◌, ◌≤◌, Bool, true, false, cond, List, [], ◌∷◌, inl, inr, refl, sym, ap, ◌∙◌, arith}
+use Rattle.std.proofs.Common.{◌≡◌, ℕ, ◌<◌, Bool, true, false, cond, List, [], ◌∷◌, inl, inr, refl, sym, ap, ◌∙◌, arith}
 use Rattle.std.specs.Prelude.{nat_le, not, ◌&&◌}
 use Rattle.std.specs.Cmp.{IsStrictWeakOrder}
 use Rattle.std.specs.List.{AllByRecursion, filter}
-use Rattle.std.specs.List.Sorted.{IsSortedBy, ties, IsStableBy}
+use Rattle.std.specs.List.Sorted.{ties, IsStableBy}
 use Rattle.std.specs.Ordering.{nat_cmp, is_lt}
 use Rattle.std.proofs.lemmas.Bool.{cases_lt}
 use Rattle.std.proofs.lemmas.Bool.Decides.{nat_tests}
 use Rattle.std.proofs.lemmas.Cmp.{nat_cmp_total}
-use Rattle.std.proofs.lemmas.Grind.{common_steps}
 use Rattle.std.proofs.lemmas.List.Sorted.{ranks_by}
 use Rattle.flu_lemmas.specs.Sorting.{put_in_order, in_order}
 use Rattle.flu_lemmas.proofs.Elements.{all_map}
 use Rattle.flu_lemmas.proofs.Sorting.{IsRising, rising_from_sorted, sorted_from_rising, in_order-permutation}
 use Rattle.flu_moments.specs.MergeLaws.{MergeIsStableSort}
-use Rattle.flu_moments.specs.Merging.{Row, IsStableSort, all_rows, merged}
+use Rattle.flu_moments.specs.Merging.{Row, all_rows, merged}
 use Rattle.flu_moments.proofs.MergeLemmas.{all_put}
 
 -- ---- numbers

@@ -1,14 +1,12 @@
 -- The next tick after a moment, and the ticks among rows.
-use Rattle.std.proofs.Common.{◌≡◌, ◌⊎◌, ◌↔◌, ℕ, zero, suc, ◌+◌, ◌-◌, ◌*◌, ◌/◌, ◌%◌, ◌<◌, ◌≤◌, List, [], ◌∷◌, length, inl, inr, refl, sym, ap, subst, ◌∙◌, arith}
-use Rattle.std.specs.Prelude.{Contains, All, Any}
-use Rattle.std.specs.List.Sorted.{IsStrictlyIncreasing}
+use Rattle.std.proofs.Common.{◌≡◌, ◌↔◌, ℕ, suc, ◌+◌, ◌-◌, ◌*◌, ◌/◌, ◌%◌, ◌<◌, ◌≤◌, List, inl, inr, sym, ap, subst, ◌∙◌, arith}
+use Rattle.std.specs.Prelude.{Contains, Any}
 use Rattle.std.proofs.lemmas.Bool.{cases_lt}
 use Rattle.std.proofs.lemmas.List.Elements.{All-contains}
 use Rattle.std.proofs.lemmas.Nat.{div-mul-add}
 use Rattle.flu_moments.specs.Clocks.{tick_moment, IsNextTick, IsTick, IsTicks, IsSpan, steps}
-use Rattle.flu_moments.specs.Moments.{time_of}
 use Rattle.flu_moments.proofs.MomentLemmas.{product_le}
-use Rattle.flu_moments.proofs.StepLemmas.{multiple_more, steps_apart, length-steps, step_is, is_step, steps-rising, only_rising}
+use Rattle.flu_moments.proofs.StepLemmas.{multiple_more, steps_apart, step_is, is_step, steps-rising, only_rising}
 
 -- ---- a later tick is at a later moment
 pub tick_moment-rises : (sources ties clock a b : ℕ) → a ≤ b → tick_moment sources ties clock a ≤ tick_moment sources ties clock b

@@ -1,5 +1,5 @@
 -- Laws of moments.
-use Rattle.std.specs.Prelude.{◌≡◌, ◌↔◌, ◌⊎◌, ℕ, ◌+◌, ◌*◌, ◌^◌, ◌<◌, ◌≤◌}
+use Rattle.std.specs.Prelude.{◌≡◌, ◌↔◌, ◌⊎◌, ℕ, ◌*◌, ◌^◌, ◌<◌, ◌≤◌}
 use Rattle.flu_moments.specs.Moments.{moment, time_of, source_of, place_of, border, IsAllowed, greatest_time}
 
 -- a row has this source, of some sources, and this place, of some ties

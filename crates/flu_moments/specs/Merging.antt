@@ -1,5 +1,5 @@
 -- THE MERGE of the files of the sources, and the order of their rows by moments.
-use Rattle.std.specs.Prelude.{◌≡◌, ℕ, ◌+◌, ◌==◌, ◌≤◌, nat_le, List, [], ◌∷◌, ◌++◌, map, All, count_by, IsPermutation, IsSortedByKey}
+use Rattle.std.specs.Prelude.{ℕ, ◌+◌, ◌==◌, ◌≤◌, nat_le, List, [], ◌∷◌, ◌++◌, map, All, count_by, IsPermutation, IsSortedByKey}
 use Rattle.std.specs.List.{flat_map}
 use Rattle.std.specs.List.Sorted.{IsStableByKey}
 use Rattle.std.specs.Ordering.{nat_cmp}

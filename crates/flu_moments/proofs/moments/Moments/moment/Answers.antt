@@ -1,4 +1,4 @@
-use Rattle.std.proofs.Common.{◌*◌, ◌+◌, ◌≤◌, ◌<◌, ◌^◌, arith}
+use Rattle.std.proofs.Common.{◌*◌, ◌+◌, arith}
 use Rattle.flu_moments.proofs.MomentLemmas.{next_time_fits, moment_in_time, product_le}
 use Rattle.flu_moments.proofs.moments.Moments.moment.Goals as goal
 
