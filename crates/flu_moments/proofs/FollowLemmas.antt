@@ -51,8 +51,10 @@ step_at first every (suc count) (suc k) less = step_at (first + every) every cou
 
 -- ---- what the ticks from one time to another follow
 module _ (sources ties every clock first last : ℕ) (rows : List ℕ) (some : 0 < every) (span : IsSpan first last rows) (from to : ℕ)
-    (begin : IsNextTick sources ties every clock first from) (end : IsNextTick sources ties every clock last to) (count : ℕ) (is : to ≡ from + count * every) where
-  last_row : (before at : ℕ) → before % every ≡ 0 → before < to → at ≡ to → Any (λ m. (tick_moment sources ties clock before ≤ m) × (m < tick_moment sources ties clock at)) rows
+    (begin : IsNextTick sources ties every clock first from) (end : IsNextTick sources ties every clock last to) (count : ℕ)
+    (is : to ≡ from + count * every) where
+  last_row : (before at : ℕ) → before % every ≡ 0 → before < to → at ≡ to
+      → Any (λ m. (tick_moment sources ties clock before ≤ m) × (m < tick_moment sources ties clock at)) rows
   last_row before at multiple less same =
       let tick : IsTick sources ties every clock rows to =
       tick_from_range sources ties every clock first last rows some span from to begin end to end.multiple (omega arith) (omega arith) in

@@ -23,7 +23,8 @@ use Rattle.flu_moments.specs.Merging.{Row, Placed, placed_after, placed_from, mo
 use Rattle.flu_moments.proofs.MomentLemmas.{moments_from_order}
 
 -- ---- putting in order keeps what holds of each element
-pub all_put : {X : Type 0} (P : X → Type 0) (before : X → X → Bool) (x : X) (ys : List X) → P x → AllByRecursion P ys → AllByRecursion P (put_in_order before x ys)
+pub all_put : {X : Type 0} (P : X → Type 0) (before : X → X → Bool) (x : X) (ys : List X)
+    → P x → AllByRecursion P ys → AllByRecursion P (put_in_order before x ys)
 all_put P before x [] px all = (px, tt)
 all_put P before x (y ∷ ys) px all =
     elim (before x y) as (λ b. AllByRecursion P (cond b (x ∷ y ∷ ys) (y ∷ put_in_order before x ys))) [
@@ -106,7 +107,8 @@ module _ {X : Type 0} where
   )
 
   has_places : (sources ties source : ℕ) (earlier : List ℕ) (rows : List (Row X)) → source < sources
-      → ((t : ℕ) → times t earlier + count_by (λ (r : Row X). r.time == t) rows ≤ ties) → AllByRecursion (HasPlace sources ties) (placed_after source earlier rows)
+      → ((t : ℕ) → times t earlier + count_by (λ (r : Row X). r.time == t) rows ≤ ties)
+      → AllByRecursion (HasPlace sources ties) (placed_after source earlier rows)
   has_places sources ties source earlier [] at few = tt
   has_places sources ties source earlier (r ∷ rows) at few = (
     record {

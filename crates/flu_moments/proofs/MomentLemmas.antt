@@ -32,14 +32,16 @@ row_order a b c d w lt lt' less =
 pub source_within : (sources time source : ℕ) → source < sources → (time * sources + source) / sources ≡ time
 source_within sources time source lt = div-mul-add time sources source lt
 
-pub time_of-moment : (sources ties time source place : ℕ) → IsPlace sources ties source place → time_of sources ties (moment sources ties time source place) ≡ time
+pub time_of-moment : (sources ties time source place : ℕ) → IsPlace sources ties source place
+    → time_of sources ties (moment sources ties time source place) ≡ time
 time_of-moment sources ties time source place at =
     ap (λ w. moment sources ties time source place / w) (mul_comm sources ties)
     ∙ sym (div-div-eq-div-mul (moment sources ties time source place) ties sources)
     ∙ ap (λ m. m / sources) (div-mul-add (time * sources + source) ties place at.place_in_range)
     ∙ div-mul-add time sources source at.source_in_range
 
-pub source_of-moment : (sources ties time source place : ℕ) → IsPlace sources ties source place → source_of sources ties (moment sources ties time source place) ≡ source
+pub source_of-moment : (sources ties time source place : ℕ) → IsPlace sources ties source place
+    → source_of sources ties (moment sources ties time source place) ≡ source
 source_of-moment sources ties time source place at =
     ap (λ m. m % sources) (div-mul-add (time * sources + source) ties place at.place_in_range)
     ∙ mod-mul-add time sources source at.source_in_range
@@ -68,8 +70,10 @@ pub order_from_moments : (sources ties time source place time' source' place' : 
     → moment sources ties time source place < moment sources ties time' source' place' → IsBefore time source place time' source' place'
 order_from_moments sources ties time source place time' source' place' at at' less =
     elim (row_order (time * sources + source) place (time' * sources + source') place' ties at.place_in_range at'.place_in_range less) [
-      | inl before ↦ elim (row_order time source time' source' sources at.source_in_range at'.source_in_range before) [ inl earlier ↦ inl earlier | inr same ↦ inr (same.0, inl same.1) ]
-      | inr same ↦ (let parts = same_from_place time source time' source' sources at.source_in_range at'.source_in_range same.0 in inr (parts.0, inr (parts.1, same.1)))
+      | inl before ↦ elim (row_order time source time' source' sources at.source_in_range at'.source_in_range before)
+          [ inl earlier ↦ inl earlier | inr same ↦ inr (same.0, inl same.1) ]
+      | inr same ↦ (let parts = same_from_place time source time' source' sources at.source_in_range at'.source_in_range same.0 in
+          inr (parts.0, inr (parts.1, same.1)))
     ]
 
 pub moments_from_order : (sources ties time source place time' source' place' : ℕ) → IsPlace sources ties source place → IsPlace sources ties source' place'
@@ -81,18 +85,22 @@ moments_from_order sources ties time source place time' source' place' at at' be
       | inr same ↦ elim same.1 [
         | inl first ↦ (let lines : time * sources ≡ time' * sources = ap (λ t. t * sources) same.0 in
             let step = row_below (time * sources + source) place (time' * sources + source') ties at.place_in_range (omega arith) in omega arith)
-        | inr tied ↦ (let lines : (time * sources + source) * ties ≡ (time' * sources + source') * ties = ap (λ x. x * ties) (λ i. same.0 i * sources + tied.0 i) in
+        | inr tied ↦ (let lines : (time * sources + source) * ties ≡ (time' * sources + source') * ties
+            = ap (λ x. x * ties) (λ i. same.0 i * sources + tied.0 i) in
             omega (arith, tied.1))
       ]
     ]
 
 pub moments_in_order : MomentsAreInOrder
-moments_in_order sources ties time source place time' source' place' at at' =
-    (order_from_moments sources ties time source place time' source' place' at at', moments_from_order sources ties time source place time' source' place' at at')
+moments_in_order sources ties time source place time' source' place' at at' = (
+  order_from_moments sources ties time source place time' source' place' at at',
+  moments_from_order sources ties time source place time' source' place' at at',
+)
 
 -- ---- the times that are allowed
 -- the moments of a time are those before the first of the next one
-pub moment_in_time : (sources ties time source place : ℕ) → IsPlace sources ties source place → moment sources ties time source place < (time + 1) * (sources * ties)
+pub moment_in_time : (sources ties time source place : ℕ) → IsPlace sources ties source place
+    → moment sources ties time source place < (time + 1) * (sources * ties)
 moment_in_time sources ties time source place at =
     let in_line : time * sources + source < (time + 1) * sources = (let s = at.source_in_range in omega arith) in
     let step = row_below (time * sources + source) place ((time + 1) * sources) ties at.place_in_range in_line in
@@ -110,7 +118,8 @@ some_product a b some any = let rows = product_le 1 a b (omega arith) in omega a
 a_time_is_allowed : (w : ℕ) → 0 < w → w ≤ 2 ^ 63 → 0 < 2 ^ 63 / w
 a_time_is_allowed w some fits = let one = le-div 1 (2 ^ 63) w some (omega arith) in omega arith
 
-pub allowed_from_greatest : (sources ties time : ℕ) → 0 < sources → 0 < ties → sources * ties ≤ 2 ^ 63 → time ≤ greatest_time sources ties → IsAllowed sources ties time
+pub allowed_from_greatest : (sources ties time : ℕ) → 0 < sources → 0 < ties → sources * ties ≤ 2 ^ 63 → time ≤ greatest_time sources ties
+    → IsAllowed sources ties time
 allowed_from_greatest sources ties time some any fits le =
     let first = a_time_is_allowed (sources * ties) (some_product sources ties some any) fits in
     omega arith

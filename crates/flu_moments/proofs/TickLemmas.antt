@@ -22,7 +22,8 @@ only_next_tick sources ties every clock m a b next next' =
     let le' = next'.least a next.multiple next.above in
     omega arith
 
-pub next_tick-rises : (sources ties every clock m m' a b : ℕ) → m ≤ m' → IsNextTick sources ties every clock m a → IsNextTick sources ties every clock m' b → a ≤ b
+pub next_tick-rises : (sources ties every clock m m' a b : ℕ) → m ≤ m' → IsNextTick sources ties every clock m a → IsNextTick sources ties every clock m' b
+    → a ≤ b
 next_tick-rises sources ties every clock m m' a b le next next' = let above = next'.above in next.least b next'.multiple (omega arith)
 
 -- ---- the ticks between two rows
@@ -99,7 +100,8 @@ module _ (sources ties every clock first last : ℕ) (rows : List ℕ) (some : 0
       ordered = (All-contains (λ m. (first ≤ m) × (m ≤ last)) rows first span.between span.has_first).1
 
 -- ---- the list of the ticks is determined
-pub only_ticks : (sources ties every clock : ℕ) (rows xs ys : List ℕ) → IsTicks sources ties every clock rows xs → IsTicks sources ties every clock rows ys → xs ≡ ys
+pub only_ticks : (sources ties every clock : ℕ) (rows xs ys : List ℕ) → IsTicks sources ties every clock rows xs → IsTicks sources ties every clock rows ys
+    → xs ≡ ys
 only_ticks sources ties every clock rows xs ys a b =
     only_rising xs ys a.rising b.rising (λ z. (λ there. (b.each z).1 ((a.each z).0 there), λ there. (a.each z).1 ((b.each z).0 there)))
 

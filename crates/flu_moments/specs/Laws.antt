@@ -10,7 +10,8 @@ pub record IsPlace (sources ties source place : ℕ) : Type 0 where
 -- moments are told apart: the time, the source and the place of a row's moment are the row's own, and each number is the moment of its own
 pub record MomentsAreApart : Type 0 where
   pub time : (sources ties time source place : ℕ) → IsPlace sources ties source place → time_of sources ties (moment sources ties time source place) ≡ time
-  pub source : (sources ties time source place : ℕ) → IsPlace sources ties source place → source_of sources ties (moment sources ties time source place) ≡ source
+  pub source : (sources ties time source place : ℕ) → IsPlace sources ties source place
+      → source_of sources ties (moment sources ties time source place) ≡ source
   pub place : (sources ties time source place : ℕ) → IsPlace sources ties source place → place_of ties (moment sources ties time source place) ≡ place
   pub each : (sources ties m : ℕ) → 0 < sources → 0 < ties → moment sources ties (time_of sources ties m) (source_of sources ties m) (place_of ties m) ≡ m
   pub within : (sources ties m : ℕ) → 0 < sources → 0 < ties → IsPlace sources ties (source_of sources ties m) (place_of ties m)
@@ -31,7 +32,8 @@ BordersPartTimes = (sources ties time m : ℕ) → 0 < sources → 0 < ties → 
 
 -- the moments of the times that are allowed are those below 2^63, as far as sources * ties goes into it, and the greatest time is the last of them
 pub record AllowedTimesFit : Type 0 where
-  pub below : (sources ties time source place : ℕ) → IsAllowed sources ties time → IsPlace sources ties source place → moment sources ties time source place < 2 ^ 63
+  pub below : (sources ties time source place : ℕ) → IsAllowed sources ties time → IsPlace sources ties source place
+      → moment sources ties time source place < 2 ^ 63
   pub greatest : (sources ties time : ℕ) → 0 < sources → 0 < ties → sources * ties ≤ 2 ^ 63 → IsAllowed sources ties time ↔ (time ≤ greatest_time sources ties)
 
 -- where one source has one row at a time, a moment is the time, and so is its border

@@ -87,7 +87,8 @@ impl Moments {
         requires moment { moment < 2 ^ 63 }
         ensures some { IfSome result (IsNextTick self.sources self.ties every clock moment) }
         ensures in_range { IfSome result (λ time. time ≤ greatest_time self.sources self.ties) }
-        ensures none { IfNone result ((time : ℕ) → IsNextTick self.sources self.ties every clock moment time → greatest_time self.sources self.ties < time) }
+        ensures none { IfNone result ((time : ℕ) → IsNextTick self.sources self.ties every clock moment time
+            → greatest_time self.sources self.ties < time) }
     {
         let time = self
             .first_time(clock, moment)
@@ -107,8 +108,10 @@ impl Moments {
         requires order { first ≤ last }
         requires last { last < 2 ^ 63 }
         ensures some { IfSome result (λ ticks. (rows : List ℕ) → IsSpan first last rows → IsTicks self.sources self.ties every clock rows ticks) }
-        ensures in_range { IsSome result → (time : ℕ) → IsNextTick self.sources self.ties every clock last time → time ≤ greatest_time self.sources self.ties }
-        ensures none { IfNone result ((time : ℕ) → IsNextTick self.sources self.ties every clock last time → greatest_time self.sources self.ties < time) }
+        ensures in_range { IsSome result → (time : ℕ) → IsNextTick self.sources self.ties every clock last time
+            → time ≤ greatest_time self.sources self.ties }
+        ensures none { IfNone result ((time : ℕ) → IsNextTick self.sources self.ties every clock last time
+            → greatest_time self.sources self.ties < time) }
     {
         let from = self.next_tick(every, clock, first)?;
         let to = self.next_tick(every, clock, last)?;
@@ -124,8 +127,10 @@ impl Moments {
         requires last { last < 2 ^ 63 }
         ensures some { IfSome result (λ count. (rows ticks : List ℕ) → IsSpan first last rows
             → IsTicks self.sources self.ties every clock rows ticks → length ticks ≡ count) }
-        ensures in_range { IsSome result → (time : ℕ) → IsNextTick self.sources self.ties every clock last time → time ≤ greatest_time self.sources self.ties }
-        ensures none { IfNone result ((time : ℕ) → IsNextTick self.sources self.ties every clock last time → greatest_time self.sources self.ties < time) }
+        ensures in_range { IsSome result → (time : ℕ) → IsNextTick self.sources self.ties every clock last time
+            → time ≤ greatest_time self.sources self.ties }
+        ensures none { IfNone result ((time : ℕ) → IsNextTick self.sources self.ties every clock last time
+            → greatest_time self.sources self.ties < time) }
     {
         let ticks = self.ticks(every, clock, first, last)?;
         Some(ticks.count())
