@@ -1,0 +1,36 @@
+-- CLOCKS: a clock is one of the sources. It ticks at times that are multiples of `every`, one or more, once at a time.
+use Rattle.std.specs.Prelude.{◌≡◌, ◌↔◌, ℕ, zero, suc, ◌+◌, ◌%◌, ◌<◌, ◌≤◌, List, [], ◌∷◌, All, Any, Contains}
+use Rattle.std.specs.List.Sorted.{IsStrictlyIncreasing}
+use Rattle.flu_moments.specs.Moments.{moment}
+
+-- the moment of a clock's tick
+abbrev pub tick_moment : ℕ → ℕ → ℕ → ℕ → ℕ
+tick_moment sources ties clock time = moment sources ties time clock 0
+
+-- THE NEXT TICK after a moment: the least multiple whose tick is above it
+pub record IsNextTick (sources ties every clock m time : ℕ) : Type 0 where
+  pub multiple : time % every ≡ 0
+  pub above : m < tick_moment sources ties clock time
+  pub least : (other : ℕ) → other % every ≡ 0 → m < tick_moment sources ties clock other → time ≤ other
+
+-- TICKS: given the moments of all rows, a clock ticks at each multiple after some row, up to the first that is after all rows
+pub record IsTick (sources ties every clock : ℕ) (rows : List ℕ) (time : ℕ) : Type 0 where
+  pub multiple : time % every ≡ 0
+  pub after_a_row : Any (λ m. m < tick_moment sources ties clock time) rows
+  pub none_after_all : (earlier : ℕ) → earlier % every ≡ 0 → earlier < time → Any (λ m. tick_moment sources ties clock earlier ≤ m) rows
+
+-- the times of a clock's ticks, in order
+pub record IsTicks (sources ties every clock : ℕ) (rows ticks : List ℕ) : Type 0 where
+  pub rising : IsStrictlyIncreasing ticks
+  pub each : (time : ℕ) → Contains ticks time ↔ IsTick sources ties every clock rows time
+
+-- the moments of some rows, of which these are the first and the last in order
+pub record IsSpan (first last : ℕ) (rows : List ℕ) : Type 0 where
+  pub has_first : Contains rows first
+  pub has_last : Contains rows last
+  pub between : All (λ m. (first ≤ m) × (m ≤ last)) rows
+
+-- some numbers from the first on, each above the one before by `every`
+abbrev pub steps : ℕ → ℕ → ℕ → List ℕ
+steps first every zero = []
+steps first every (suc count) = first ∷ steps (first + every) every count

@@ -1,0 +1,31 @@
+//! Laws of moments. Each law is the contract of a function that does nothing.
+
+ghost use Rattle.flu_moments.specs.Laws.{MomentsAreApart, MomentsAreInOrder, BordersPartTimes, AllowedTimesFit, OneRowAtATime};
+ghost use Rattle.flu_moments.specs.MergeLaws.{MomentsMerge, MergeIsStableSort};
+ghost use Rattle.flu_moments.specs.TickLaws.{TicksAreDetermined, TicksFollowRows};
+
+/// Moments are one to one, and their order is that of the rows: by time, then by source, then by place.
+pub fn moments_order_rows()
+    ensures apart { MomentsAreApart }
+    ensures order { MomentsAreInOrder }
+{}
+
+/// A border never parts a time, the moments of the times that are allowed are below 2^63, and with one source of one row at a time
+/// a moment is the time.
+pub fn borders_part_times()
+    ensures borders { BordersPartTimes }
+    ensures allowed { AllowedTimesFit }
+    ensures one { OneRowAtATime }
+{}
+
+/// A clock has one next tick after each moment and one list of ticks for each list of rows, and the ticks follow the rows.
+pub fn ticks_follow_rows()
+    ensures determined { TicksAreDetermined }
+    ensures follow { TicksFollowRows }
+{}
+
+/// Rows in the order of their moments are the merge of the files: all their rows, file after file, in a stable sort by time.
+pub fn moments_merge<X>()
+    ensures merge { MomentsMerge X }
+    ensures stable { MergeIsStableSort X }
+{}
