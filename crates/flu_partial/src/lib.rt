@@ -1,6 +1,7 @@
 //! Partials: what the subtree of a node contributes, as lines of JSON, and back.
 #![tactic(auto)]
 
+mod contributions;
 mod fault;
 mod heads;
 mod laws;
@@ -10,6 +11,7 @@ mod order;
 mod printing;
 mod values;
 
+pub use contributions::read_contribution;
 pub use fault::LineFault;
 pub use heads::read_head;
 pub use laws::{

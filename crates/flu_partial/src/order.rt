@@ -39,6 +39,7 @@ pub enum Reached {
 }
 
 /// Which contributions of a partial came so far, after its head: contracts see up to where they go.
+#[derive(Drop)]
 pub struct PartialLines {
     reached: Reached,
 }
