@@ -1,5 +1,5 @@
 //! Tests of all that is read, and of what is made of it: the texts of jobs and plans, their printed forms and the places where they exceed
-//! limits, the words of commands, files and sinks, rows, the gathering of sources, merged lists, folds, reports, checkpoints and demos.
+//! limits, the words of commands, files and sinks, rows, the gathering of sources, merged lists, folds, reports, checkpoints, partials and demos.
 #![tactic(auto)]
 
 #[cfg(test)]
@@ -20,6 +20,8 @@ mod job_faults;
 mod limits;
 #[cfg(test)]
 mod outside;
+#[cfg(test)]
+mod partials;
 #[cfg(test)]
 mod plans;
 #[cfg(test)]

@@ -1,0 +1,5 @@
+use Rattle.flu_partial.proofs.Utf8.{law_of_printed_contributions}
+use Rattle.flu_partial.proofs.laws.printed_contributions_are_lines.Goals as goal
+
+pub returns : goal.returns
+returns c = law_of_printed_contributions
