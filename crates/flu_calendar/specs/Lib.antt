@@ -1,0 +1,4 @@
+pub mod Calendar
+pub mod Units
+pub mod Texts
+pub mod Places
