@@ -1,7 +1,7 @@
 -- The sums of the calendar in closed form, and their order.
 use Rattle.std.proofs.Common.{◌≡◌, ℕ, zero, suc, ◌+◌, ◌-◌, ◌*◌, ◌/◌, ◌%◌, ◌<◌, ◌≤◌, nat_lt, cond, refl, arith}
 use Rattle.std.proofs.lemmas.Bool.Decides.{nat_tests}
-use Rattle.flu_calendar.specs.Calendar.{is_leap, days_in_year, days_in_month, days_of_years, days_of_months, day_of, IsDate}
+use Rattle.flu_calendar.specs.Calendar.{is_leap, lacks, days_in_year, days_in_month, days_of_years, days_of_months, day_of, IsDate}
 
 -- the days from 1601 to the start of the year 1601 + n
 abbrev pub days_since_1601 : ℕ → ℕ
@@ -19,10 +19,6 @@ days_of_years_closed (suc n) =
     let year : 1601 + (n + 369) ≡ 1970 + n = omega arith in
     let next : suc n + 369 ≡ suc (n + 369) = omega arith in
     rw (next, step, year, ← before) (omega arith)
-
--- what February lacks of thirty days
-abbrev pub lacks : ℕ → ℕ
-lacks year = cond (is_leap year) 1 2
 
 -- the days before a month lie on a line, but for what February lacks
 pub days_of_months_closed : (year n : ℕ) → n < 12 → days_of_months year n + cond (nat_lt 1 n) (lacks year) 0 ≡ (367 * (n + 1) - 362) / 12

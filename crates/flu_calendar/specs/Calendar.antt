@@ -9,6 +9,10 @@ is_leap year = (year % 4 == 0) && (not (year % 100 == 0) || (year % 400 == 0))
 abbrev pub days_in_year : ℕ → ℕ
 days_in_year year = if is_leap year then 366 else 365
 
+-- what February lacks of thirty days
+abbrev pub lacks : ℕ → ℕ
+lacks year = if is_leap year then 1 else 2
+
 -- thirty days have April, June, September and November
 abbrev pub days_in_month : ℕ → ℕ → ℕ
 days_in_month year month =

@@ -2,3 +2,4 @@ pub mod Calendar
 pub mod Units
 pub mod Texts
 pub mod Places
+pub mod Agreement

@@ -9,8 +9,12 @@
 #![tactic(auto)]
 
 mod date;
+mod laws;
+mod print;
 mod read;
 mod unit;
 
+pub use laws::{days_have_one_date, printed_texts_say_their_times, texts_say_one_time};
+pub use print::push_time;
 pub use read::read_time;
 pub use unit::{Unit, times_end};

@@ -1,7 +1,7 @@
 //! The time that a text says.
 
 ghost use Rattle.std.specs.Prelude.{◌≡◌, ◌+◌, ◌*◌, ◌<◌, ◌≤◌, ℕ, length, IfSome, IfNone, drop};
-ghost use Rattle.flu_calendar.specs.Units.{units_in_second};
+ghost use Rattle.flu_calendar.specs.Units.{units_in_second, times_end};
 ghost use Rattle.flu_calendar.specs.Texts.{IsTimeText, IsFraction, units_in_fraction};
 ghost use Rattle.flu_calendar.specs.Places.{HasTwo, HasDay, HasClock, SaysFraction, IsWithoutZone};
 
@@ -18,6 +18,7 @@ const MOST_DIGITS: usize = 9;
 pub fn read_time(unit: Unit, bytes: &[u8]) -> Option<u64>
     ensures says { IfSome result (λ t. IsTimeText unit bytes.now t) }
     ensures says_none { IfNone result ((t : ℕ) → ¬ IsTimeText unit bytes.now t) }
+    ensures below_end { IfSome result (λ t. t < times_end unit) }
 {
     if bytes.len() < SECOND_LEN {
         return None;
