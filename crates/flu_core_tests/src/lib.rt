@@ -1,6 +1,8 @@
-//! Tests of the rules of jobs, of states and their tables, of the values of expressions and of updates. It has no code of its own.
+//! Tests of the rules of jobs, of states and their tables, of the values of expressions, of updates and of times as text. It has no code of its own.
 #![tactic(auto)]
 
+#[cfg(test)]
+mod calendar;
 #[cfg(test)]
 mod rules;
 #[cfg(test)]
