@@ -5,3 +5,4 @@ pub mod Pieces
 pub mod Cycles
 pub mod Printed
 pub mod Agreed
+pub mod Ordered

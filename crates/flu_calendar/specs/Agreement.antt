@@ -1,5 +1,7 @@
 -- THE LAWS of dates and of times as text.
 use Rattle.std.specs.Prelude.{◌≡◌, ℕ, ◌<◌, List}
+use Rattle.std.specs.Ordering.{nat_cmp}
+use Rattle.std.specs.Cmp.Lexicographic.{slice_cmp}
 use Rattle.flu_calendar.specs.declared.unit.Unit.{Unit}
 use Rattle.flu_calendar.specs.Calendar.{IsDate, day_of, year_of, month_of, day_in_month}
 use Rattle.flu_calendar.specs.Units.{times_end}
@@ -23,3 +25,8 @@ TextsSayOneTime = (unit : Unit) (text : List ℕ) (t s : ℕ) → IsTimeText uni
 -- LAW OF PRINTING: what a time is printed as says that time
 abbrev pub PrintedTextsSayTheirTimes : Type 0
 PrintedTextsSayTheirTimes = (unit : Unit) (t : ℕ) → t < times_end unit → IsTimeText unit (time_text unit t) t
+
+-- LAW OF ORDER: what times of one unit are printed as is in the order of the times, byte by byte
+abbrev pub PrintedTextsAreInOrder : Type 0
+PrintedTextsAreInOrder = (unit : Unit) (t s : ℕ) → t < times_end unit → s < times_end unit
+    → slice_cmp nat_cmp (time_text unit t) (time_text unit s) ≡ nat_cmp t s

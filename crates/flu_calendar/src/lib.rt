@@ -14,7 +14,10 @@ mod print;
 mod read;
 mod unit;
 
-pub use laws::{days_have_one_date, printed_texts_say_their_times, texts_say_one_time};
+pub use laws::{
+    days_have_one_date, printed_texts_are_in_order, printed_texts_say_their_times,
+    texts_say_one_time,
+};
 pub use print::push_time;
 pub use read::read_time;
 pub use unit::{Unit, times_end};
