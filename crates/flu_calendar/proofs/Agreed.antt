@@ -1,23 +1,22 @@
 -- The laws of dates and of times as text.
-use Rattle.std.proofs.Common.{◌≡◌, ◌⊎◌, inl, inr, ℕ, ◌+◌, ◌-◌, ◌*◌, ◌/◌, ◌%◌, ◌^◌, ◌<◌, ◌≤◌, List, [], ◌∷◌, ◌++◌, length, drop, subst, true, false, refl, sym, ap, ◌∙◌, arith}
-use Rattle.std.specs.Prelude.{codes, ◌&&◌}
+use Rattle.std.proofs.Common.{◌≡◌, inl, inr, ℕ, ◌+◌, ◌*◌, ◌/◌, ◌%◌, ◌<◌, List, [], ◌∷◌, ◌++◌, length, drop, subst, true, refl, sym, ap, ◌∙◌, arith}
+use Rattle.std.specs.Prelude.{codes}
 use Rattle.std.specs.Char.{is_ascii_digit, digit_value}
 use Rattle.std.specs.List.{list_all}
-use Rattle.std.specs.Str.Parse.{digits_value}
 use Rattle.std.proofs.lemmas.Bool.Decides.{nat_tests}
 use Rattle.std.proofs.lemmas.List.{append_cancel_right, append-nil, length-append}
 use Rattle.std.proofs.lemmas.List.Folds.{list_all-append}
 use Rattle.flu_lemmas.proofs.Tests.{both, and_right}
 use Rattle.flu_calendar.specs.declared.unit.Unit.{Unit}
 use Rattle.flu_calendar.specs.declared.unit.Unit.TheVariants.{Seconds, Milliseconds, Microseconds}
-use Rattle.flu_calendar.specs.Calendar.{IsDate, IsTimeOfDay, day_of, year_of, month_of, day_in_month}
+use Rattle.flu_calendar.specs.Calendar.{IsDate, day_of, year_of, month_of, day_in_month}
 use Rattle.flu_calendar.specs.Units.{units_in_second, times_end}
-use Rattle.flu_calendar.specs.Texts.{IsTimeText, IsFraction, IsZone, time_text, second_text, last_digits, fraction_text, printed_fraction, units_in_fraction, seconds_of}
+use Rattle.flu_calendar.specs.Texts.{IsTimeText, IsFraction, IsZone, time_text, second_text, last_digits, fraction_text, printed_fraction, units_in_fraction}
 use Rattle.flu_calendar.specs.Places.{HasTwo, HasDay, HasClock, SaysFraction}
-use Rattle.flu_calendar.specs.Agreement.{HasOneDate, DaysHaveOneDate, TextsSayOneTime, PrintedTextsSayTheirTimes}
+use Rattle.flu_calendar.specs.Agreement.{DaysHaveOneDate, TextsSayOneTime, PrintedTextsSayTheirTimes}
 use Rattle.flu_calendar.proofs.Days.{day_of_end}
 use Rattle.flu_calendar.proofs.DateOf.{date_of_day, day_of_date, year_of_date, month_of_date, year_of_is, month_of_is, day_in_month_is}
-use Rattle.flu_calendar.proofs.Pieces.{Parts, parts_of}
+use Rattle.flu_calendar.proofs.Pieces.{parts_of}
 use Rattle.flu_calendar.proofs.Printed.{second_below}
 
 -- ---- days have one date

@@ -1,7 +1,6 @@
 -- The year of a day, by the cycles of the calendar.
-use Rattle.std.proofs.Common.{◌≡◌, ℕ, ◌+◌, ◌-◌, ◌*◌, ◌/◌, ◌%◌, ◌<◌, ◌≤◌, min, ◌∙◌, arith}
-use Rattle.flu_calendar.specs.Calendar.{days_of_years}
-use Rattle.flu_calendar.proofs.Days.{days_since_1601, days_of_years_closed}
+use Rattle.std.proofs.Common.{◌≡◌, ℕ, ◌+◌, ◌-◌, ◌*◌, ◌/◌, ◌%◌, ◌<◌, ◌≤◌, min, arith}
+use Rattle.flu_calendar.proofs.Days.{days_since_1601}
 
 -- a year as cycles of 400, 100, 4 and 1 years after 1601
 pub cycles : (q c r s : ℕ) → c ≤ 3 → r ≤ 24 → s ≤ 3 → days_since_1601 (400 * q + 100 * c + 4 * r + s) ≡ q * 146097 + c * 36524 + r * 1461 + s * 365

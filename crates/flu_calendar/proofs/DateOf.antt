@@ -1,9 +1,8 @@
 -- The date of a day: its year and its month are the last ones that have begun by then.
-use Rattle.std.proofs.Common.{◌≡◌, ◌⊎◌, inl, inr, ℕ, zero, suc, ◌+◌, ◌-◌, ◌*◌, ◌/◌, ◌%◌, ◌<◌, ◌≤◌, nat_lt, cond, Bool, true, false, refl, ◌∙◌, arith}
-use Rattle.std.specs.Prelude.{nat_le}
+use Rattle.std.proofs.Common.{◌≡◌, inl, inr, ℕ, zero, suc, ◌+◌, ◌-◌, ◌*◌, ◌/◌, ◌<◌, ◌≤◌, refl, ◌∙◌, arith}
 use Rattle.std.proofs.lemmas.Bool.Decides.{nat_tests}
 use Rattle.std.proofs.lemmas.Bool.{cases_lt}
-use Rattle.flu_calendar.specs.Calendar.{is_leap, lacks, days_in_year, days_in_month, days_of_years, days_of_months, day_of, IsDate, years_over, months_over, year_of, month_of, day_in_year, day_in_month, YearFound, MonthFound}
+use Rattle.flu_calendar.specs.Calendar.{lacks, days_in_year, days_of_years, days_of_months, day_of, IsDate, years_over, months_over, year_of, month_of, day_in_year, day_in_month, MonthFound}
 use Rattle.flu_calendar.proofs.Days.{days_of_months_closed, days_of_months_all, days_of_months_more, days_of_months_up, days_of_years_up, days_of_years_more, days_of_years_closed, day_before_year_end, day_before_month}
 
 years_over_then : (n day : ℕ) → days_of_years (suc n) ≤ day → years_over (suc n) day ≡ suc n
@@ -107,6 +106,13 @@ line_fits year over h = omega (arith, lacks_bounds year)
 
 pub line_below : (b m : ℕ) → b < 367 → m ≡ (b * 12 + 373) / 367 → (1 ≤ m) × (m ≤ 12) × ((367 * m - 362) / 12 ≤ b)
 line_below b m h e = let on_line = line b m h e in (on_line.0, on_line.1, on_line.2)
+
+-- a day is in a year, of which so many days are over before it
+pub record YearFound (n year over : ℕ) : Type 0 where
+  pub low : 1970 ≤ year
+  pub high : year ≤ 9999
+  pub sum : days_of_years (year - 1970) + over ≡ n
+  pub within : over < days_in_year year
 
 pub year_is : (day year over : ℕ) → YearFound day year over → years_over 8029 day ≡ year - 1970
 year_is day year over h =

@@ -1,7 +1,7 @@
 -- The sums of the calendar in closed form, and their order.
-use Rattle.std.proofs.Common.{◌≡◌, ℕ, zero, suc, ◌+◌, ◌-◌, ◌*◌, ◌/◌, ◌%◌, ◌<◌, ◌≤◌, nat_lt, cond, refl, arith}
+use Rattle.std.proofs.Common.{◌≡◌, ℕ, zero, suc, ◌+◌, ◌-◌, ◌*◌, ◌/◌, ◌<◌, ◌≤◌, nat_lt, cond, refl, arith}
 use Rattle.std.proofs.lemmas.Bool.Decides.{nat_tests}
-use Rattle.flu_calendar.specs.Calendar.{is_leap, lacks, days_in_year, days_in_month, days_of_years, days_of_months, day_of, IsDate}
+use Rattle.flu_calendar.specs.Calendar.{lacks, days_in_year, days_in_month, days_of_years, days_of_months, day_of, IsDate}
 
 -- the days from 1601 to the start of the year 1601 + n
 abbrev pub days_since_1601 : ℕ → ℕ

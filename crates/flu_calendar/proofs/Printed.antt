@@ -1,5 +1,5 @@
 -- Printed pieces are ASCII, and printed times are far below the end.
-use Rattle.std.proofs.Common.{◌≡◌, ℕ, zero, suc, ◌+◌, ◌*◌, ◌/◌, ◌%◌, ◌<◌, List, [], ◌∷◌, ◌++◌, ◌∙◌, refl, arith}
+use Rattle.std.proofs.Common.{ℕ, zero, suc, ◌+◌, ◌/◌, ◌%◌, ◌<◌, List, [], ◌∷◌, ◌++◌, arith}
 use Rattle.std.specs.Prelude.{codes}
 use Rattle.std.specs.Str.{IsAscii, IsUtf8}
 use Rattle.std.proofs.lemmas.Str.{IsAscii-append, IsUtf8-from_ascii}
@@ -7,7 +7,7 @@ use Rattle.std.proofs.lemmas.Str.Ascii.{IsAscii-nil, IsAscii-cons, IsAscii-push}
 use Rattle.flu_calendar.specs.declared.unit.Unit.{Unit}
 use Rattle.flu_calendar.specs.declared.unit.Unit.TheVariants.{Seconds, Milliseconds, Microseconds}
 use Rattle.flu_calendar.specs.Units.{units_in_second, times_end}
-use Rattle.flu_calendar.specs.Texts.{date_text, clock_text, last_digits, printed_fraction}
+use Rattle.flu_calendar.specs.Texts.{date_text, clock_text, last_digits}
 use Rattle.flu_calendar.proofs.Days.{day_of_end}
 
 last_digits_ascii : (count n : ℕ) → IsAscii (last_digits count n)

@@ -72,13 +72,6 @@ month_of n = 1 + months_over (year_of n) 11 (day_in_year n)
 abbrev pub day_in_month : ℕ → ℕ
 day_in_month n = 1 + (day_in_year n - days_of_months (year_of n) (month_of n - 1))
 
--- a day is in a year, of which so many days are over before it
-pub record YearFound (n year over : ℕ) : Type 0 where
-  pub low : 1970 ≤ year
-  pub high : year ≤ 9999
-  pub sum : days_of_years (year - 1970) + over ≡ n
-  pub within : over < days_in_year year
-
 -- a day of a year, of which so many days are over before it, is that day of that month
 pub record MonthFound (year over month day : ℕ) : Type 0 where
   pub low : 1 ≤ month

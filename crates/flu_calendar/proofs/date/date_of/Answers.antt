@@ -1,6 +1,5 @@
 use Rattle.std.proofs.Common.{sym}
-use Rattle.flu_calendar.specs.Calendar.{YearFound}
-use Rattle.flu_calendar.proofs.DateOf.{year_of_is, month_of_is, day_in_month_is, date_found}
+use Rattle.flu_calendar.proofs.DateOf.{YearFound, year_of_is, month_of_is, day_in_month_is, date_found}
 use Rattle.flu_calendar.proofs.date.date_of.Goals as goal
 
 pub returns-clause-year : goal.returns-clause-year

@@ -1,4 +1,4 @@
-use Rattle.std.proofs.Common.{ℕ, ◌/◌, subst, sym}
+use Rattle.std.proofs.Common.{◌/◌, subst, sym}
 use Rattle.std.specs.Str.{IsAscii}
 use Rattle.flu_calendar.specs.Calendar.{year_of, month_of, day_in_month}
 use Rattle.flu_calendar.proofs.Printed.{date_ascii}

@@ -1,10 +1,9 @@
-use Rattle.std.proofs.Common.{◌≡◌, ℕ, ◌+◌, ◌-◌, ◌*◌, ◌/◌, ◌^◌, ◌<◌, ◌≤◌, get_or, length, take, true, arith, rules, refl}
+use Rattle.std.proofs.Common.{◌≡◌, ◌<◌, ◌≤◌, get_or, length, true, arith, rules, refl}
 use Rattle.std.specs.List.{list_all}
 use Rattle.std.specs.Char.{is_ascii_digit}
 use Rattle.std.proofs.lemmas.List.Folds.{list_all_more}
 use Rattle.std.proofs.Math.Seq.{take-length}
-use Rattle.flu_calendar.specs.Units.{units_in_second}
-use Rattle.flu_calendar.proofs.Fractions.{Stepped, stepped, started, unit_fits, all_stepped}
+use Rattle.flu_calendar.proofs.Fractions.{stepped, started, unit_fits, all_stepped}
 use Rattle.flu_calendar.proofs.read.digits_in.Goals as goal
 
 pub overflow_add-units : goal.overflow_add-units
