@@ -1,0 +1,5 @@
+pub mod Calendar
+pub mod Units
+pub mod Texts
+pub mod Places
+pub mod Agreement
