@@ -1,0 +1,7 @@
+pub mod Using
+pub mod States
+pub mod Outputs
+pub mod Steps
+pub mod Whole
+pub mod Streams
+pub mod Places

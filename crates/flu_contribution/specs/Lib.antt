@@ -1,0 +1,3 @@
+pub mod Contributions
+pub mod Combining
+pub mod Laws
