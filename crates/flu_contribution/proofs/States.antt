@@ -1,7 +1,7 @@
 -- Nodes apart with their open contributions, joined to a state: what one event does to them and to the whole.
-use Rattle.std.proofs.Common.{◌≡◌, ◌<◌, ℕ, Bool, true, false, cond, not, ◌&&◌, List, [], ◌∷◌, ◌⊎◌, inl, inr, refl, sym, ap, ◌∙◌, length, None, Some}
+use Rattle.std.proofs.Common.{◌≡◌, ◌<◌, ℕ, Bool, true, false, cond, List, [], ◌∷◌, inl, inr, refl, sym, ap, ◌∙◌, None}
 use Rattle.std.specs.Prelude.{Option, map, ⊤}
-use Rattle.std.specs.List.{list_any, AllByRecursion}
+use Rattle.std.specs.List.{AllByRecursion}
 use Rattle.std.proofs.lemmas.Bool.{cases_Bool}
 use Rattle.flu_lemmas.proofs.Tests.{not_both, false_if_not}
 use Rattle.flu_model.specs.declared.events.Cell.{Cell}
@@ -14,13 +14,13 @@ use Rattle.flu_model.specs.Itags.{count_of_itags}
 use Rattle.flu_model.specs.Sorts.{MayHold, IsStateOf}
 use Rattle.flu_model.specs.Updates.{effect_of, Effect}
 use Rattle.flu_laws.specs.Consistency.{within, outside, IsNeutralAtNeeds}
-use Rattle.flu_laws.specs.Uses.{needs, writes, mode_at}
+use Rattle.flu_laws.specs.Uses.{writes, mode_at}
 use Rattle.flu_deps.specs.Trees.{AreApart}
 use Rattle.flu_apart.specs.Classes.{is_used}
 use Rattle.flu_contribution.specs.Contributions.{keeps, is_inside, is_above, Contribution, opened, with_event}
 use Rattle.flu_contribution.specs.Laws.{IsApart}
-use Rattle.flu_contribution.proofs.Using.{Known, needed_is_used, written_is_used, used_by, kept_unused, needs_kept, mixing, apart_inside, apart_above}
-use Rattle.flu_contribution.proofs.Using.{unneeded, used_elsewhere, keeps_used, Moves, swap}
+use Rattle.flu_contribution.proofs.Using.{Known, needed_is_used, written_is_used, used_by, kept_unused, mixing}
+use Rattle.flu_contribution.proofs.Using.{unneeded, Moves, swap}
 
 -- a node with its open contribution
 pub record Open : Type 0 where

@@ -1,10 +1,9 @@
 -- One event of the fold, and what it does to the nodes apart, their queues and the combined fold.
-use Rattle.std.proofs.Common.{◌≡◌, ◌<◌, ℕ, Bool, true, false, cond, not, List, [], ◌∷◌, ◌++◌, append_assoc, ◌⊎◌, inl, inr, refl, sym, ap, subst, ◌∙◌, None, length}
+use Rattle.std.proofs.Common.{◌≡◌, ◌<◌, ℕ, Bool, true, false, cond, List, [], ◌∷◌, ◌++◌, append_assoc, ◌⊎◌, inl, inr, refl, sym, ap, subst, ◌∙◌, None, length}
 use Rattle.std.specs.Prelude.{map}
 use Rattle.std.specs.List.{list_any, AllByRecursion}
 use Rattle.std.specs.List.Sorted.{IsPermutation}
-use Rattle.std.proofs.lemmas.Bool.{cases_Bool, or_cases}
-use Rattle.std.proofs.lemmas.List.Sorted.{IsPermutation-refl, IsPermutation-trans}
+use Rattle.std.proofs.lemmas.Bool.{or_cases}
 use Rattle.flu_lemmas.proofs.Tests.{not_both, false_if_not}
 use Rattle.flu_model.specs.declared.events.Cell.{Cell}
 use Rattle.flu_model.specs.declared.events.Event.{Event}
@@ -16,14 +15,12 @@ use Rattle.flu_model.specs.Folding.{outputs_with}
 use Rattle.flu_model.specs.Itags.{count_of_itags}
 use Rattle.flu_model.specs.Sorts.{IsStateOf}
 use Rattle.flu_model.specs.Updates.{effect_of, Effect}
-use Rattle.flu_laws.specs.Consistency.{IsNeutralAtNeeds}
-use Rattle.flu_laws.specs.Uses.{needs, writes, mode_at}
 use Rattle.flu_deps.specs.Trees.{AreApart}
 use Rattle.flu_apart.specs.Classes.{is_used}
-use Rattle.flu_contribution.specs.Contributions.{keeps, is_inside, is_above, Contribution, opened, with_event, closed, contributions_from}
+use Rattle.flu_contribution.specs.Contributions.{is_inside, is_above, Contribution, opened, with_event, closed, contributions_from}
 use Rattle.flu_contribution.specs.Combining.{Combined, Queue, with_contribution, with_first, without_first, with_firsts, without_firsts}
-use Rattle.flu_contribution.proofs.Using.{Known, written_is_used, kept_unused, needs_kept, apart_inside, apart_above, unneeded, used_elsewhere, keeps_used}
-use Rattle.flu_contribution.proofs.States.{Open, total, joined_if, outer, step_by, stepped, closed_into, Holds, AllHold, AllApart, IsFree, AllFree, AllElsewhere}
+use Rattle.flu_contribution.proofs.Using.{Known, needs_kept, apart_inside, apart_above, unneeded, used_elsewhere}
+use Rattle.flu_contribution.proofs.States.{Open, total, joined_if, outer, step_by, stepped, closed_into, Holds, AllHold, AllApart, AllFree, AllElsewhere}
 use Rattle.flu_contribution.proofs.States.{join_holds, AllNeutral, outside_total}
 use Rattle.flu_contribution.proofs.Outputs.{outs, added_if, closed_outs, outs_pass}
 
@@ -60,7 +57,8 @@ module _ (p : Program) (nodes : List Node) where
   quiet_by false true x xs o (inl q) = cc
   quiet_by false true x xs o (inr q) = cc
 
-  pub quiet_queues : (x : Event) (xs : List Event) (os : List Open) → AllQuiet x os → map (queue_at (x ∷ xs)) os ≡ map (queue_at xs) (map (stepped p nodes x) os)
+  pub quiet_queues : (x : Event) (xs : List Event) (os : List Open) → AllQuiet x os
+      → map (queue_at (x ∷ xs)) os ≡ map (queue_at xs) (map (stepped p nodes x) os)
   quiet_queues x xs [] q = refl
   quiet_queues x xs (o ∷ os) q =
       let here = quiet_by (is_inside p nodes o.node x) (is_above p nodes o.node x) x xs o q.0 in
@@ -201,7 +199,8 @@ module _ (p : Program) (nodes : List Node) where
         }
 
     inside_later : (x : Event) (r : Contents) (o : Open) (os : List Open) → x.itag.0 < count_of_itags p → Holds p nodes o
-        → AllByRecursion (λ (q : Open). AreApart nodes o.node q.node) os → is_in_one x os ≡ true → InsideStep x (join r o.part.cells) os → InsideStep x r (o ∷ os)
+        → AllByRecursion (λ (q : Open). AreApart nodes o.node q.node) os → is_in_one x os ≡ true
+        → InsideStep x (join r o.part.cells) os → InsideStep x r (o ∷ os)
     inside_later x r o os lt h apart e step =
         let out = one_elsewhere o.node x os lt e apart in
         let not_above = one_above o.node x os lt h.apart.there e apart in

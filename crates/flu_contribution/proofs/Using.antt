@@ -14,10 +14,10 @@ use Rattle.flu_model.specs.declared.modes.Mode.{Mode}
 use Rattle.flu_model.specs.declared.modes.Mode.TheVariants.{None as NoMode, Add as AddMode, Raise as RaiseMode, Read as ReadMode, Own}
 use Rattle.flu_model.specs.declared.plans.Node.{Node}
 use Rattle.flu_model.specs.Contents.{joined_worth}
-use Rattle.flu_model.specs.Itags.{itags, count_of_itags, tag_of_itag, source_of_itag, is_dependent}
+use Rattle.flu_model.specs.Itags.{itags, count_of_itags, source_of_itag}
 use Rattle.flu_model.specs.Listing.{tag}
 use Rattle.flu_model.specs.Modes.{mode_of, uses, IsInUniverse}
-use Rattle.flu_model.specs.Owners.{owner_of, owns, subtree_owns, ancestors_own, is_within, are_related}
+use Rattle.flu_model.specs.Owners.{owner_of, subtree_owns, ancestors_own, is_within, are_related}
 use Rattle.flu_model.specs.Sorts.{MayHold}
 use Rattle.flu_model.specs.Validity.{IsValid}
 use Rattle.std.specs.Prelude.{Some}

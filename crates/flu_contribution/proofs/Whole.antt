@@ -3,9 +3,9 @@ use Rattle.std.proofs.Common.{◌≡◌, ◌<◌, ℕ, Bool, true, false, cond, 
 use Rattle.std.specs.Prelude.{Option, map, ◌||◌}
 use Rattle.std.specs.List.{list_any, filter, AllByRecursion}
 use Rattle.std.specs.List.Sorted.{IsPermutation}
-use Rattle.std.proofs.lemmas.Bool.{cases_Bool, or_left, or_right, or_cases}
+use Rattle.std.proofs.lemmas.Bool.{cases_Bool, or_left, or_right}
 use Rattle.std.proofs.lemmas.List.{append-nil}
-use Rattle.std.proofs.lemmas.List.Sorted.{IsPermutation-refl, IsPermutation-trans}
+use Rattle.std.proofs.lemmas.List.Sorted.{IsPermutation-trans}
 use Rattle.flu_lemmas.proofs.Tests.{not_both, false_if_not}
 use Rattle.flu_model.specs.declared.events.Cell.{Cell}
 use Rattle.flu_model.specs.declared.events.Event.{Event}
@@ -23,7 +23,7 @@ use Rattle.flu_laws.specs.Uses.{writes, mode_at}
 use Rattle.flu_deps.specs.Trees.{AreApart}
 use Rattle.flu_apart.specs.Classes.{is_used}
 use Rattle.flu_contribution.specs.Contributions.{keeps, is_inside, is_above, opened, contributions}
-use Rattle.flu_contribution.specs.Combining.{Combined, Queue, with_firsts, without_firsts, with_effect, combined_from, is_of_none, is_kept_by_one, combined}
+use Rattle.flu_contribution.specs.Combining.{Combined, Queue, with_effect, combined_from, is_of_none, is_kept_by_one, combined}
 use Rattle.flu_contribution.specs.Laws.{NoneIsWithin, IsApart, AreNodesApart, AreInRange, GivesTheFold}
 use Rattle.flu_contribution.proofs.Using.{Known, written_is_used, kept_unused, used_elsewhere, keeps_used}
 use Rattle.flu_contribution.proofs.States.{Open, total, joined_if, outer, stepped, closed_into, Holds, AllHold, AllApart, AllFree, AllElsewhere, stepped_node}
@@ -279,7 +279,8 @@ module _ (p : Program) (nodes : List Node) (known : Known p nodes) where
             | inr none ↦ none_holds opening (outside (is_kept_by_one p nodes ws) opening) ws c none ∙ ap (λ b. cond b None (opening c)) none
           ]
 
-  starts_hold : (opening : Contents) (ws : List ℕ) → IsStateOf p.families opening → AllByRecursion (IsApart p nodes) ws → AllHold p nodes (map (start opening) ws)
+  starts_hold : (opening : Contents) (ws : List ℕ) → IsStateOf p.families opening → AllByRecursion (IsApart p nodes) ws
+      → AllHold p nodes (map (start opening) ws)
   starts_hold opening [] sorts each = tt
   starts_hold opening (w ∷ ws) sorts each = (
     record {
@@ -299,7 +300,8 @@ module _ (p : Program) (nodes : List Node) (known : Known p nodes) where
   starts_apart opening [] a = tt
   starts_apart opening (w ∷ ws) a = (apart_start opening w ws a.0, starts_apart opening ws a.1)
 
-  starts_free : (opening r : Contents) (ws : List ℕ) → ((c : Cell) → is_kept_by_one p nodes ws c ≡ true → r c ≡ None) → AllFree p nodes r (map (start opening) ws)
+  starts_free : (opening r : Contents) (ws : List ℕ) → ((c : Cell) → is_kept_by_one p nodes ws c ≡ true → r c ≡ None)
+      → AllFree p nodes r (map (start opening) ws)
   starts_free opening r [] h = tt
   starts_free opening r (w ∷ ws) h = (
     λ c kept. h c (or_left (keeps p nodes w c) (is_kept_by_one p nodes ws c) kept),
