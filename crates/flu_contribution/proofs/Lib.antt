@@ -5,3 +5,4 @@ pub mod Steps
 pub mod Whole
 pub mod Streams
 pub mod Places
+pub mod KeptLemmas

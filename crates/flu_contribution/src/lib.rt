@@ -1,8 +1,16 @@
-//! What nodes apart contribute, joined at its places, gives the fold (`docs/SCALE.md`). Each law is the contract of a function that does
-//! nothing.
+//! What nodes apart contribute, joined at its places, gives the fold (`docs/SCALE.md`): the law, as the contract of a function that does
+//! nothing, and the code for a node apart and for the fold that its contributions are joined to.
 #![tactic(auto)]
 
 ghost use Rattle.flu_contribution.specs.Laws.{ContributionsGiveTheFold, ContributionsGiveTheRun, ContributionsHavePlaces};
+
+mod combining;
+mod contributing;
+mod kept;
+
+pub use combining::Combining;
+pub use contributing::{Contributing, Handed};
+pub use kept::take_kept;
 
 /// Of a valid plan of an accepted job take nodes that may be apart, none within another. The fold over the events that are inside none of
 /// them, with the contributions of each node joined before the events that an ancestor of the node owns and at the end, has the fold's
