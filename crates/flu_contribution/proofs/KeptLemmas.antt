@@ -1,53 +1,22 @@
--- Which cells a node keeps, as a set that grows, and what a state holds in them.
-use Rattle.std.proofs.Common.{◌≡◌, ◌<◌, ◌≤◌, ◌+◌, ℕ, zero, suc, Bool, true, false, cond, not, List, [], ◌∷◌, length, get_or, ◌⊎◌, inl, inr, refl, sym, ap, subst, ◌∙◌, None, Some, arith}
-use Rattle.std.specs.Prelude.{Option, is_some, ◌&&◌, ◌||◌, ◌==◌, IsTrue, slice_get}
-use Rattle.std.specs.List.{filter, list_any, Contains, range_with_len}
+-- The cells that a node keeps, as a set that grows.
+use Rattle.std.proofs.Common.{◌≡◌, ◌<◌, ◌≤◌, ◌+◌, ℕ, zero, suc, Bool, true, false, cond, List, [], ◌∷◌, length, get_or, inl, inr, refl, sym, ap, subst, ◌∙◌, None, Some, arith}
+use Rattle.std.specs.Prelude.{Option, is_some, ◌&&◌, ◌||◌, ◌==◌}
+use Rattle.std.specs.List.{filter, range_with_len}
 use Rattle.std.proofs.lemmas.Bool.{cases_lt, or_left, or_right, or_cases}
 use Rattle.std.proofs.lemmas.List.{get_or_default}
-use Rattle.std.proofs.lemmas.Option.{slice_get_within}
 use Rattle.flu_lemmas.proofs.Searches.{eq_true}
 use Rattle.flu_lemmas.proofs.Ranges.{range_has}
-use Rattle.flu_lemmas.proofs.Tests.{both, and_left, and_right, not_both, false_if_not, true_eq}
+use Rattle.flu_lemmas.proofs.Tests.{both, and_left, and_right, not_both, true_eq}
 use Rattle.flu_model.specs.declared.events.Cell.{Cell}
 use Rattle.flu_model.specs.declared.events.Worth.{Worth}
-use Rattle.flu_model.specs.declared.jobs.Family.{Family}
 use Rattle.flu_model.specs.Contents.{Contents, cell, is_same_cell, held_keys, all_keys, key_count}
-use Rattle.flu_model.specs.Sorts.{IsStateOf, MayHold, is_cell_of, key_is_in}
 use Rattle.flu_cells.specs.declared.sets.CellSet.{CellSet}
 use Rattle.flu_cells.specs.Entries.{HasKeysInRange}
-use Rattle.flu_cells.specs.Sets.{is_in, only}
-use Rattle.flu_laws.specs.Consistency.{within, outside}
+use Rattle.flu_cells.specs.Sets.{is_in}
 use Rattle.flu_apart.specs.declared.classes.Subtree.{Subtree}
-use Rattle.flu_apart.specs.Subtrees.{job}
 use Rattle.flu_contribution.specs.Parts.{keeps_of, HasKept}
 
 -- ---- tests
-choose : (b k : Bool) (o : Option Worth) → (b ≡ true → k ≡ true) → (is_some o ≡ true → k ≡ true → b ≡ true) → cond b o None ≡ cond k o None
-choose true true o f g = refl
-choose true false o f g = let no = f refl in cc
-choose false true None f g = refl
-choose false true (Some w) f g = let no = g refl refl in cc
-choose false false o f g = refl
-
-leave : (b k : Bool) (o : Option Worth) → (b ≡ true → k ≡ true) → (is_some o ≡ true → k ≡ true → b ≡ true) → cond (not b) o None ≡ cond k None o
-leave true true o f g = refl
-leave true false o f g = let no = f refl in cc
-leave false true None f g = refl
-leave false true (Some w) f g = let no = g refl refl in cc
-leave false false o f g = refl
-
-pub kept_added : (a b k n : Bool) → n ≡ (a || b) → k ≡ true → n ≡ (a || (b && k))
-kept_added true b k n e h = e
-kept_added false true true n e h = e
-kept_added false false true n e h = e
-kept_added false b false n e h = cc
-
-pub not_added : (a b k : Bool) → k ≡ false → a ≡ (a || (b && k))
-not_added true b k h = refl
-not_added false true false h = refl
-not_added false false false h = refl
-not_added false b true h = cc
-
 eq_itself : (n : ℕ) → (n == n) ≡ true
 eq_itself n = eq_true n n refl
 
@@ -140,24 +109,3 @@ grown_all s state set family keys n are le bounded g = record {
 
 pub none_yet : (s : Subtree) (state : Contents) (set : CellSet) → ((c : Cell) → is_in set c ≡ false) → HasKept s state set 0
 none_yet s state set none = record { only = λ c e. absurd (not_both _ e (none c)); all = λ c lt there kept. absurd (omega arith) }
-
--- ---- the parts of the state
-declared : (families : List Family) (c : Cell) (o : Option Worth) → MayHold families c o → is_some o ≡ true → c.family < length families
-declared families c None h e = cc
-declared families c (Some w) h e = found (slice_get families c.family) refl h.0
-  where
-    found : (o : Option Family) → slice_get families c.family ≡ o → key_is_in o c.key ≡ true → c.family < length families
-    found None is e = cc
-    found (Some f) is e = slice_get_within families c.family f is
-
-pub taken_part : (s : Subtree) (state : Contents) (set : CellSet) → HasKept s state set (length (job s).families) → IsStateOf (job s).families state
-    → only (is_in set) state ≡ within (keeps_of s) state
-taken_part s state set h sorts = λ i c.
-    choose (is_in set c) (keeps_of s c) (state c) (h.only c)
-    (λ there kept. h.all c (declared (job s).families c (state c) (sorts c) there) there kept) i
-
-pub left_part : (s : Subtree) (state : Contents) (set : CellSet) → HasKept s state set (length (job s).families) → IsStateOf (job s).families state
-    → only (λ c. not (is_in set c)) state ≡ outside (keeps_of s) state
-left_part s state set h sorts = λ i c.
-    leave (is_in set c) (keeps_of s c) (state c) (h.only c)
-    (λ there kept. h.all c (declared (job s).families c (state c) (sorts c) there) there kept) i
