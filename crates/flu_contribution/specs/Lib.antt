@@ -1,0 +1,4 @@
+pub mod Contributions
+pub mod Combining
+pub mod Laws
+pub mod Parts
