@@ -34,7 +34,7 @@ use Rattle.flu_rounds.specs.Halves.{AppendsReport, AppendsPartOfReport, AreRun, 
 use Rattle.flu_rounds.specs.Standing.{Standing, IsSourceFault, StandsBehind}
 use Rattle.flu_rounds.specs.Written.{lines_in}
 use Rattle.flu_save.specs.Checkpoint.{save}
-use Rattle.flu_top.specs.declared.products.Said.{Said}
+use Rattle.flu_lines.specs.declared.products.Said.{Said}
 use Rattle.flu_top.specs.declared.running.RunFault.TheVariants.{Round}
 use Rattle.flu_top.specs.Ending.{Call, call}
 use Rattle.flu_top.specs.Openings.{Opening}

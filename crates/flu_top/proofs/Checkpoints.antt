@@ -21,7 +21,7 @@ use Rattle.flu_top.specs.Starting.{IsFileOf, IsNoSource, IsSameName, Resumes}
 use Rattle.flu_save.specs.declared.fault.SaveFault.{SaveFault}
 use Rattle.flu_save.specs.declared.fault.SaveFault.TheVariants as f
 use Rattle.flu_save.specs.Forms.{IsFaultOf, IsSave, IsShort, most_bytes}
-use Rattle.flu_top.specs.Answer.{refusal_of_save}
+use Rattle.flu_lines.specs.Answer.{refusal_of_save}
 use Rattle.flu_top.specs.Running.{IsOpened, IsOpening, IsOpeningRefusal}
 use Rattle.flu_top.proofs.Sequence.{one_text}
 

@@ -19,10 +19,10 @@ use Rattle.flu_save.specs.Laws.{LawOfFaults}
 use Rattle.flu_streams.specs.Fronts.{LawOfMeeting}
 use Rattle.flu_trace.specs.OneEnding.{OneEnding}
 use Rattle.flu_lemmas.proofs.Told.{of_told}
-use Rattle.flu_top.specs.declared.refusals.PlanDefect.{PlanDefect}
-use Rattle.flu_top.specs.declared.refusals.PlanDefect.TheVariants as defects
-use Rattle.flu_top.specs.declared.refusals.SaveDefect.{SaveDefect}
-use Rattle.flu_top.specs.declared.refusals.SaveDefect.TheVariants as starts
+use Rattle.flu_lines.specs.declared.refusals.PlanDefect.{PlanDefect}
+use Rattle.flu_lines.specs.declared.refusals.PlanDefect.TheVariants as defects
+use Rattle.flu_lines.specs.declared.refusals.SaveDefect.{SaveDefect}
+use Rattle.flu_lines.specs.declared.refusals.SaveDefect.TheVariants as starts
 use Rattle.flu_trace.specs.declared.faults.ReplayFault.{ReplayFault}
 use Rattle.flu_trace.specs.declared.faults.ReplayFault.TheVariants as traces
 use Rattle.flu_trace.specs.Replaying.{Ending, Complete, ending_of}
@@ -273,7 +273,7 @@ module _ (laws : LawsBelow) where
   -- what each outcome shows of the files
   by_defect : (wanted : ℕ) (command : Command) (left : Contents) (old new : Option Contents) (defect : PlanDefect) → old ≡ Some left
       → Leads wanted command left → HasPlanDefect command old new defect → IsStatus wanted 5
-  by_defect wanted command left old new (defects.Text fault) told leads why =
+  by_defect wanted command left old new (defects.Text fault text) told leads why =
       let found = of_told (λ old _. HasJob (job_wanted command) old why.program
       × (plan_in why.program (plan_behind (job_wanted command) why.plan old) ≡ Err fault)) left old new told why.first in
       leads.plan why.plan why.program why.asked why.accepted found.1.0 (faulty_text (job_wanted command) why.plan left why.program fault found.1.1)

@@ -6,10 +6,10 @@ use Rattle.flu_outside.specs.Outside.{Contents, WhereTold}
 use Rattle.flu_outside.specs.Writing.{AppendsAll}
 use Rattle.flu_model.specs.Erasure.{Job}
 use Rattle.flu_words.specs.Words.{Command, Demo}
-use Rattle.flu_top.specs.declared.refusals.PlanDefect.{PlanDefect}
-use Rattle.flu_top.specs.declared.refusals.PlanDefect.TheVariants as defects
-use Rattle.flu_top.specs.declared.refusals.SaveDefect.{SaveDefect}
-use Rattle.flu_top.specs.declared.refusals.SaveDefect.TheVariants as saves
+use Rattle.flu_lines.specs.declared.refusals.PlanDefect.{PlanDefect}
+use Rattle.flu_lines.specs.declared.refusals.PlanDefect.TheVariants as defects
+use Rattle.flu_lines.specs.declared.refusals.SaveDefect.{SaveDefect}
+use Rattle.flu_lines.specs.declared.refusals.SaveDefect.TheVariants as saves
 use Rattle.flu_top.specs.Behind.{Named, Fixed}
 use Rattle.flu_top.specs.Causes.{HasJobFault, HasConflict, HasPlanDefect, HasSaveDefect, HasSourceFault, HasTraceFault}
 use Rattle.flu_top.specs.Demos.{demo_job}
@@ -24,7 +24,7 @@ fixed_has_no_name : (job : Job) (name : List ℕ) → Fixed job ≡ Named name �
 fixed_has_no_name job name e = cc
 
 no_defect : (n seed : ℕ) (old new : Option Contents) (defect : PlanDefect) → HasPlanDefect (Demo n seed) old new defect → ⊥
-no_defect n seed old new (defects.Text fault) why = not_named None why.plan refl why.asked
+no_defect n seed old new (defects.Text fault text) why = not_named None why.plan refl why.asked
 no_defect n seed old new (defects.Invalid checked fault) why = not_named None why.plan refl why.asked
 
 no_start : (n seed : ℕ) (name : List ℕ) → (save_named (Demo n seed) ≡ Some name) ⊎ (resume_named (Demo n seed) ≡ Some name) → ⊥

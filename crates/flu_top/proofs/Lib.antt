@@ -1,8 +1,4 @@
 pub mod OneCommand
-pub mod Written
-pub mod WrittenConflicts
-pub mod WrittenPlans
-pub mod WrittenSteps
 pub mod Jobs
 pub mod PlanTexts
 pub mod Sequence

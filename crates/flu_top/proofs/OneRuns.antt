@@ -16,7 +16,7 @@ use Rattle.flu_trace.specs.OneEnding.{OneEnding}
 use Rattle.flu_trace.specs.Replaying.{IsReplayed}
 use Rattle.flu_top.specs.Behind.{WantedJob, Named, Fixed, HasJob, HasPlan, emptied_each, lists_behind, plan_behind}
 use Rattle.flu_top.specs.Determining.{OneEndingOfATrace, OneLineOfARun, OneTraceOfARun}
-use Rattle.flu_top.specs.Lines.{step_line}
+use Rattle.flu_lines.specs.Lines.{step_line}
 use Rattle.flu_top.specs.Simulating.{from_nothing, lines_of_steps}
 use Rattle.flu_top.specs.Wants.{job_wanted, texts_named}
 use Rattle.flu_top.proofs.SamePlans.{same_plan}

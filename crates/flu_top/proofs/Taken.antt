@@ -11,8 +11,8 @@ use Rattle.flu_save.specs.declared.fault.SaveFault.{SaveFault}
 use Rattle.flu_save.specs.Forms.{IsFaultOf}
 use Rattle.flu_save.specs.Laws.{LawOfFaults, LawOfOneMeaning, SavesAreOfJobs}
 use Rattle.flu_words.specs.Words.{Command, Run, command_in}
-use Rattle.flu_top.specs.declared.refusals.SaveDefect.{SaveDefect}
-use Rattle.flu_top.specs.declared.refusals.SaveDefect.TheVariants as saves
+use Rattle.flu_lines.specs.declared.refusals.SaveDefect.{SaveDefect}
+use Rattle.flu_lines.specs.declared.refusals.SaveDefect.TheVariants as saves
 use Rattle.flu_top.specs.Behind.{Named, HasJob, emptied_each}
 use Rattle.flu_top.specs.Causes.{HasSaveDefect}
 use Rattle.flu_top.specs.Done.{HasPlanAsked}

@@ -17,13 +17,13 @@ use Rattle.flu_plan.specs.declared.fault.PlanFault.TheVariants as plans
 use Rattle.flu_valid.specs.declared.faults.Invalid.{Invalid}
 use Rattle.flu_valid.specs.Faults.{IsFirstPlanFault}
 use Rattle.flu_streams.specs.declared.faults.SourceFault.{SourceFault}
-use Rattle.flu_top.specs.declared.refusals.PlanDefect.{PlanDefect}
-use Rattle.flu_top.specs.declared.refusals.PlanDefect.TheVariants as defects
+use Rattle.flu_lines.specs.declared.refusals.PlanDefect.{PlanDefect}
+use Rattle.flu_lines.specs.declared.refusals.PlanDefect.TheVariants as defects
 use Rattle.flu_trace.specs.declared.faults.ReplayFault.{ReplayFault}
 use Rattle.flu_trace.specs.Replaying.{Ending, ending_of}
 use Rattle.flu_words.specs.Words.{Command}
-use Rattle.flu_top.specs.declared.refusals.SaveDefect.{SaveDefect}
-use Rattle.flu_top.specs.declared.refusals.SaveDefect.TheVariants as saves
+use Rattle.flu_lines.specs.declared.refusals.SaveDefect.{SaveDefect}
+use Rattle.flu_lines.specs.declared.refusals.SaveDefect.TheVariants as saves
 use Rattle.flu_top.specs.Behind.{WantedJob, Named, HasJob, HasPlan, fault_behind, plan_behind}
 use Rattle.flu_top.specs.Openings.{Opening}
 use Rattle.flu_top.specs.TextFaults.{IsFirstJobFault, IsFirstTextFault}
@@ -88,7 +88,7 @@ pub record HasInvalidPlan (command : Command) (old new : Option Contents) (p : P
 
 -- what is wrong with the command's plan
 abbrev pub HasPlanDefect : Command → Option Contents → Option Contents → PlanDefect → Type 0
-HasPlanDefect command old new (defects.Text fault) = HasPlanFault command old new fault
+HasPlanDefect command old new (defects.Text fault text) = HasPlanFault command old new fault
 HasPlanDefect command old new (defects.Invalid checked fault) = HasInvalidPlan command old new (program_of checked) fault.plan.nodes fault.why
 
 -- ---- the start

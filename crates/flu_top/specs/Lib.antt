@@ -18,12 +18,9 @@ pub mod Done
 pub mod Causes
 pub mod Ready
 pub mod ReadFaults
-pub mod Names
-pub mod Lines
 pub mod Outcome
 pub mod Laws
 pub mod Jobs
-pub mod Answer
 pub mod Folding
 pub mod Checking
 pub mod Plans

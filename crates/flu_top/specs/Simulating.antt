@@ -14,9 +14,9 @@ use Rattle.flu_fork.specs.Settings.{Setting}
 use Rattle.flu_live.specs.Seeded.{IsSeeded, IsTrace}
 use Rattle.flu_net.specs.declared.steps.Step.{Step}
 use Rattle.flu_trace.specs.Lines.{line_of, IsLineOf}
-use Rattle.flu_top.specs.declared.products.DrawnSteps.{DrawnSteps}
+use Rattle.flu_lines.specs.declared.products.DrawnSteps.{DrawnSteps}
 use Rattle.flu_top.specs.Behind.{Named, HasPlan, lists_behind}
-use Rattle.flu_top.specs.Lines.{step_line}
+use Rattle.flu_lines.specs.Lines.{step_line}
 
 -- a job with the nodes of a plan and the items of its itags, from the empty state
 abbrev pub from_nothing : Program → List Node → List (List Item) → Setting

@@ -23,7 +23,7 @@ ghost use Rattle.flu_top.specs.Running.{EndsRounds, GoesOn, IsOpening, StaysWith
 
 use crate::backup::Backup;
 use crate::openings::Opening;
-use crate::products::Said;
+use flu_lines::Said;
 use crate::running::{RunFault, adaptive_of, first, said_behind};
 use flu_adaptive::{Adaptive, programs_are_shared};
 use flu_cells::State;

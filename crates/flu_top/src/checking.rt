@@ -12,7 +12,7 @@ ghost use Rattle.flu_top.specs.Checking.{IsChecked, IsCheckRefusal};
 ghost use Rattle.flu_top.specs.Refusing.{IsRefusal};
 
 use crate::programs::program_of;
-use crate::refusals::Refusal;
+use flu_lines::Refusal;
 use flu_check::check;
 use flu_deps::Checked;
 use flu_model::{Program, Text};

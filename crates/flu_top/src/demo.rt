@@ -3,15 +3,16 @@
 ghost use Rattle.std.specs.Prelude.{◌≡◌, ◌==◌, count_by, length, IfOk, IfErr};
 ghost use Rattle.flu_outside.specs.Outside.{Contents};
 ghost use Rattle.flu_words.specs.Words.{Demo};
-ghost use Rattle.flu_top.specs.declared.refusals.Refusal.{Refusal};
+ghost use Rattle.flu_lines.specs.declared.refusals.Refusal.{Refusal};
 ghost use Rattle.flu_top.specs.Demos.{summary, lines_in};
 ghost use Rattle.flu_top.specs.Wants.{want};
 ghost use Rattle.flu_top.specs.Done.{IsWritten};
-ghost use Rattle.flu_top.specs.Products.{line_said, MaySay};
+ghost use Rattle.flu_lines.specs.Products.{line_said};
+ghost use Rattle.flu_top.specs.Products.{MaySay};
 
 use crate::planned::planned_greedily;
 use crate::products::Product;
-use crate::refusals::Refusal;
+use flu_lines::Refusal;
 use crate::running::tree_report;
 use flu_gen::{demo_job, demo_streams};
 use flu_model::Text;

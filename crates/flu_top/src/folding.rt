@@ -16,7 +16,7 @@ ghost use Rattle.flu_top.specs.Folding.{IsReported, IsReportRefusal};
 ghost use Rattle.flu_top.specs.Refusing.{IsRefusal};
 
 use crate::programs::program_of;
-use crate::refusals::{JobRead, Refusal};
+use flu_lines::{JobRead, Refusal};
 use flu_cells::State;
 use flu_model::{Program, Streams, Text};
 use flu_outside::Files;

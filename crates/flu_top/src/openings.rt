@@ -9,7 +9,7 @@ ghost use Rattle.flu_top.specs.Running.{IsOpening, IsOpened, IsOpeningRefusal, p
 ghost use Rattle.flu_top.specs.Starting.{AreNoSources, IsFileOf, IsNoSource, IsSameName};
 ghost use Rattle.flu_top.specs.Wants.{if_named};
 
-use crate::refusals::Refusal;
+use flu_lines::Refusal;
 use flu_cells::State;
 use flu_model::Program;
 use flu_outside::{Files, read_whole};

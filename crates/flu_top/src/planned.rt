@@ -19,7 +19,7 @@ use crate::checking::accepted;
 use crate::plans::plan_of;
 use crate::programs::program_of;
 use crate::rates::source_rates;
-use crate::refusals::{PlanDefect, Refusal};
+use flu_lines::{PlanDefect, Refusal};
 use flu_deps::{Checked, Valid};
 use flu_model::Program;
 use flu_outside::Files;

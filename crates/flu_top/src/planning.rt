@@ -12,7 +12,7 @@ ghost use Rattle.flu_top.specs.Refusing.{IsRefusal};
 
 use crate::planned::planned_greedily;
 use crate::programs::program_of;
-use crate::refusals::Refusal;
+use flu_lines::Refusal;
 use flu_model::{Program, Text};
 use flu_outside::Files;
 use flu_plan::print_plan;

@@ -19,7 +19,7 @@ ghost use Rattle.flu_top.specs.Replaying.{EndsOnNet};
 ghost use Rattle.flu_top.specs.Replays.{IsNetRefusal, IsReplayDone, IsReplayRefusal, IsReadIn, StaysEnded};
 
 use crate::planned::{Planned, planned_by};
-use crate::refusals::{JobRead, Refusal};
+use flu_lines::{JobRead, Refusal};
 use crate::sources::streams_of;
 use flu_cells::State;
 use flu_fork::Case;

@@ -14,13 +14,15 @@ ghost use Rattle.flu_top.specs.Taking.{TookOnly};
 ghost use Rattle.flu_top.specs.Wants.{want};
 ghost use Rattle.flu_top.specs.Done.{IsReadName, IsWritten};
 ghost use Rattle.flu_top.specs.Folding.{AreSourcesRead, IsReportRefusal};
-ghost use Rattle.flu_top.specs.Products.{line_said, MaySay};
+ghost use Rattle.flu_lines.specs.Products.{line_said};
+ghost use Rattle.flu_top.specs.Products.{MaySay};
 ghost use Rattle.flu_top.specs.Refusing.{IsRefusal};
 ghost use Rattle.flu_top.specs.Simulating.{AreDrawn, IsTextOn};
 
 use crate::planned::{Planned, planned_by};
-use crate::products::{DrawnSteps, Product, Said};
-use crate::refusals::{JobRead, Refusal};
+use crate::products::Product;
+use flu_lines::{DrawnSteps, Said};
+use flu_lines::{JobRead, Refusal};
 use crate::sources::streams_of;
 use crate::traces::trace_text;
 use flu_cells::State;

@@ -6,7 +6,7 @@ ghost use Rattle.flu_live.specs.Seeded.{IsSeeded};
 ghost use Rattle.flu_trace.specs.Lines.{number_of};
 ghost use Rattle.flu_top.specs.Simulating.{IsTraceIn, lines_of_steps};
 
-use crate::products::DrawnSteps;
+use flu_lines::DrawnSteps;
 use flu_fork::Case;
 use flu_live::{TracedRun, trace};
 use flu_model::Text;
