@@ -35,9 +35,13 @@ use Rattle.flu_top.specs.Done.{HasValidPlan, HasPlanAsked, IsGood, IsTraceRead, 
 use Rattle.flu_top.specs.Determining.{OneEndingOfATrace}
 use Rattle.flu_top.specs.Replaying.{ReplaysTo, HasCompleteTrace}
 use Rattle.flu_top.specs.Causes.{IsJobRead, HasJobFault, HasConflict, HasPlanDefect, HasSaveDefect, IsMet, HasSourceFault, HasTraceFault}
-use Rattle.flu_top.specs.Outcome.{Outside, Outcome, Faults, FaultsFirst, HasFaultyTrace, CallsFor, NothingFailed, Completes}
+use Rattle.flu_lines.specs.declared.statuses.Status.{Status}
+use Rattle.flu_lines.specs.declared.statuses.Status.TheVariants as statuses
+use Rattle.flu_lines.specs.Statuses.{code}
+use Rattle.flu_top.specs.Outcome.{Outside, Ended, Outcome, Faults, FaultsFirst, HasFaultyTrace, CallsFor, NothingFailed, Completes}
 use Rattle.flu_top.specs.Outcome as cases
-use Rattle.flu_top.proofs.OneCommand.{same_command, no_command}
+use Rattle.flu_top.proofs.OneCommand.{same_command}
+use Rattle.flu_top.proofs.Statuses.{ended_with}
 use Rattle.flu_top.proofs.Defects.{good_or_bad, met_defect}
 use Rattle.flu_top.proofs.SameJob.{same_good}
 use Rattle.flu_top.proofs.SameAcceptance.{same_accepted}
@@ -296,62 +300,56 @@ module _ (laws : LawsBelow) where
       why.1.first).1 in
       leads.start p why.1.accepted found.0 found.1 (bad_checkpoint_stops laws.saves command left p fault found.2)
 
-  by_case : (words : List (List ℕ)) (old new : Outside) (before now : Faults) (status wanted : ℕ) (command : Command) (left : Contents)
-      → Outcome words old new status → FaultsFirst words old.left before now status → command_in words ≡ Ok command → old.left ≡ Some left
-      → NothingFailed command old.left before now → Leads wanted command left → IsStatus wanted status
-  by_case words old new before now status wanted command left (cases.Done is other also line done heard) faults word told nothing leads =
-      let same = same_command words other command also word in
-      let known = subst (λ (d : Command). WhereKnown (job_wanted d) old.left new.left (IsDone d old.out new.out line)) same done in
-      let found = known_at (job_wanted command) (IsDone command old.out new.out line) left old.left new.left told known in
+  by_ended : (wanted : ℕ) (command : Command) (left : Contents) (old new : Outside) (status : Status) → Ended command old new status → old.left ≡ Some left
+      → Leads wanted command left → (code status ≢ 7) × (code status ≢ 8) × (code status ≢ 12) → IsStatus wanted (code status)
+  by_ended wanted command left old new statuses.Done ended told leads apart =
+      let found = known_at (job_wanted command) (IsDone command old.out new.out ended.0) left old.left new.left told ended.1 in
       let read = found.1.2 in
-      subst (IsStatus wanted) (sym is) (leads.done found.1.0 read.good (read_complete command left found.0 found.1.0 read.good.has read.trace))
-  by_case words old new before now status wanted command left (cases.BadWords is at bad files refused) faults word told nothing leads =
-      absurd (no_command words command at word bad)
-  by_case words old new before now status wanted command left (cases.BadJob is other also fault why refused) faults word told nothing leads =
-      let same = same_command words other command also word in
-      let has = subst (λ (d : Command). HasJobFault (job_wanted d) old.left new.left fault) same why in
-      subst (IsStatus wanted) (sym is) (leads.job has.name fault has.named
-      (of_told (λ old _. job_in (bytes_left old has.name) ≡ Err fault) left old.left new.left told has.first).1)
-  by_case words old new before now status wanted command left (cases.Conflicts is other also fault why refused) faults word told nothing leads =
-      let same = same_command words other command also word in
-      let has = subst (λ (d : Command). HasConflict d old.left new.left fault) same why in
-      let read = of_told (IsJobRead has.name fault.program) left old.left new.left told has.job in
-      subst (IsStatus wanted) (sym is) (leads.conflict fault.program has.asked has.conflict.refused
-      (subst (λ (job : WantedJob). HasJob job left fault.program) (sym has.named) read.1.has))
-  by_case words old new before now status wanted command left (cases.BadPlan is other also defect why refused) faults word told nothing leads =
-      let same = same_command words other command also word in
-      let has = subst (λ (d : Command). HasPlanDefect d old.left new.left defect) same why in
-      subst (IsStatus wanted) (sym is) (by_defect wanted command left old.left new.left defect told leads has)
-  by_case words old new before now status wanted command left (cases.BadSource is other also p fault text why wrote said) faults word told nothing leads =
-      let same = same_command words other command also word in
-      let has = subst (λ (d : Command). HasSourceFault d old.left new.left p fault text) same why in
+      leads.done found.1.0 read.good (read_complete command left found.0 found.1.0 read.good.has read.trace)
+  by_ended wanted command left old new statuses.BadWords ended told leads apart = absurd ended
+  by_ended wanted command left old new statuses.JobFault ended told leads apart =
+      let has = ended.1 in
+      leads.job has.name ended.0 has.named (of_told (λ old _. job_in (bytes_left old has.name) ≡ Err ended.0) left old.left new.left told has.first).1
+  by_ended wanted command left old new statuses.Conflict ended told leads apart =
+      let has = ended.1 in
+      let p = ended.0.program in
+      let read = of_told (IsJobRead has.name p) left old.left new.left told has.job in
+      leads.conflict p has.asked has.conflict.refused (subst (λ (job : WantedJob). HasJob job left p) (sym has.named) read.1.has)
+  by_ended wanted command left old new statuses.PlanDefect ended told leads apart =
+      by_defect wanted command left old.left new.left ended.0 told leads ended.1
+  by_ended wanted command left old new statuses.SourceFault ended told leads apart =
+      let p = ended.0 in
+      let has = ended.3 in
       let found = of_told (λ old new. HasJob (job_wanted command) old p × HasPlanAsked command old p × CanStart command old p
-      × IsMet (how_read command) command old new p text fault) left old.left new.left told has.first in
-      subst (IsStatus wanted) (sym is)
-      (leads.source p has.accepted found.1.0 found.1.1 found.1.2 (met_defect laws.meeting (how_read command) command left found.0 p text fault found.1.3))
-  by_case words old new before now status wanted command left (cases.ReadFailed is other also some said) faults word told nothing leads =
-      let rose = faults.read is in
-      let same = same_command words rose.1.0 command rose.1.1 word in
-      absurd (nothing.files rose.0 (subst (λ (d : Command). IsReadName old.left d rose.0) same rose.1.2) rose.2)
-  by_case words old new before now status wanted command left (cases.WriteFailed is other also partly said) faults word told nothing leads =
-      absurd (nothing.out (faults.write is))
-  by_case words old new before now status wanted command left (cases.NoMemory is other also some said) faults word told nothing leads = inr is
-  by_case words old new before now status wanted command left (cases.BadSave is other also defect why refused) faults word told nothing leads =
-      let same = same_command words other command also word in
-      let has = subst (λ (d : Command). HasSaveDefect d old.left new.left defect) same why in
-      subst (IsStatus wanted) (sym is) (by_start wanted command left old.left new.left defect told leads has)
-  by_case words old new before now status wanted command left (cases.PutFailed is other also some said) faults word told nothing leads =
-      let rose = faults.put is in
-      let same = same_command words rose.1.0 command rose.1.1 word in
-      absurd (nothing.saves rose.0 (subst (λ (d : Command). save_named d ≡ Some rose.0) same rose.1.2) rose.2)
-  by_case words old new before now status wanted command left (cases.BadTrace is other also fault why refused) faults word told nothing leads =
-      let same = same_command words other command also word in
-      let has = subst (λ (d : Command). HasTraceFault d old.left new.left fault) same why in
+      × IsMet (how_read command) command old new p ended.2 ended.1) left old.left new.left told has.first in
+      leads.source p has.accepted found.1.0 found.1.1 found.1.2
+      (met_defect laws.meeting (how_read command) command left found.0 p ended.2 ended.1 found.1.3)
+  by_ended wanted command left old new statuses.ReadFault ended told leads apart = absurd (apart.0 refl)
+  by_ended wanted command left old new statuses.WriteFault ended told leads apart = absurd (apart.1 refl)
+  by_ended wanted command left old new statuses.NoMemory ended told leads apart = inr refl
+  by_ended wanted command left old new statuses.SaveDefect ended told leads apart = by_start wanted command left old.left new.left ended.0 told leads ended.1
+  by_ended wanted command left old new statuses.PutFault ended told leads apart = absurd (apart.2 refl)
+  by_ended wanted command left old new statuses.TraceFault ended told leads apart =
+      let has = ended.1 in
       let found = of_told (λ old _. IsGood command old has.p × ReplaysTo command has.trace old has.p has.ending) left old.left new.left told has.first in
-      subst (IsStatus wanted) (sym is) (leads.trace has.p has.trace has.ending has.named found.1.0 found.1.1 (told_ending fault has.ending has.tells))
+      leads.trace has.p has.trace has.ending has.named found.1.0 found.1.1 (told_ending ended.0 has.ending has.tells)
+
+  -- where nothing failed, no status of a failure comes
+  unfailed : (words : List (List ℕ)) (told : Option Contents) (before now : Faults) (status : ℕ) (command : Command) → FaultsFirst words told before now status
+      → command_in words ≡ Ok command → NothingFailed command told before now → (status ≢ 7) × (status ≢ 8) × (status ≢ 12)
+  unfailed words told before now status command faults word nothing = (
+    λ is. let rose = faults.read is in
+        nothing.files rose.0 (subst (λ (d : Command). IsReadName told d rose.0) (same_command words rose.1.0 command rose.1.1 word) rose.1.2) rose.2,
+    λ is. nothing.out (faults.write is),
+    λ is. let rose = faults.put is in
+        nothing.saves rose.0 (subst (λ (d : Command). save_named d ≡ Some rose.0) (same_command words rose.1.0 command rose.1.1 word) rose.1.2) rose.2,
+  )
 
   -- completeness follows from the outcome, where a fault of the outside comes first
   pub completes_of : (words : List (List ℕ)) (old new : Outside) (before now : Faults) (status : ℕ) → Outcome words old new status
       → FaultsFirst words old.left before now status → Completes words old.left before now status
   completes_of words old new before now status outcome faults command left wanted word told nothing called =
-      by_case words old new before now status wanted command left outcome faults word told nothing (leads command left wanted called)
+      let found = ended_with words old new status outcome command word in
+      let apart = unfailed words old.left before now status command faults word nothing in
+      let others = subst (λ n. (n ≢ 7) × (n ≢ 8) × (n ≢ 12)) found.1 apart in
+      subst (IsStatus wanted) (sym found.1) (by_ended wanted command left old new found.0 found.2 told (leads command left wanted called) others)

@@ -31,13 +31,14 @@ use Rattle.flu_top.specs.Wants.{job_wanted, plan_named, save_named, resume_named
 use Rattle.flu_top.specs.Done.{HasValidPlan, MayHaveJob, IsGood, IsDone, WhereKnown, IsReadName}
 use Rattle.flu_top.specs.Replaying.{HasCompleteTrace}
 use Rattle.flu_top.specs.Outcome.{Outside, Outcome, Faults, NothingFailed, Completes}
+use Rattle.flu_lines.specs.declared.statuses.Status.TheVariants as statuses
 use Rattle.flu_top.specs.Outcome as cases
 use Rattle.flu_top.proofs.Completeness.{known_at}
 use Rattle.flu_top.proofs.OneRuns.{same_job}
 use Rattle.flu_top.proofs.OneCommand.{same_command, not_named}
 use Rattle.flu_top.proofs.SameReport.{same_report}
 use Rattle.flu_top.proofs.Sequence.{none_among, can_start}
-use Rattle.flu_top.proofs.Statuses.{at_0}
+use Rattle.flu_top.proofs.Statuses.{ended_at}
 
 -- ---- out
 appended : (a b : Option (List ℕ)) (text had : List ℕ) → a ≡ Some had → WhereTold a b (AppendsAll text) → b ≡ Some (had ++ text)
@@ -102,10 +103,8 @@ writes words old new before now status outcome complete command left p text word
   where
     found : status ≡ 0 → (had : List ℕ) → old.out ≡ Some had → new.out ≡ Some (had ++ text)
     found done had out =
-        let at = at_0 words old new status outcome done in
-        let same = same_command words at.0 command at.2 word in
-        let known = subst (λ (d : Command). WhereKnown (job_wanted d) old.left new.left (IsDone d old.out new.out at.1)) same at.3 in
-        let all = (known_at (job_wanted command) (IsDone command old.out new.out at.1) left old.left new.left told known).1 in
+        let at = ended_at words old new status outcome statuses.Done done command word in
+        let all = (known_at (job_wanted command) (IsDone command old.out new.out at.0) left old.left new.left told at.1).1 in
         appended old.out new.out text had out (subst (λ bytes. WhereTold old.out new.out (AppendsAll bytes)) (is all.0 all.1 all.2.good.has all.3) all.5)
 
 -- ---- one text

@@ -25,14 +25,15 @@ use Rattle.flu_top.specs.Reading.{InRounds, HasDefect, HaveWritten, ReportsNext,
 use Rattle.flu_top.specs.Done.{HasPlanAsked, IsGood, IsDone, WhereKnown, AppendsInto, Wrote}
 use Rattle.flu_top.specs.Done.{WroteRounds, WroteSome, WroteUnsaved, WroteForMemory, WroteForPut, WroteIntoRound, WrotePart}
 use Rattle.flu_top.specs.Causes.{HasSourceFault, IsMetInRounds}
-use Rattle.flu_top.specs.Outcome.{Outside, Outcome}
-use Rattle.flu_top.specs.Outcome as cases
+use Rattle.flu_lines.specs.declared.statuses.Status.{Status}
+use Rattle.flu_lines.specs.declared.statuses.Status.TheVariants as statuses
+use Rattle.flu_top.specs.Outcome.{Outside, Ended, Outcome}
 use Rattle.flu_top.specs.Laws.{RunsWriteFronts, FreshRunsReportTheFold, ResumedRunsGoOn}
 use Rattle.flu_top.proofs.OneRuns.{same_job}
 use Rattle.flu_top.proofs.Defects.{good_or_bad}
 use Rattle.flu_top.proofs.Mendings.{ran_of_mended, next_of_mended}
 use Rattle.flu_top.proofs.SameJob.{same_good, same_mended}
-use Rattle.flu_top.proofs.OneCommand.{same_command, no_command}
+use Rattle.flu_top.proofs.Statuses.{ended_with}
 use Rattle.flu_top.proofs.Starts.{starts_some}
 
 -- ---- bytes
@@ -195,40 +196,27 @@ module _ (job : List ℕ) (plan : Option (List ℕ)) (options : RunOptions) (lef
   memory_written a b had has told (inl some) = rounds_or_nothing a b had has told some
   memory_written a b had has told (inr wrote) = unsaved_written (Leaves whole) a b had has told wrote
 
-  by_case : (words : List (List ℕ)) (old new : Outside) (status : ℕ) → Outcome words old new status → command_in words ≡ Ok whole → old.left ≡ Some left
-      → HasFront written whole job left old.out new.out
-  by_case words old new status (cases.Done is command also line done heard) word told =
-      done_written old.left new.left old.out new.out line told
-      (subst (λ (d : Command). WhereKnown (job_wanted d) old.left new.left (IsDone d old.out new.out line)) (same_command words command whole also word) done)
-  by_case words old new status (cases.BadWords is at bad files refused) word told = absurd (no_command words whole at word bad)
-  by_case words old new status (cases.BadJob is command also fault has refused) word told = nothing old.out new.out refused.nothing
-  by_case words old new status (cases.Conflicts is command also fault has refused) word told = nothing old.out new.out refused.nothing
-  by_case words old new status (cases.BadPlan is command also defect has refused) word told = nothing old.out new.out refused.nothing
-  by_case words old new status (cases.BadSource is command also q fault text has wrote said) word told =
-      let same = same_command words command whole also word in
-      met_written old.left new.left old.out new.out q fault text told (subst (λ (d : Command). HasSourceFault d old.left new.left q fault text) same has)
-      (subst (λ (d : Command). Wrote (how_read d) text old.out new.out) same wrote)
-  by_case words old new status (cases.ReadFailed is command also some said) word told =
-      rounds_or_nothing old.left new.left old.out new.out told
-      (subst (λ (d : Command). WroteSome (how_read d) d old.left new.left old.out new.out) (same_command words command whole also word) some)
-  by_case words old new status (cases.WriteFailed is command also partly said) word told =
-      part_written old.left new.left old.out new.out told
-      (subst (λ (d : Command). WrotePart (how_read d) d old.left new.left old.out new.out) (same_command words command whole also word) partly)
-  by_case words old new status (cases.NoMemory is command also some said) word told =
-      memory_written old.left new.left old.out new.out told
-      (subst (λ (d : Command). WroteForMemory (how_read d) d old.left new.left old.out new.out) (same_command words command whole also word) some)
-  by_case words old new status (cases.BadSave is command also defect has refused) word told = nothing old.out new.out refused.nothing
-  by_case words old new status (cases.PutFailed is command also some said) word told =
-      unsaved_written LeavesAnything old.left new.left old.out new.out told
-      (subst (λ (d : Command). WroteForPut d old.left new.left old.out new.out) (same_command words command whole also word) some)
-  by_case words old new status (cases.BadTrace is command also fault has refused) word told = nothing old.out new.out refused.nothing
+  by_ended : (old new : Outside) (status : Status) → Ended whole old new status → old.left ≡ Some left → HasFront written whole job left old.out new.out
+  by_ended old new statuses.Done ended told = done_written old.left new.left old.out new.out ended.0 told ended.1
+  by_ended old new statuses.BadWords ended told = absurd ended
+  by_ended old new statuses.JobFault ended told = nothing old.out new.out ended.2.nothing
+  by_ended old new statuses.Conflict ended told = nothing old.out new.out ended.2.nothing
+  by_ended old new statuses.PlanDefect ended told = nothing old.out new.out ended.2.nothing
+  by_ended old new statuses.SourceFault ended told = met_written old.left new.left old.out new.out ended.0 ended.1 ended.2 told ended.3 ended.4
+  by_ended old new statuses.ReadFault ended told = rounds_or_nothing old.left new.left old.out new.out told ended.0
+  by_ended old new statuses.WriteFault ended told = part_written old.left new.left old.out new.out told ended.0
+  by_ended old new statuses.NoMemory ended told = memory_written old.left new.left old.out new.out told ended.0
+  by_ended old new statuses.SaveDefect ended told = nothing old.out new.out ended.2.nothing
+  by_ended old new statuses.PutFault ended told = unsaved_written LeavesAnything old.left new.left old.out new.out told ended.0
+  by_ended old new statuses.TraceFault ended told = nothing old.out new.out ended.2.nothing
 
   pub what_was_written : (words : List (List ℕ)) (old new : Outside) (status : ℕ) → Outcome words old new status → command_in words ≡ Ok (Run job plan options)
       → old.left ≡ Some left
       → (q : Program) × HasJob (Named job) left q
       × ((o : Opening) × StartsFrom (Run job plan options) left q o × WhereTold old.out new.out (AppendsFront (written q o)))
   unfolding HasFront
-  what_was_written words old new status outcome word told = by_case words old new status outcome word told
+  what_was_written words old new status outcome word told =
+      let found = ended_with words old new status outcome whole word in by_ended old new found.0 found.2 told
 
 -- ---- a run of good sources
 module _ (jobs : JobsAreGrammar) (fronts : ReportFronts) (nexts : NextReportFronts)

@@ -8,6 +8,9 @@ use Rattle.flu_model.specs.Modes.{IsAccepted}
 use Rattle.flu_parse.specs.declared.faults.JobFault.{JobFault}
 use Rattle.flu_check.specs.declared.CheckFault.{CheckFault}
 use Rattle.flu_streams.specs.declared.faults.SourceFault.{SourceFault}
+use Rattle.flu_lines.specs.declared.statuses.Status.{Status}
+use Rattle.flu_lines.specs.declared.statuses.Status.TheVariants as statuses
+use Rattle.flu_lines.specs.Statuses.{code}
 use Rattle.flu_lines.specs.declared.refusals.PlanDefect.{PlanDefect}
 use Rattle.flu_lines.specs.declared.refusals.SaveDefect.{SaveDefect}
 use Rattle.flu_trace.specs.declared.faults.ReplayFault.{ReplayFault}
@@ -44,59 +47,48 @@ pub record Refused (old new : Outside) (line : List ℕ) : Type 0 where
   pub said : Said old new line
 
 -- ---- the cases, one for each status: `old` is the outside before the call, and `new` after it
-pub data Outcome (words : List (List ℕ)) (old new : Outside) (status : ℕ) : Type 0 where
-  -- nothing refuses the command, all that it reads was read to its end, out got all that it writes, err what it says, and the last
-  -- checkpoint is in its place, if it saves any
-  Done : status ≡ 0 → (command : Command) → command_in words ≡ Ok command → (line : List ℕ)
-      → WhereKnown (want command).job old.left new.left (IsDone command old.out new.out line)
-      → Hears (want command).says old new line → Outcome words old new status
-  -- the words are not a command: the one at this place does not fit; no file was read
-  BadWords : status ≡ 2 → (at : ℕ) → command_in words ≡ Err at
-      → new.left ≡ old.left → Refused old new (bad_words_line at) → Outcome words old new status
-  -- the bytes of the command's job have this first fault
-  BadJob : status ≡ 3 → (command : Command) → command_in words ≡ Ok command → (fault : JobFault)
-      → HasJobFault (want command).job old.left new.left fault
-      → Refused old new (job_fault_line fault) → Outcome words old new status
-  -- the command wants an accepted job, and its job has this first conflict
-  Conflicts : status ≡ 4 → (command : Command) → command_in words ≡ Ok command → (fault : CheckFault)
-      → HasConflict command old.left new.left fault
-      → Refused old new (conflict_line fault) → Outcome words old new status
-  -- the command's plan has this first defect for its job, which is accepted
-  BadPlan : status ≡ 5 → (command : Command) → command_in words ≡ Ok command → (defect : PlanDefect)
-      → HasPlanDefect command old.left new.left defect
-      → Refused old new (plan_defect_line defect) → Outcome words old new status
-  -- the command reads the sources of its job, and this is the first defect of the first one that has any; if it reads them in
-  -- rounds, it is the defect of the earliest round that meets one, and out got what the rounds before that one wrote, as the name
-  -- that it saves to has what they put
-  BadSource : status ≡ 6 → (command : Command) → command_in words ≡ Ok command → (p : Program) (fault : SourceFault) (text : List ℕ)
-      → HasSourceFault command old.left new.left p fault text → Wrote (want command).sources text old.out new.out
-      → Said old new (source_fault_line (source_name p fault.source) fault.row fault.why)
-      → Outcome words old new status
-  -- a file that the command reads failed; if it reads in rounds, out may have what the rounds up to some round wrote
-  ReadFailed : status ≡ 7 → (command : Command) → command_in words ≡ Ok command
-      → WroteSome (want command).sources command old.left new.left old.out new.out
-      → Said old new read_fault_line → Outcome words old new status
-  -- nothing refuses the command, and all that it reads was read; out failed, and got a proper prefix of what the command writes;
-  -- if it reads in rounds, it has what the rounds up to some round wrote, and a prefix of the next round's report
-  WriteFailed : status ≡ 8 → (command : Command) → command_in words ≡ Ok command
-      → WrotePart (want command).sources command old.left new.left old.out new.out
-      → Said old new write_fault_line → Outcome words old new status
-  -- memory ran out; if the command reads in rounds, out may have what the rounds up to some round wrote
-  NoMemory : status ≡ 9 → (command : Command) → command_in words ≡ Ok command
-      → WroteForMemory (want command).sources command old.left new.left old.out new.out
-      → Said old new no_memory_line → Outcome words old new status
-  -- a run can't start: a name that it saves to or is resumed from is the name of a source's file, or its checkpoint has this first fault
-  BadSave : status ≡ 11 → (command : Command) → command_in words ≡ Ok command → (defect : SaveDefect)
-      → HasSaveDefect command old.left new.left defect
-      → Refused old new (save_defect_line defect) → Outcome words old new status
-  -- a checkpoint could not be put; out has the report of its round and of the rounds before it
-  PutFailed : status ≡ 12 → (command : Command) → command_in words ≡ Ok command
-      → WroteForPut command old.left new.left old.out new.out
-      → Said old new put_fault_line → Outcome words old new status
-  -- the command reads a trace, nothing refuses the command before that, and this stops the replay of the trace
-  BadTrace : status ≡ 13 → (command : Command) → command_in words ≡ Ok command → (fault : ReplayFault)
-      → HasTraceFault command old.left new.left fault
-      → Refused old new (trace_fault_line fault) → Outcome words old new status
+abbrev pub Ended : Command → Outside → Outside → Status → Type 0
+-- nothing refuses the command, all that it reads was read to its end, out got all that it writes, err what it says, and the last
+-- checkpoint is in its place, if it saves any
+Ended command old new statuses.Done = (line : List ℕ) × WhereKnown (want command).job old.left new.left (IsDone command old.out new.out line)
+    × Hears (want command).says old new line
+-- no command is refused for its words
+Ended command old new statuses.BadWords = ⊥
+-- the bytes of the command's job have this first fault
+Ended command old new statuses.JobFault = (fault : JobFault) × HasJobFault (want command).job old.left new.left fault
+    × Refused old new (job_fault_line fault)
+-- the command wants an accepted job, and its job has this first conflict
+Ended command old new statuses.Conflict = (fault : CheckFault) × HasConflict command old.left new.left fault × Refused old new (conflict_line fault)
+-- the command's plan has this first defect for its job, which is accepted
+Ended command old new statuses.PlanDefect = (defect : PlanDefect) × HasPlanDefect command old.left new.left defect
+    × Refused old new (plan_defect_line defect)
+-- the command reads the sources of its job, and this is the first defect of the first one that has any; if it reads them in
+-- rounds, it is the defect of the earliest round that meets one, and out got what the rounds before that one wrote, as the name
+-- that it saves to has what they put
+Ended command old new statuses.SourceFault = (p : Program) × (fault : SourceFault) × (text : List ℕ)
+    × HasSourceFault command old.left new.left p fault text × Wrote (want command).sources text old.out new.out
+    × Said old new (source_fault_line (source_name p fault.source) fault.row fault.why)
+-- a file that the command reads failed; if it reads in rounds, out may have what the rounds up to some round wrote
+Ended command old new statuses.ReadFault = WroteSome (want command).sources command old.left new.left old.out new.out × Said old new read_fault_line
+-- nothing refuses the command, and all that it reads was read; out failed, and got a proper prefix of what the command writes;
+-- if it reads in rounds, it has what the rounds up to some round wrote, and a prefix of the next round's report
+Ended command old new statuses.WriteFault = WrotePart (want command).sources command old.left new.left old.out new.out × Said old new write_fault_line
+-- memory ran out; if the command reads in rounds, out may have what the rounds up to some round wrote
+Ended command old new statuses.NoMemory = WroteForMemory (want command).sources command old.left new.left old.out new.out × Said old new no_memory_line
+-- a run can't start: a name that it saves to or is resumed from is the name of a source's file, or its checkpoint has this first fault
+Ended command old new statuses.SaveDefect = (defect : SaveDefect) × HasSaveDefect command old.left new.left defect
+    × Refused old new (save_defect_line defect)
+-- a checkpoint could not be put; out has the report of its round and of the rounds before it
+Ended command old new statuses.PutFault = WroteForPut command old.left new.left old.out new.out × Said old new put_fault_line
+-- the command reads a trace, nothing refuses the command before that, and this stops the replay of the trace
+Ended command old new statuses.TraceFault = (fault : ReplayFault) × HasTraceFault command old.left new.left fault × Refused old new (trace_fault_line fault)
+
+-- the words are a command, which ended as its status says; or they are none: the one at this place does not fit, and no file was read
+pub data Outcome (words : List (List ℕ)) (old new : Outside) (number : ℕ) : Type 0 where
+  OfCommand : (status : Status) → number ≡ code status → (command : Command) → command_in words ≡ Ok command → Ended command old new status
+      → Outcome words old new number
+  OfNone : number ≡ code statuses.BadWords → (at : ℕ) → command_in words ≡ Err at → new.left ≡ old.left → Refused old new (bad_words_line at)
+      → Outcome words old new number
 
 -- ---- what was read
 -- bytes were taken from the front of names, and of no name that the call does not read, except for one that it put
