@@ -12,14 +12,14 @@ use Rattle.flu_lines.specs.declared.refusals.PlanDefect.TheVariants as defects
 use Rattle.flu_lines.specs.declared.refusals.SaveDefect.TheVariants as saves
 use Rattle.flu_lines.specs.declared.refusals.Refusal.{Refusal}
 use Rattle.flu_lines.specs.declared.refusals.Refusal.TheVariants as refusals
-use Rattle.flu_top.specs.Taking.{TookOnly}
-use Rattle.flu_top.specs.Behind.{WantedJob, Named, HasJob, HasPlan, emptied_each, job_files, plan_behind}
-use Rattle.flu_top.specs.TextFaults.{IsFirstTextFault}
-use Rattle.flu_top.specs.Wants.{job_wanted, plan_named, asks_accepted, resume_named, if_named, texts_named}
-use Rattle.flu_top.specs.Done.{HasValidPlan, MayHaveJob, IsPlanName, IsReadName}
-use Rattle.flu_top.specs.Causes.{HasJobFault}
-use Rattle.flu_top.specs.Ready.{AreTextsRead, IsReady}
-use Rattle.flu_top.specs.ReadFaults.{HasReadFault, InJob, InPlan, InCheckpoint, InSources, InRows, InTrace}
+use Rattle.flu_command.specs.Taking.{TookOnly}
+use Rattle.flu_command.specs.Behind.{WantedJob, Named, HasJob, HasPlan, emptied_each, job_files, plan_behind}
+use Rattle.flu_command.specs.TextFaults.{IsFirstTextFault}
+use Rattle.flu_command.specs.Wants.{job_wanted, plan_named, asks_accepted, resume_named, if_named, texts_named}
+use Rattle.flu_command.specs.Done.{HasValidPlan, MayHaveJob, IsPlanName, IsReadName}
+use Rattle.flu_command.specs.Causes.{HasJobFault}
+use Rattle.flu_command.specs.Ready.{AreTextsRead, IsReady}
+use Rattle.flu_command.specs.ReadFaults.{HasReadFault, InJob, InPlan, InCheckpoint, InSources, InRows, InTrace}
 use Rattle.flu_top.specs.Refusing.{IsRefusal}
 use Rattle.flu_top.proofs.Sequence.{none_among}
 

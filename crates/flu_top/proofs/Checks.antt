@@ -7,10 +7,10 @@ use Rattle.flu_lemmas.proofs.Told.{told_weaker}
 use Rattle.flu_lines.specs.declared.refusals.Refusal.{Refusal}
 use Rattle.flu_lines.specs.declared.refusals.Refusal.TheVariants as refusals
 use Rattle.flu_words.specs.Words.{Command, Check}
-use Rattle.flu_top.specs.Behind.{Named}
-use Rattle.flu_top.specs.Wants.{job_wanted, asks_accepted}
-use Rattle.flu_top.specs.Done.{IsWritten}
-use Rattle.flu_top.specs.Causes.{IsJobRead}
+use Rattle.flu_command.specs.Behind.{Named}
+use Rattle.flu_command.specs.Wants.{job_wanted, asks_accepted}
+use Rattle.flu_command.specs.Done.{IsWritten}
+use Rattle.flu_command.specs.Causes.{IsJobRead}
 use Rattle.flu_top.specs.Checking.{IsChecked, IsCheckRefusal}
 use Rattle.flu_top.specs.Refusing.{IsRefusal}
 use Rattle.flu_top.proofs.Sequence.{only_one, can_start, has_saved}

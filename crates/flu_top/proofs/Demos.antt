@@ -17,8 +17,8 @@ use Rattle.flu_top.specs.declared.products.Product.{Product}
 use Rattle.flu_lines.specs.declared.refusals.Refusal.{Refusal}
 use Rattle.flu_lines.specs.declared.refusals.Refusal.TheVariants as refusals
 use Rattle.flu_top.specs.Checking.{IsCheckRefusal}
-use Rattle.flu_top.specs.Demos.{demo_job, summary, demo_summary}
-use Rattle.flu_top.specs.Done.{IsWritten}
+use Rattle.flu_command.specs.Demos.{demo_job, summary, demo_summary}
+use Rattle.flu_command.specs.Done.{IsWritten}
 use Rattle.flu_top.specs.Refusing.{IsRefusal}
 use Rattle.flu_top.proofs.Sequence.{none_among, can_start, has_saved}
 

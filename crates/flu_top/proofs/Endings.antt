@@ -10,15 +10,15 @@ use Rattle.flu_outside.specs.Outside.{Contents}
 use Rattle.flu_lines.specs.declared.refusals.Refusal.{Refusal}
 use Rattle.flu_lines.specs.declared.refusals.Refusal.TheVariants as refusals
 use Rattle.flu_words.specs.Words.{Command, command_in}
-use Rattle.flu_top.specs.Taking.{TookOnly, TookFrontsBut}
-use Rattle.flu_top.specs.Behind.{WantedJob, Named, Fixed}
-use Rattle.flu_top.specs.Reading.{Reading, Unread, Whole, InRounds}
+use Rattle.flu_command.specs.Taking.{TookOnly, TookFrontsBut}
+use Rattle.flu_command.specs.Behind.{WantedJob, Named, Fixed}
+use Rattle.flu_command.specs.Reading.{Reading, Unread, Whole, InRounds}
 use Rattle.flu_lines.specs.declared.products.Said.{Said}
 use Rattle.flu_top.specs.declared.products.Product.{Product}
-use Rattle.flu_top.specs.Wants.{want, job_wanted, how_read}
-use Rattle.flu_top.specs.Starting.{Leaves}
-use Rattle.flu_top.specs.Done.{IsWritten, IsDone, IsPartlyDone, WhereKnown, Wrote, WroteSome, WrotePart, IsReadName, IsReadBy, IsPutAt, IsSavedBy, MayBePut}
-use Rattle.flu_top.specs.ReadFaults.{HasReadFault, InJob, InPlan, InCheckpoint, InSources, InRows, InTrace}
+use Rattle.flu_command.specs.Wants.{want, job_wanted, how_read}
+use Rattle.flu_command.specs.Starting.{Leaves}
+use Rattle.flu_command.specs.Done.{IsWritten, IsDone, IsPartlyDone, WhereKnown, Wrote, WroteSome, WrotePart, IsReadName, IsReadBy, IsPutAt, IsSavedBy, MayBePut}
+use Rattle.flu_command.specs.ReadFaults.{HasReadFault, InJob, InPlan, InCheckpoint, InSources, InRows, InTrace}
 use Rattle.flu_top.specs.Refusing.{IsRefusal}
 use Rattle.flu_lines.specs.Products.{line_said}
 use Rattle.flu_top.specs.Products.{MaySay}

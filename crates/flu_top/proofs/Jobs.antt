@@ -15,9 +15,9 @@ use Rattle.flu_parse.specs.Faults.{Fails}
 use Rattle.flu_parse.specs.Reading.{job_in}
 use Rattle.flu_outside.specs.Taking.{TookWhole}
 use Rattle.flu_grammar.specs.Laws.{JobsAreGrammar}
-use Rattle.flu_top.specs.Behind.{Named}
+use Rattle.flu_command.specs.Behind.{Named}
 use Rattle.flu_top.specs.Jobs.{IsJobRefusal}
-use Rattle.flu_top.specs.Causes.{IsJobRead, HasJobFault}
+use Rattle.flu_command.specs.Causes.{IsJobRead, HasJobFault}
 use Rattle.flu_lines.specs.Answer.{refusal_of_job}
 
 -- a text that is too long has the fault of its bytes, whatever stands in it

@@ -4,18 +4,18 @@ use Rattle.flu_lemmas.proofs.Told.{told_weaker}
 use Rattle.flu_outside.specs.Taking.{TookFronts}
 use Rattle.flu_lines.specs.declared.statuses.Status.{Status}
 use Rattle.flu_lines.specs.declared.statuses.Status.TheVariants as statuses
-use Rattle.flu_top.specs.Taking.{TookOnly, TookFrontsBut}
-use Rattle.flu_top.specs.Done.{IsReadBy, IsSavedBy, MayBePut}
-use Rattle.flu_top.specs.Outcome as cases
+use Rattle.flu_command.specs.Taking.{TookOnly, TookFrontsBut}
+use Rattle.flu_command.specs.Done.{IsReadBy, IsSavedBy, MayBePut}
+use Rattle.flu_command.specs.Calling as calls
 use Rattle.flu_top.specs.Laws.{KnownStatuses, DoneIsDone, DoneIsQuiet, SimulationIsHeard, AdaptedPlanIsHeard, BadWordsExactly, BadWordsLine}
 use Rattle.flu_top.specs.Laws.{BadWordsTouchNothing, JobFaultIsFirst, ConflictIsFirst, PlanDefectIsFirst, SaveDefectIsFirst, SourceFaultIsFirst}
 use Rattle.flu_top.specs.Laws.{TraceFaultIsFirst, ReadFaultRose, ReadFaultLine, WriteFaultRose, WriteFaultIsPart, WriteFaultLine, PutFaultRose}
 use Rattle.flu_top.specs.Laws.{PutFaultIsBehindARound, NoMemoryLine, NothingIsWritten, RefusalsWriteNothing, SomeIsWritten, SomeIsWrittenForMemory}
 use Rattle.flu_top.specs.Laws.{FrontsAreTaken, NoOtherIsRead, GoodIsDone, JobFaultIsRefused, ConflictIsRefused, PlanDefectIsRefused, SaveDefectIsRefused}
-use Rattle.flu_top.specs.Laws.{SourceFaultIsRefused, TraceFaultIsRefused, CompletesByFaults, CallsForOneStatus, NoFailureIsPassedOver}
+use Rattle.flu_top.specs.Laws.{SourceFaultIsRefused, TraceFaultIsRefused, CompletesByFaults, NoFailureIsPassedOver}
 use Rattle.flu_top.proofs.Statuses.{command_at, no_command_at, quiet_at_0, heard_at_0, adapted_at_0}
 use Rattle.flu_top.proofs.Statuses.{known_status, nothing_written, refused_unwritten, of_no_command, bad_words_exactly}
-use Rattle.flu_top.proofs.Completeness.{LawsBelow, completes_of, one_status}
+use Rattle.flu_top.proofs.Completeness.{LawsOfCalls, completes_of}
 
 -- ---- the statuses
 pub known_law : KnownStatuses
@@ -131,34 +131,31 @@ only_law words old new status read =
 
 -- ---- where nothing failed
 pub good_law : GoodIsDone
-good_law words told before now status complete command left p word is nothing good only = complete command left 0 word is nothing (cases.Good refl p good only)
+good_law words told before now status complete command left p word is nothing good only = complete command left 0 word is nothing (calls.Good refl p good only)
 
 pub refused_job_law : JobFaultIsRefused
 refused_job_law words told before now status complete command left name fault word is nothing named bad =
-    complete command left 3 word is nothing (cases.FaultyJob refl name fault named bad)
+    complete command left 3 word is nothing (calls.FaultyJob refl name fault named bad)
 
 pub refused_conflict_law : ConflictIsRefused
 refused_conflict_law words told before now status complete command left p word is nothing asked has refused =
-    complete command left 4 word is nothing (cases.NotAccepted refl p asked has refused)
+    complete command left 4 word is nothing (calls.NotAccepted refl p asked has refused)
 
 pub refused_plan_law : PlanDefectIsRefused
 refused_plan_law words told before now status complete command left p plan word is nothing named has accepted bad =
-    complete command left 5 word is nothing (cases.NoValidPlan refl p plan named has accepted bad)
+    complete command left 5 word is nothing (calls.NoValidPlan refl p plan named has accepted bad)
 
 pub refused_source_law : SourceFaultIsRefused
 refused_source_law words told before now status complete command left p word is nothing has accepted valid start bad =
-    complete command left 6 word is nothing (cases.FaultySource refl p has accepted valid start bad)
+    complete command left 6 word is nothing (calls.FaultySource refl p has accepted valid start bad)
 
 pub refused_start_law : SaveDefectIsRefused
 refused_start_law words told before now status complete command left p word is nothing has accepted valid bad =
-    complete command left 11 word is nothing (cases.FaultyStart refl p has accepted valid bad)
+    complete command left 11 word is nothing (calls.FaultyStart refl p has accepted valid bad)
 
 pub refused_trace_law : TraceFaultIsRefused
 refused_trace_law words told before now status complete command left word is nothing faulty =
-    complete command left 13 word is nothing (cases.FaultyTrace refl faulty)
+    complete command left 13 word is nothing (calls.FaultyTrace refl faulty)
 
-pub completes_law : LawsBelow → CompletesByFaults
+pub completes_law : LawsOfCalls → CompletesByFaults
 completes_law laws words old new status before now outcome faults = completes_of laws words old new before now status outcome faults
-
-pub one_status_law : LawsBelow → CallsForOneStatus
-one_status_law laws command left a b first second = one_status laws command left a b first second

@@ -8,14 +8,14 @@ use Rattle.flu_model.specs.declared.jobs.Program.{Program}
 use Rattle.flu_save.specs.Laws.{LawOfOneMeaning}
 use Rattle.flu_streams.specs.declared.faults.SourceFault.{SourceFault}
 use Rattle.flu_words.specs.Words.{Command, Run, RunOptions, command_in}
-use Rattle.flu_top.specs.Behind.{Named, HasJob, emptied_each}
-use Rattle.flu_top.specs.Openings.{Opening, Opens, OpensAt, report_from, state_from}
-use Rattle.flu_top.specs.Starting.{StartsFrom, CanStart, IsAsBefore, Leaves, LeavesPut}
-use Rattle.flu_top.specs.Wants.{if_named, job_wanted, how_read, texts_named}
-use Rattle.flu_top.specs.Reading.{InRounds, HaveWritten, MeetsDefect, ReportsNext, greatest_border, lines_behind}
-use Rattle.flu_top.specs.Done.{HasPlanAsked, IsDone, WhereKnown, AppendsInto, Wrote}
-use Rattle.flu_top.specs.Done.{WroteNone, WroteRounds, WroteSome, WroteUnsaved, WroteForMemory, WroteIntoRound, WrotePart}
-use Rattle.flu_top.specs.Causes.{HasSourceFault, IsMetInRounds}
+use Rattle.flu_command.specs.Behind.{Named, HasJob, emptied_each}
+use Rattle.flu_command.specs.Openings.{Opening, Opens, OpensAt, report_from, state_from}
+use Rattle.flu_command.specs.Starting.{StartsFrom, CanStart, IsAsBefore, Leaves, LeavesPut}
+use Rattle.flu_command.specs.Wants.{if_named, job_wanted, how_read, texts_named}
+use Rattle.flu_command.specs.Reading.{InRounds, HaveWritten, MeetsDefect, ReportsNext, greatest_border, lines_behind}
+use Rattle.flu_command.specs.Done.{HasPlanAsked, IsDone, WhereKnown, AppendsInto, Wrote}
+use Rattle.flu_command.specs.Done.{WroteNone, WroteRounds, WroteSome, WroteUnsaved, WroteForMemory, WroteIntoRound, WrotePart}
+use Rattle.flu_command.specs.Causes.{HasSourceFault, IsMetInRounds}
 use Rattle.flu_lines.specs.declared.statuses.Status.{Status}
 use Rattle.flu_lines.specs.declared.statuses.Status.TheVariants as statuses
 use Rattle.flu_lines.specs.Statuses.{code}

@@ -5,7 +5,7 @@ use Rattle.flu_lines.specs.declared.refusals.Refusal.{Refusal}
 use Rattle.flu_lines.specs.declared.refusals.Refusal.TheVariants as refusals
 use Rattle.flu_words.specs.Words.{Command, command_in}
 use Rattle.flu_lines.specs.declared.products.Said.{Said}
-use Rattle.flu_top.specs.Wants.{Saying, Nothing, Line, want}
+use Rattle.flu_command.specs.Wants.{Saying, Nothing, Line, want}
 use Rattle.flu_lines.specs.Products.{line_said}
 use Rattle.flu_top.specs.Products.{MaySay}
 use Rattle.flu_lines.specs.Jobs.{program_read}

@@ -28,16 +28,16 @@ use Rattle.flu_words.specs.Words.{Replay}
 use Rattle.flu_lines.specs.declared.refusals.Refusal.{Refusal}
 use Rattle.flu_lines.specs.declared.refusals.Refusal.TheVariants as refusals
 use Rattle.flu_lines.specs.Answer.{refusal_of_replay}
-use Rattle.flu_top.specs.Taking.{TookOnly}
-use Rattle.flu_top.specs.Emptied.{emptied, emptied_each}
-use Rattle.flu_top.specs.Starting.{AreNoSources}
-use Rattle.flu_top.specs.Done.{IsGood, IsReadName, IsTraceName, IsWritten}
-use Rattle.flu_top.specs.Ready.{HasNodes, IsReady}
-use Rattle.flu_top.specs.ReadFaults.{InTrace}
+use Rattle.flu_command.specs.Taking.{TookOnly}
+use Rattle.flu_command.specs.Emptied.{emptied, emptied_each}
+use Rattle.flu_command.specs.Starting.{AreNoSources}
+use Rattle.flu_command.specs.Done.{IsGood, IsReadName, IsTraceName, IsWritten}
+use Rattle.flu_command.specs.Ready.{HasNodes, IsReady}
+use Rattle.flu_command.specs.ReadFaults.{InTrace}
 use Rattle.flu_top.specs.Refusing.{IsRefusal}
-use Rattle.flu_top.specs.Replaying.{EndsOnNet, EndsBehind, ReplaysTo, trace_in}
+use Rattle.flu_command.specs.Replaying.{EndsOnNet, EndsBehind, ReplaysTo, trace_in}
 use Rattle.flu_top.specs.Replays.{IsNetRefusal, IsReplayDone, IsReadIn, StaysEnded, IsReplayRefusal}
-use Rattle.flu_top.specs.Simulating.{from_nothing}
+use Rattle.flu_command.specs.Simulating.{from_nothing}
 use Rattle.flu_top.proofs.Sequence.{among, only_one, same_or_apart, read_at, good_at, report_at, report_refusal, text_is_read, source_name_is_read}
 use Rattle.flu_top.proofs.Sequence.{stays_ended, NamesNoCheckpoint, no_sources, can_start}
 

@@ -29,28 +29,34 @@ use Rattle.flu_lines.specs.declared.refusals.Refusal.{Refusal}
 use Rattle.flu_lines.specs.declared.refusals.Refusal.TheVariants as refusals
 use Rattle.flu_lines.specs.declared.refusals.SaveDefect.TheVariants as defects
 use Rattle.flu_lines.specs.Answer.{code_after}
-use Rattle.flu_top.specs.Behind.{WantedJob, Named, job_files, HasJob, emptied_each, lists_behind}
-use Rattle.flu_top.specs.Causes.{IsJobRead, HasSourceFault, HasStartDefect, IsMet}
-use Rattle.flu_top.specs.Done.{HasPlanAsked, MayHaveJob, MayBeJob, IsDone, IsLine, WroteRounds, WroteUnsaved, WroteIntoRound, IsReadName, IsSourceFile, IsPutAt}
+use Rattle.flu_command.specs.Behind.{WantedJob, Named, job_files, HasJob, emptied_each, lists_behind}
+use Rattle.flu_command.specs.Causes.{IsJobRead, HasSourceFault, HasStartDefect, IsMet}
+use Rattle.flu_command.specs.Done.{HasPlanAsked, MayHaveJob, MayBeJob, IsDone, IsLine, WroteRounds, WroteUnsaved, WroteIntoRound, IsReadName, IsSourceFile, IsPutAt}
 use Rattle.flu_top.specs.Ending.{call, HasAll, HasDefectMet, IsStopped, IsEnding}
 use Rattle.flu_lines.specs.Jobs.{program_read}
-use Rattle.flu_top.specs.Openings.{Opening, Opens, OpensAt, lists_from}
+use Rattle.flu_command.specs.Openings.{Opening, Opens, OpensAt, lists_from}
 use Rattle.flu_lines.specs.Products.{line_said}
 use Rattle.flu_top.specs.Products.{MaySay}
-use Rattle.flu_top.specs.Ready.{AreTextsRead, IsReady}
-use Rattle.flu_top.specs.Reading.{InRounds, HaveWritten, MeetsDefect, ReportsNext, greatest_border, lines_behind}
-use Rattle.flu_top.specs.ReadFaults.{InCheckpoint, InRows}
+use Rattle.flu_command.specs.Ready.{AreTextsRead, IsReady}
+use Rattle.flu_command.specs.Reading.{InRounds, HaveWritten, MeetsDefect, ReportsNext, greatest_border, lines_behind}
+use Rattle.flu_command.specs.ReadFaults.{InCheckpoint, InRows}
 use Rattle.flu_top.specs.Refusing.{IsRefusal}
 use Rattle.flu_top.specs.Running.{IsBegun, IsOpened, IsOpeningRefusal, IsSavedTo, StaysWithin, IsAllRun, RanAll, RanToDefect, RanSome, RanInto, RanUnsaved}
 use Rattle.flu_top.specs.Running.{IsRoundsRefusal, EndsRun}
 use Rattle.flu_top.specs.Running.{IsPlanSaid, MaySayPlan, SaysPlan}
-use Rattle.flu_top.specs.Starting.{AreNoSources, CanStart, HasBadCheckpoint, StartsFrom, IsSameName, Saves, Resumes, Leaves, LeavesPut, LeavesAnything}
-use Rattle.flu_top.specs.Taking.{TookOnly, TookFrontsBut}
-use Rattle.flu_top.specs.Unfinished.{IsUnfinished}
-use Rattle.flu_top.specs.Wants.{if_named, plan_said, job_and_plan_named, texts_named, sources_read, IsNotSaved}
+use Rattle.flu_command.specs.Starting.{AreNoSources, CanStart, HasBadCheckpoint, StartsFrom, IsSameName, Saves, Resumes, Leaves, LeavesPut, LeavesAnything}
+use Rattle.flu_command.specs.Taking.{TookOnly, TookFrontsBut}
+use Rattle.flu_command.specs.Unfinished.{IsUnfinished}
+use Rattle.flu_command.specs.Wants.{if_named, plan_said, job_and_plan_named, texts_named, sources_read, IsNotSaved}
 use Rattle.flu_top.proofs.AsValid.{only_as_valid, refusal_as_valid, run_reads}
-use Rattle.flu_top.proofs.ResumedRuns.{file_is_named}
 use Rattle.flu_top.proofs.Sequence.{among, name_given, none_among, one_text, is_source_file, stays_ended, text_is_read}
+
+-- the file of a source is among those of all
+file_is_named : (ss : List Source) (number : ℕ) (source : Source) → slice_get ss number ≡ Some source → Contains (files_of ss) source.file
+file_is_named ss number source is =
+    let there : slice_get (files_of ss) number ≡ Some source.file =
+    slice_get-map (λ (s : Source). s.file) ss number ∙ ap (option_map (λ (s : Source). s.file)) is in
+    (number, slice_get_within (files_of ss) number source.file there, get_or_from_slice_get (files_of ss) number source.file source.file there)
 
 -- ---- texts
 -- some texts are read, and then others

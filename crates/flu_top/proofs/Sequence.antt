@@ -27,21 +27,21 @@ use Rattle.flu_lines.specs.declared.refusals.Refusal.{Refusal}
 use Rattle.flu_lines.specs.declared.refusals.Refusal.TheVariants as refusals
 use Rattle.flu_model.specs.Modes.{IsAccepted}
 use Rattle.flu_words.specs.Words.{Command}
-use Rattle.flu_top.specs.Taking.{TookOnly}
-use Rattle.flu_top.specs.Behind.{WantedJob, Named, Fixed, HasJob, job_files, fault_behind, report_behind}
-use Rattle.flu_top.specs.Emptied.{emptied, emptied_each}
-use Rattle.flu_top.specs.Openings.{Opens, fresh}
-use Rattle.flu_top.specs.Reading.{Reading, Whole, is_read, AreSourcesGood, rows_in_round}
-use Rattle.flu_top.specs.Wants.{job_wanted, plan_named, save_named, resume_named, rows_named, trace_named, asks_accepted, how_read, reads_sources, if_named}
-use Rattle.flu_top.specs.Wants.{job_and_plan_named, texts_named, sources_read, Writes}
-use Rattle.flu_top.specs.Starting.{AreNoSources, CanStart}
-use Rattle.flu_top.specs.Done.{HasPlanAsked, IsGood, IsTraceRead, HasSaved, IsRead, Says, MayHaveJob, MayBeJob, IsReadName, IsSourceFile, IsWritten}
-use Rattle.flu_top.specs.Ready.{AreTextsRead, IsReady}
+use Rattle.flu_command.specs.Taking.{TookOnly}
+use Rattle.flu_command.specs.Behind.{WantedJob, Named, Fixed, HasJob, job_files, fault_behind, report_behind}
+use Rattle.flu_command.specs.Emptied.{emptied, emptied_each}
+use Rattle.flu_command.specs.Openings.{Opens, fresh}
+use Rattle.flu_command.specs.Reading.{Reading, Whole, is_read, AreSourcesGood, rows_in_round}
+use Rattle.flu_command.specs.Wants.{job_wanted, plan_named, save_named, resume_named, rows_named, trace_named, asks_accepted, how_read, reads_sources, if_named}
+use Rattle.flu_command.specs.Wants.{job_and_plan_named, texts_named, sources_read, Writes}
+use Rattle.flu_command.specs.Starting.{AreNoSources, CanStart}
+use Rattle.flu_command.specs.Done.{HasPlanAsked, IsGood, IsTraceRead, HasSaved, IsRead, Says, MayHaveJob, MayBeJob, IsReadName, IsSourceFile, IsWritten}
+use Rattle.flu_command.specs.Ready.{AreTextsRead, IsReady}
 use Rattle.flu_top.specs.Jobs.{IsJobRefusal}
-use Rattle.flu_top.specs.Causes.{IsJobRead, HasJobFault, IsMet, HasSourceFault}
+use Rattle.flu_command.specs.Causes.{IsJobRead, HasJobFault, IsMet, HasSourceFault}
 use Rattle.flu_top.specs.Folding.{AreSourcesRead, IsReported, IsReportRefusal}
 use Rattle.flu_top.specs.Replays.{StaysEnded}
-use Rattle.flu_top.specs.ReadFaults.{InJob, InSources}
+use Rattle.flu_command.specs.ReadFaults.{InJob, InSources}
 use Rattle.flu_top.specs.Refusing.{IsRefusal}
 use Rattle.flu_top.proofs.OneCommand.{not_named}
 

@@ -8,13 +8,13 @@ use Rattle.flu_streams.specs.declared.faults.SourceFault.{SourceFault}
 use Rattle.flu_lines.specs.declared.refusals.PlanDefect.{PlanDefect}
 use Rattle.flu_lines.specs.declared.refusals.SaveDefect.{SaveDefect}
 use Rattle.flu_words.specs.Words.{Command, Fold, Check, Valid, Plan, Run, Simulate, Replay, Demo, command_in}
-use Rattle.flu_top.specs.Reading.{Reading, Unread, Whole, InRounds}
-use Rattle.flu_top.specs.Wants.{Saying, Nothing, Line, want, if_named, how_read, save_named, says_nothing, is_nothing, Writes, IsObservedText}
-use Rattle.flu_top.specs.Wants.{IsSomePlanText}
-use Rattle.flu_top.specs.Starting.{Leaves, LeavesAnything}
-use Rattle.flu_top.specs.Done.{IsDone, Wrote, WroteSome, WroteUnsaved, WroteForMemory}
-use Rattle.flu_top.specs.Simulating.{IsLineOfRun, IsStepLine}
-use Rattle.flu_top.specs.Behind.{Named, HasJob}
+use Rattle.flu_command.specs.Reading.{Reading, Unread, Whole, InRounds}
+use Rattle.flu_command.specs.Wants.{Saying, Nothing, Line, want, if_named, how_read, save_named, says_nothing, is_nothing, Writes, IsObservedText}
+use Rattle.flu_command.specs.Wants.{IsSomePlanText}
+use Rattle.flu_command.specs.Starting.{Leaves, LeavesAnything}
+use Rattle.flu_command.specs.Done.{IsDone, Wrote, WroteSome, WroteUnsaved, WroteForMemory}
+use Rattle.flu_command.specs.Simulating.{IsLineOfRun, IsStepLine}
+use Rattle.flu_command.specs.Behind.{Named, HasJob}
 use Rattle.flu_outside.specs.Outside.{Contents, WhereTold}
 use Rattle.flu_outside.specs.Writing.{AppendsAll}
 use Rattle.flu_lemmas.proofs.Told.{told_weaker}

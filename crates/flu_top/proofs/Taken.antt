@@ -13,16 +13,16 @@ use Rattle.flu_save.specs.Laws.{LawOfFaults, LawOfOneMeaning, SavesAreOfJobs}
 use Rattle.flu_words.specs.Words.{Command, Run, command_in}
 use Rattle.flu_lines.specs.declared.refusals.SaveDefect.{SaveDefect}
 use Rattle.flu_lines.specs.declared.refusals.SaveDefect.TheVariants as saves
-use Rattle.flu_top.specs.Behind.{Named, HasJob, emptied_each}
-use Rattle.flu_top.specs.Causes.{HasSaveDefect}
-use Rattle.flu_top.specs.Done.{HasPlanAsked}
+use Rattle.flu_command.specs.Behind.{Named, HasJob, emptied_each}
+use Rattle.flu_command.specs.Causes.{HasSaveDefect}
+use Rattle.flu_command.specs.Done.{HasPlanAsked}
 use Rattle.flu_deps.specs.Checking.{program_of}
 use Rattle.flu_top.specs.Outcome.{Outside, Outcome}
 use Rattle.flu_top.specs.Resuming.{HasLeft, AreInTurn, IsRefusedForName, ResumedRunsTakeCheckpoints}
-use Rattle.flu_top.specs.Starting.{IsAsBefore, IsSameName, HasBadCheckpoint}
-use Rattle.flu_top.specs.Wants.{if_named, job_wanted, texts_named}
-use Rattle.flu_top.proofs.OneRuns.{same_job}
-use Rattle.flu_top.proofs.ResumedRuns.{LawsOfRests, checkpoints_open}
+use Rattle.flu_command.specs.Starting.{IsAsBefore, IsSameName, HasBadCheckpoint}
+use Rattle.flu_command.specs.Wants.{if_named, job_wanted, texts_named}
+use Rattle.flu_command.specs.OneText.{TextsHaveOneJob}
+use Rattle.flu_command.specs.Resting.{CheckpointsOpen}
 use Rattle.flu_lines.specs.declared.statuses.Status.TheVariants as statuses
 use Rattle.flu_top.proofs.Statuses.{ended_at}
 use Rattle.flu_top.proofs.TwoRuns.{is_opening, opens_same, first_left}
@@ -50,7 +50,7 @@ refused_at words command old new status outcome is word =
     let found = ended_at words old new status outcome statuses.SaveDefect is command word in by_defect command old.left new.left found.0 found.1
 
 -- ---- no fault does
-module _ (laws : LawsOfRests) (jobs : JobsAreGrammar) (short : NormalFormIsShort) (utf8 : NormalFormIsUtf8) (meaning : LawOfOneMeaning)
+module _ (open : CheckpointsOpen) (one_job : TextsHaveOneJob) (meaning : LawOfOneMeaning)
     (of_jobs : SavesAreOfJobs) (faults : LawOfFaults) where
   no_fault : (words words' : List (List ℕ)) (old new old' : Outside) (runs : AreInTurn words words' old new old')
       → HasLeft (Run runs.job runs.plan runs.options) runs.file old.out new.out runs.left runs.now
@@ -60,8 +60,8 @@ module _ (laws : LawsOfRests) (jobs : JobsAreGrammar) (short : NormalFormIsShort
       let q = refused.0 in
       let fault = refused.2.0 in
       let bad = refused.2.1 in
-      let same : IsSameJob p q = same_job jobs (Named runs.later_job) runs.later_left p q (runs.one_job p stays.job) refused.1 in
-      let opens = (checkpoints_open laws short utf8 p (bytes_left runs.left runs.job) stays.opening (texts_named (Run runs.job runs.plan runs.options))
+      let same : IsSameJob p q = one_job (Named runs.later_job) runs.later_left p q (runs.one_job p stays.job) refused.1 in
+      let opens = (open p (bytes_left runs.left runs.job) stays.opening (texts_named (Run runs.job runs.plan runs.options))
       runs.left stays.text stays.checkpoint stays.job (runs.sound p stays.job)
       (is_opening runs.options.rows runs.options.resume (runs.job ∷ if_named runs.plan) runs.left p stays.opening stays.starts.opens) stays.put).0 in
       let opens_later = opens_same of_jobs p q same stays.checkpoint opens.0 opens.1 in

@@ -17,13 +17,13 @@ use Rattle.flu_lines.specs.declared.refusals.PlanDefect.TheVariants as defects
 use Rattle.flu_lines.specs.declared.refusals.Refusal.{Refusal}
 use Rattle.flu_lines.specs.declared.refusals.Refusal.TheVariants as refusals
 use Rattle.flu_words.specs.Words.{Valid}
-use Rattle.flu_top.specs.Taking.{TookOnly}
-use Rattle.flu_top.specs.Behind.{Named, HasJob, HasPlan, emptied_each, plan_behind}
-use Rattle.flu_top.specs.Done.{IsReadName, IsPlanName, IsWritten}
-use Rattle.flu_top.specs.Causes.{IsJobRead, HasInvalidPlan}
-use Rattle.flu_top.specs.Ready.{HasNodes, IsReady}
+use Rattle.flu_command.specs.Taking.{TookOnly}
+use Rattle.flu_command.specs.Behind.{Named, HasJob, HasPlan, emptied_each, plan_behind}
+use Rattle.flu_command.specs.Done.{IsReadName, IsPlanName, IsWritten}
+use Rattle.flu_command.specs.Causes.{IsJobRead, HasInvalidPlan}
+use Rattle.flu_command.specs.Ready.{HasNodes, IsReady}
 use Rattle.flu_top.specs.Plans.{IsPlanRead, IsTextRefusal, IsValidRefusal}
-use Rattle.flu_top.specs.ReadFaults.{InPlan}
+use Rattle.flu_command.specs.ReadFaults.{InPlan}
 use Rattle.flu_top.specs.Refusing.{IsRefusal}
 use Rattle.flu_top.proofs.Sequence.{may_have, emptied_is, one_text, two_texts, can_start, has_saved}
 

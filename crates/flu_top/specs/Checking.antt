@@ -6,7 +6,7 @@ use Rattle.flu_model.specs.Modes.{IsAccepted}
 use Rattle.flu_parse.specs.Printing.{normal_form}
 use Rattle.flu_lines.specs.declared.refusals.Refusal.{Refusal}
 use Rattle.flu_lines.specs.declared.refusals.Refusal.TheVariants as refusals
-use Rattle.flu_top.specs.Causes.{IsConflict}
+use Rattle.flu_command.specs.Causes.{IsConflict}
 
 -- the program is accepted, and this is its job's normal form
 pub record IsChecked (p : Program) (text : List ℕ) : Type 0 where

@@ -7,13 +7,13 @@ use Rattle.flu_lines.specs.declared.refusals.Refusal.{Refusal}
 use Rattle.flu_lines.specs.declared.refusals.Refusal.TheVariants as refusals
 use Rattle.flu_words.specs.Words.{Command, command_in}
 use Rattle.flu_lines.specs.declared.products.Said.{Said}
-use Rattle.flu_top.specs.Wants.{want, job_wanted, how_read, save_named}
+use Rattle.flu_command.specs.Wants.{want, job_wanted, how_read, save_named}
 use Rattle.flu_lines.specs.Products.{line_said}
 use Rattle.flu_top.specs.Products.{MaySay}
-use Rattle.flu_top.specs.Causes.{HasJobFault, HasConflict, HasPlanDefect, HasSaveDefect, HasSourceFault, HasTraceFault}
-use Rattle.flu_top.specs.Done.{IsDone, WhereKnown, Wrote, WroteSome, WroteForMemory, WroteForPut, WrotePart}
+use Rattle.flu_command.specs.Causes.{HasJobFault, HasConflict, HasPlanDefect, HasSaveDefect, HasSourceFault, HasTraceFault}
+use Rattle.flu_command.specs.Done.{IsDone, WhereKnown, Wrote, WroteSome, WroteForMemory, WroteForPut, WrotePart}
 use Rattle.flu_lines.specs.Jobs.{program_read}
-use Rattle.flu_top.specs.ReadFaults.{HasReadFault}
+use Rattle.flu_command.specs.ReadFaults.{HasReadFault}
 
 -- what a call finds, and what it leaves: the files with their counts of takes and of puts, and out with its count
 pub record Call : Type 0 where

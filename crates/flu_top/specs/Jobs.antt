@@ -4,8 +4,8 @@ use Rattle.flu_outside.specs.Outside.{Contents, Rose, WhereTold}
 use Rattle.flu_outside.specs.Taking.{TookAtMost}
 use Rattle.flu_lines.specs.declared.refusals.Refusal.{Refusal}
 use Rattle.flu_lines.specs.declared.refusals.Refusal.TheVariants as refusals
-use Rattle.flu_top.specs.Behind.{Named}
-use Rattle.flu_top.specs.Causes.{HasJobFault}
+use Rattle.flu_command.specs.Behind.{Named}
+use Rattle.flu_command.specs.Causes.{HasJobFault}
 
 -- why a job was not read
 abbrev pub IsJobRefusal : List ℕ → Option Contents → Option Contents → (List ℕ → ℕ) → (List ℕ → ℕ) → Refusal → Type 0

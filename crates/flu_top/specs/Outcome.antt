@@ -16,18 +16,18 @@ use Rattle.flu_lines.specs.declared.refusals.SaveDefect.{SaveDefect}
 use Rattle.flu_trace.specs.declared.faults.ReplayFault.{ReplayFault}
 use Rattle.flu_trace.specs.Replaying.{Ending, Complete}
 use Rattle.flu_words.specs.Words.{Command, command_in}
-pub use Rattle.flu_top.specs.Outside.{Outside, outside, Faults, faults}
-use Rattle.flu_top.specs.Taking.{TookOnly, TookFrontsBut}
-use Rattle.flu_top.specs.Behind.{Named, HasJob}
-use Rattle.flu_top.specs.Reading.{HasDefect}
-use Rattle.flu_top.specs.TextFaults.{IsFirstJobFault}
-use Rattle.flu_top.specs.Wants.{Saying, Nothing, Line, want, save_named, texts_named}
-use Rattle.flu_top.specs.Starting.{CanStart}
-use Rattle.flu_top.specs.Replaying.{ReplaysTo, HasCompleteTrace}
-use Rattle.flu_top.specs.Done.{HasValidPlan, HasPlanAsked, IsGood, IsDone, WhereKnown, Wrote, WroteSome, WroteForMemory, WroteForPut, WrotePart, IsReadName}
-use Rattle.flu_top.specs.Done.{IsReadBy, IsSavedBy, MayBePut}
-use Rattle.flu_top.specs.Causes.{HasJobFault, HasConflict, HasPlanDefect, HasSaveDefect, HasSourceFault, HasTraceFault}
-use Rattle.flu_top.specs.ReadFaults.{HasReadFault}
+pub use Rattle.flu_command.specs.Outside.{Outside, outside, Faults, faults}
+use Rattle.flu_command.specs.Taking.{TookOnly, TookFrontsBut}
+use Rattle.flu_command.specs.Behind.{Named, HasJob}
+use Rattle.flu_command.specs.Reading.{HasDefect}
+use Rattle.flu_command.specs.TextFaults.{IsFirstJobFault}
+use Rattle.flu_command.specs.Wants.{Saying, Nothing, Line, want, save_named, texts_named}
+use Rattle.flu_command.specs.Starting.{CanStart}
+use Rattle.flu_command.specs.Replaying.{ReplaysTo, HasCompleteTrace}
+use Rattle.flu_command.specs.Done.{HasValidPlan, HasPlanAsked, IsGood, IsDone, WhereKnown, Wrote, WroteSome, WroteForMemory, WroteForPut, WrotePart, IsReadName}
+use Rattle.flu_command.specs.Done.{IsReadBy, IsSavedBy, MayBePut}
+use Rattle.flu_command.specs.Causes.{HasJobFault, HasConflict, HasPlanDefect, HasSaveDefect, HasSourceFault, HasTraceFault}
+use Rattle.flu_command.specs.ReadFaults.{HasReadFault}
 use Rattle.flu_lines.specs.Names.{source_name}
 use Rattle.flu_lines.specs.Lines.{IsSaid, bad_words_line, job_fault_line, conflict_line, plan_defect_line, source_fault_line}
 use Rattle.flu_lines.specs.Lines.{read_fault_line, write_fault_line, no_memory_line, save_defect_line, put_fault_line, trace_fault_line}
@@ -113,32 +113,6 @@ pub record HidesNothing (words : List (List ℕ)) (old new : Option Contents) (b
   pub failed : status ≡ 7 → (command : Command) × (command_in words ≡ Ok command) × HasReadFault command old new before.takes now.takes
 
 -- ---- completeness
--- the command reads a trace, nothing refuses the command before that, and the trace is not complete
-pub record HasFaultyTrace (command : Command) (left : Contents) : Type 0 where
-  pub p : Program
-  pub good : IsGood command left p
-  pub trace : List ℕ
-  pub named : (want command).trace ≡ Some trace
-  pub ending : Ending
-  pub ends : ReplaysTo command trace left p ending
-  pub faulty : ending ≢ Complete
-
--- the status that a command and the files call for if nothing fails
-pub data CallsFor (command : Command) (left : Contents) (status : ℕ) : Type 0 where
-  Good : status ≡ 0 → (p : Program) → IsGood command left p → HasCompleteTrace command left p → CallsFor command left status
-  FaultyJob : status ≡ 3 → (name : List ℕ) (fault : JobFault) → (want command).job ≡ Named name
-      → IsFirstJobFault (bytes_left left name) fault → CallsFor command left status
-  NotAccepted : status ≡ 4 → (p : Program) → IsTrue (want command).accepted → HasJob (want command).job left p
-      → ¬ IsAccepted p → CallsFor command left status
-  NoValidPlan : status ≡ 5 → (p : Program) (plan : List ℕ) → (want command).plan ≡ Some plan
-      → HasJob (want command).job left p → IsAccepted p
-      → ¬ HasValidPlan (want command).job plan left p → CallsFor command left status
-  FaultyStart : status ≡ 11 → (p : Program) → HasJob (want command).job left p → (IsTrue (want command).accepted → IsAccepted p)
-      → HasPlanAsked command left p → ¬ CanStart command left p → CallsFor command left status
-  FaultySource : status ≡ 6 → (p : Program) → HasJob (want command).job left p → (IsTrue (want command).accepted → IsAccepted p)
-      → HasPlanAsked command left p → CanStart command left p → HasDefect (want command).sources (texts_named command) left p → CallsFor command left status
-  FaultyTrace : status ≡ 13 → HasFaultyTrace command left → CallsFor command left status
-
 -- no name that the command reads failed, none that it saves to, nor did out
 pub record NothingFailed (command : Command) (left : Option Contents) (before now : Faults) : Type 0 where
   pub files : (name : List ℕ) → IsReadName left command name → ¬ Rose (before.takes name) (now.takes name)

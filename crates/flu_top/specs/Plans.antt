@@ -9,11 +9,11 @@ use Rattle.flu_outside.specs.Taking.{bytes_left, TookAtMost}
 use Rattle.flu_plan.specs.declared.fault.PlanFault.{PlanFault}
 use Rattle.flu_plan.specs.declared.fault.PlanFault.TheVariants as faults
 use Rattle.flu_grammar.specs.Plans.{IsPlanText}
-use Rattle.flu_top.specs.TextFaults.{IsFirstTextFault}
+use Rattle.flu_command.specs.TextFaults.{IsFirstTextFault}
 use Rattle.flu_lines.specs.declared.refusals.PlanDefect.TheVariants as defects
 use Rattle.flu_lines.specs.declared.refusals.Refusal.{Refusal}
 use Rattle.flu_lines.specs.declared.refusals.Refusal.TheVariants as refusals
-use Rattle.flu_top.specs.Causes.{IsInvalid}
+use Rattle.flu_command.specs.Causes.{IsInvalid}
 
 -- the bytes under a name are the text of this plan of the job, and were read to their end
 pub record IsPlanRead (p : Program) (plan : List ℕ) (nodes : List Node) (old new : Contents) : Type 0 where

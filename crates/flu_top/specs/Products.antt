@@ -2,7 +2,7 @@
 use Rattle.std.specs.Prelude.{◌≡◌, Option, Some, None}
 use Rattle.flu_lines.specs.declared.products.Said.{Said}
 use Rattle.flu_lines.specs.Products.{line_of_said}
-use Rattle.flu_top.specs.Wants.{Saying, Nothing, Line}
+use Rattle.flu_command.specs.Wants.{Saying, Nothing, Line}
 
 -- something is said exactly if a command says a line, and it has the form of that line
 abbrev pub MaySay : Saying → Option Said → Type 0

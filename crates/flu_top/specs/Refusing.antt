@@ -4,10 +4,10 @@ use Rattle.flu_outside.specs.Outside.{Contents}
 use Rattle.flu_lines.specs.declared.refusals.Refusal.{Refusal}
 use Rattle.flu_lines.specs.declared.refusals.Refusal.TheVariants as refusals
 use Rattle.flu_words.specs.Words.{Command}
-use Rattle.flu_top.specs.Wants.{job_wanted}
+use Rattle.flu_command.specs.Wants.{job_wanted}
 use Rattle.flu_lines.specs.Jobs.{program_read}
-use Rattle.flu_top.specs.ReadFaults.{HasReadFault}
-use Rattle.flu_top.specs.Causes.{HasJobFault, HasConflict, HasPlanDefect, HasSaveDefect, HasSourceFault, HasTraceFault}
+use Rattle.flu_command.specs.ReadFaults.{HasReadFault}
+use Rattle.flu_command.specs.Causes.{HasJobFault, HasConflict, HasPlanDefect, HasSaveDefect, HasSourceFault, HasTraceFault}
 
 -- why a command has nothing to write, and wrote nothing
 abbrev pub IsRefusal : Command → Option Contents → Option Contents → (List ℕ → ℕ) → (List ℕ → ℕ) → Refusal → Type 0

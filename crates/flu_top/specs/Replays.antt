@@ -14,7 +14,7 @@ use Rattle.flu_lines.specs.declared.refusals.Refusal.{Refusal}
 use Rattle.flu_lines.specs.declared.refusals.Refusal.TheVariants as refusals
 use Rattle.flu_top.specs.Folding.{IsFaulty, IsReported}
 use Rattle.flu_lines.specs.Jobs.{program_read}
-use Rattle.flu_top.specs.Replaying.{EndsOnNet, EndsBehind}
+use Rattle.flu_command.specs.Replaying.{EndsOnNet, EndsBehind}
 
 -- a fault states an ending, of which this holds
 abbrev pub Tells : ReplayFault → (Ending → Type 0) → Type 0

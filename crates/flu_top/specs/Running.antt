@@ -39,18 +39,18 @@ use Rattle.flu_top.specs.declared.running.RunFault.TheVariants.{Round, Unsaved}
 use Rattle.flu_lines.specs.declared.refusals.Refusal.{Refusal}
 use Rattle.flu_lines.specs.declared.refusals.Refusal.TheVariants as refusals
 use Rattle.flu_lines.specs.declared.refusals.SaveDefect.TheVariants as defects
-use Rattle.flu_top.specs.Behind.{Named, HasJob}
-use Rattle.flu_top.specs.Done.{AppendsInto, HasValidPlan}
+use Rattle.flu_command.specs.Behind.{Named, HasJob}
+use Rattle.flu_command.specs.Done.{AppendsInto, HasValidPlan}
 use Rattle.flu_top.specs.Ending.{Call}
 use Rattle.flu_lines.specs.Jobs.{program_read}
-use Rattle.flu_top.specs.Openings.{Opening, Opens}
+use Rattle.flu_command.specs.Openings.{Opening, Opens}
 use Rattle.flu_lines.specs.Products.{line_of_said, line_said}
-use Rattle.flu_top.specs.Reading.{HaveWritten, MeetsDefect, ReportsNext, greatest_border}
-use Rattle.flu_top.specs.Ready.{AreTextsRead}
-use Rattle.flu_top.specs.Starting.{LeavesPut, LeavesAnything}
-use Rattle.flu_top.specs.Taking.{TookOnly, TookFrontsBut}
-use Rattle.flu_top.specs.Unfinished.{Unfinished, IsUnfinished}
-use Rattle.flu_top.specs.Wants.{if_named, IsSomePlanText}
+use Rattle.flu_command.specs.Reading.{HaveWritten, MeetsDefect, ReportsNext, greatest_border}
+use Rattle.flu_command.specs.Ready.{AreTextsRead}
+use Rattle.flu_command.specs.Starting.{LeavesPut, LeavesAnything}
+use Rattle.flu_command.specs.Taking.{TookOnly, TookFrontsBut}
+use Rattle.flu_command.specs.Unfinished.{Unfinished, IsUnfinished}
+use Rattle.flu_command.specs.Wants.{if_named, IsSomePlanText}
 
 -- ---- before the rounds
 -- the bytes under the job's name are the text of this program, those under the plan's, if one is named, are a plan that is valid

@@ -17,7 +17,7 @@ ghost use Rattle.flu_streams.specs.Counts.{grown};
 ghost use Rattle.flu_rounds.specs.declared.faults.RoundsFault.{RoundsFault};
 ghost use Rattle.flu_top.specs.declared.running.RunFault.{RunFault};
 ghost use Rattle.flu_top.specs.Ending.{call};
-ghost use Rattle.flu_top.specs.Openings.{Opening as PlainOpening};
+ghost use Rattle.flu_command.specs.Openings.{Opening as PlainOpening};
 ghost use Rattle.flu_top.specs.ReadingAhead.{BeginsAhead, HasBegun, IsFilled, StepsAhead};
 ghost use Rattle.flu_top.specs.Running.{EndsRounds, GoesOn, IsOpening, StaysWithin, plain_opening};
 

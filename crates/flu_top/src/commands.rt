@@ -3,9 +3,9 @@
 ghost use Rattle.std.specs.Prelude.{◌≡◌, ◌≢◌, ◌⊎◌, Err};
 ghost use Rattle.flu_outside.specs.Outside.{WhereTold, SameCounts};
 ghost use Rattle.flu_words.specs.Words.{plain_command};
-ghost use Rattle.flu_top.specs.Taking.{TookOnly, TookFrontsBut};
+ghost use Rattle.flu_command.specs.Taking.{TookOnly, TookFrontsBut};
 ghost use Rattle.flu_lines.specs.Answer.{code_after};
-ghost use Rattle.flu_top.specs.Done.{IsReadName, IsPutAt};
+ghost use Rattle.flu_command.specs.Done.{IsReadName, IsPutAt};
 ghost use Rattle.flu_top.specs.Ending.{call, IsEnding};
 ghost use Rattle.flu_top.specs.Writing.{IsPut, as_product};
 

@@ -4,7 +4,7 @@ ghost use Rattle.std.specs.Prelude.{◌≢◌, ◌≤◌, List, ℕ, Err, IfOk, 
 ghost use Rattle.flu_outside.specs.Outside.{WhereTold, SameCounts};
 ghost use Rattle.flu_outside.specs.Taking.{TakesFrom};
 ghost use Rattle.flu_top.specs.Jobs.{IsJobRefusal};
-ghost use Rattle.flu_top.specs.Causes.{IsJobRead};
+ghost use Rattle.flu_command.specs.Causes.{IsJobRead};
 
 use flu_lines::{Refusal, job_refusal};
 use flu_grammar::laws::jobs_are_grammar;

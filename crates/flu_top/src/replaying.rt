@@ -12,10 +12,10 @@ ghost use Rattle.flu_deps.specs.Checking.{program_of};
 ghost use Rattle.flu_deps.specs.Validated.{plan_of, IsValidFor};
 ghost use Rattle.flu_trace.specs.Replaying.{Complete};
 ghost use Rattle.flu_words.specs.Words.{Replay};
-ghost use Rattle.flu_top.specs.Taking.{TookOnly};
-ghost use Rattle.flu_top.specs.Done.{IsReadName, IsWritten};
+ghost use Rattle.flu_command.specs.Taking.{TookOnly};
+ghost use Rattle.flu_command.specs.Done.{IsReadName, IsWritten};
 ghost use Rattle.flu_top.specs.Refusing.{IsRefusal};
-ghost use Rattle.flu_top.specs.Replaying.{EndsOnNet};
+ghost use Rattle.flu_command.specs.Replaying.{EndsOnNet};
 ghost use Rattle.flu_top.specs.Replays.{IsNetRefusal, IsReplayDone, IsReplayRefusal, IsReadIn, StaysEnded};
 
 use crate::planned::{Planned, planned_by};

@@ -26,15 +26,15 @@ ghost use Rattle.flu_streams.specs.Holding.{AreHeldBehind, ClosedAreReadOut, Are
 ghost use Rattle.flu_rounds.specs.declared.faults.RoundsFault.{RoundsFault};
 ghost use Rattle.flu_rounds.specs.Standing.{round_lists, round_report, Runs, IsFirstFrom, IsRoundOf, IsSourceFault, StandsBehind};
 ghost use Rattle.flu_words.specs.Words.{Run, RunOptions as PlainOptions, plain_options};
-ghost use Rattle.flu_top.specs.Taking.{TookOnly, TookFrontsBut};
+ghost use Rattle.flu_command.specs.Taking.{TookOnly, TookFrontsBut};
 ghost use Rattle.flu_lines.specs.Answer.{code_after};
-ghost use Rattle.flu_top.specs.Done.{IsReadName, IsPutAt};
+ghost use Rattle.flu_command.specs.Done.{IsReadName, IsPutAt};
 ghost use Rattle.flu_top.specs.Ending.{call, IsEnding};
-ghost use Rattle.flu_top.specs.Openings.{Opening as PlainOpening};
+ghost use Rattle.flu_command.specs.Openings.{Opening as PlainOpening};
 ghost use Rattle.flu_top.specs.Refusing.{IsRefusal};
 ghost use Rattle.flu_top.specs.Running.{EndsRounds, EndsRun, GoesOn, IsBegun, IsOpening, SaysCounts, StaysWithin, Steps, borders_above, plain_opening};
-ghost use Rattle.flu_top.specs.Starting.{IsNoSource};
-ghost use Rattle.flu_top.specs.Wants.{if_named};
+ghost use Rattle.flu_command.specs.Starting.{IsNoSource};
+ghost use Rattle.flu_command.specs.Wants.{if_named};
 
 use crate::ahead::{reads_ahead, rounds_ahead};
 use crate::backup::Backup;

@@ -10,14 +10,14 @@ ghost use Rattle.flu_deps.specs.Validated.{plan_of, IsValidFor};
 ghost use Rattle.flu_streams.specs.Files.{files_of, LeavesOthers};
 ghost use Rattle.flu_streams.specs.Good.{lists_of};
 ghost use Rattle.flu_words.specs.Words.{Simulate};
-ghost use Rattle.flu_top.specs.Taking.{TookOnly};
-ghost use Rattle.flu_top.specs.Wants.{want};
-ghost use Rattle.flu_top.specs.Done.{IsReadName, IsWritten};
+ghost use Rattle.flu_command.specs.Taking.{TookOnly};
+ghost use Rattle.flu_command.specs.Wants.{want};
+ghost use Rattle.flu_command.specs.Done.{IsReadName, IsWritten};
 ghost use Rattle.flu_top.specs.Folding.{AreSourcesRead, IsReportRefusal};
 ghost use Rattle.flu_lines.specs.Products.{line_said};
 ghost use Rattle.flu_top.specs.Products.{MaySay};
 ghost use Rattle.flu_top.specs.Refusing.{IsRefusal};
-ghost use Rattle.flu_top.specs.Simulating.{AreDrawn, IsTextOn};
+ghost use Rattle.flu_command.specs.Simulating.{AreDrawn, IsTextOn};
 
 use crate::planned::{Planned, planned_by};
 use crate::products::Product;

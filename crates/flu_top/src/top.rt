@@ -2,20 +2,17 @@
 
 ghost use Rattle.std.specs.Prelude.{◌≡◌, ◌≢◌, ◌⊎◌, Err, map, string_bytes};
 ghost use Rattle.flu_outside.specs.Outside.{WhereTold, SameCounts};
-ghost use Rattle.flu_top.specs.Taking.{TookOnly, TookFrontsBut};
-ghost use Rattle.flu_top.specs.Done.{IsReadBy, MayBePut};
+ghost use Rattle.flu_command.specs.Taking.{TookOnly, TookFrontsBut};
+ghost use Rattle.flu_command.specs.Done.{IsReadBy, MayBePut};
 ghost use Rattle.flu_lines.specs.Answer.{code_after, IsHeard};
 ghost use Rattle.flu_top.specs.Ending.{call, Ends};
 ghost use Rattle.flu_top.specs.Outcome.{outside, faults, Outcome, ReadOnly, FaultsFirst, HidesNothing, Completes};
 
 use crate::commands::run;
+use flu_command::calling::{files_call_for_one_status, what_ends_a_command_is_called_for};
 use flu_lines::{Refusal, Said, say, say_done, status};
-use flu_grammar::laws::{jobs_are_grammar, plans_are_grammar};
 use flu_outside::{Files, Sink};
-use flu_save::faults_are_no_checkpoints;
 use flu_seq::Gate;
-use flu_streams::rounds_meet_what_is_there;
-use flu_trace::laws::a_trace_has_one_ending;
 use flu_words::read_words;
 use std::alloc::Global;
 use std::sync::Wait;
@@ -126,11 +123,8 @@ pub fn answer_words<F: Files, K: Sink, E: Sink, G: Gate, R: Threads + Wait + Syn
         (faults (F.faults files.new) (F.put_faults files.new) (K.faults out.new)) (code_after result) }
     ensures heard { IsHeard result (E.taken err.old) (E.taken err.new) (E.faults err.old) (E.faults err.new) }
 {
-    a_trace_has_one_ending();
-    faults_are_no_checkpoints();
-    jobs_are_grammar();
-    plans_are_grammar();
-    rounds_meet_what_is_there();
+    files_call_for_one_status();
+    what_ends_a_command_is_called_for();
     let ended = do_words(rt, alloc, words, files, out, gate);
     tell(err, &ended);
     ended

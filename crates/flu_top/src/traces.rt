@@ -4,7 +4,7 @@ ghost use Rattle.std.specs.Prelude.{◌≡◌, ◌<◌, ◌^◌, IfOk};
 ghost use Rattle.std.specs.List.{All};
 ghost use Rattle.flu_live.specs.Seeded.{IsSeeded};
 ghost use Rattle.flu_trace.specs.Lines.{number_of};
-ghost use Rattle.flu_top.specs.Simulating.{IsTraceIn, lines_of_steps};
+ghost use Rattle.flu_command.specs.Simulating.{IsTraceIn, lines_of_steps};
 
 use flu_lines::DrawnSteps;
 use flu_fork::Case;

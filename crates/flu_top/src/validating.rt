@@ -7,8 +7,8 @@ ghost use Rattle.flu_deps.specs.Validated.{plan_of};
 ghost use Rattle.flu_plan.specs.Printing.{printed};
 ghost use Rattle.flu_outside.specs.Taking.{TookFronts};
 ghost use Rattle.flu_words.specs.Words.{Valid};
-ghost use Rattle.flu_top.specs.Taking.{TookOnly};
-ghost use Rattle.flu_top.specs.Done.{IsReadName, IsWritten};
+ghost use Rattle.flu_command.specs.Taking.{TookOnly};
+ghost use Rattle.flu_command.specs.Done.{IsReadName, IsWritten};
 ghost use Rattle.flu_lines.specs.declared.refusals.Refusal.{Refusal};
 ghost use Rattle.flu_top.specs.Refusing.{IsRefusal};
 

@@ -2,9 +2,9 @@ use Rattle.std.proofs.Common.{refl, sym, ap, subst, ◌⊎◌}
 use Rattle.flu_outside.specs.Outside.{WhereTold}
 use Rattle.flu_words.specs.Words.{Command, Fold, Check, Valid, Plan, Simulate, Replay, Demo, plain_command}
 use Rattle.flu_lines.specs.declared.refusals.Refusal.TheVariants.{ReadFault}
-use Rattle.flu_top.specs.Taking.{TookOnly}
+use Rattle.flu_command.specs.Taking.{TookOnly}
 use Rattle.flu_lines.specs.Answer.{code_after}
-use Rattle.flu_top.specs.Done.{IsReadName, IsPutAt}
+use Rattle.flu_command.specs.Done.{IsReadName, IsPutAt}
 use Rattle.flu_top.specs.Ending.{call}
 use Rattle.flu_top.proofs.Demos.{refused_anyhow}
 use Rattle.flu_top.proofs.Endings.{ends_text, ends_product, fronts_of_all, not_refused, only_of_command, text_not_refused}

@@ -19,11 +19,13 @@ returns-clause-hides g c = hides_of _ _ c.do_words-ended.result c.do_words-ended
 
 pub returns-clause-completes : goal.returns-clause-completes
 returns-clause-completes g c = completes_of (record {
-  jobs = c.jobs_are_grammar.ensures;
-  plans = c.plans_are_grammar.ensures;
-  meeting =
-      c.rounds_meet_what_is_there.ensures.meeting;
-  saves = c.faults_are_no_checkpoints.ensures;
-  traces = c.a_trace_has_one_ending.ensures;
+  one = c.files_call_for_one_status.ensures;
+  done = c.what_ends_a_command_is_called_for.ensures.done;
+  job_fault = c.what_ends_a_command_is_called_for.ensures.job_fault;
+  conflict = c.what_ends_a_command_is_called_for.ensures.conflict;
+  plan_defect = c.what_ends_a_command_is_called_for.ensures.plan_defect;
+  save_defect = c.what_ends_a_command_is_called_for.ensures.save_defect;
+  source_fault = c.what_ends_a_command_is_called_for.ensures.source_fault;
+  trace_fault = c.what_ends_a_command_is_called_for.ensures.trace_fault;
 }) _ _ _ _ _ _ (returns-clause-outcome g c)
     (returns-clause-faults g c)
