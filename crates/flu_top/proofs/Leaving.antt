@@ -46,8 +46,6 @@ begins_more text more before now wrote = (more, wrote ∙ sym (append_assoc befo
 begins_into : (text more before now : List ℕ) → AppendsInto text more before now → BeginsWith text before now
 begins_into text more before now wrote = (take wrote.0 more, wrote.2)
 
-
-
 module _ (meaning : LawOfOneMeaning) (job : List ℕ) (plan : Option (List ℕ)) (options : RunOptions) (file : List ℕ) (saves : options.save ≡ Some file) where
   abbrev whole : Command
   whole = Run job plan options

@@ -23,11 +23,11 @@ ghost use Rattle.flu_top.specs.Running.{EndsRounds, GoesOn, IsOpening, StaysWith
 
 use crate::backup::Backup;
 use crate::openings::Opening;
-use flu_lines::Said;
 use crate::running::{RunFault, adaptive_of, first, said_behind};
 use flu_adaptive::{Adaptive, programs_are_shared};
 use flu_cells::State;
 use flu_deps::{Checked, Valid};
+use flu_lines::Said;
 use flu_model::{Outs, Program, Streams};
 use flu_outside::{Files, Sink};
 use flu_rounds::{

@@ -12,9 +12,9 @@ ghost use Rattle.flu_top.specs.Checking.{IsChecked, IsCheckRefusal};
 ghost use Rattle.flu_top.specs.Refusing.{IsRefusal};
 
 use crate::programs::program_of;
-use flu_lines::Refusal;
 use flu_check::check;
 use flu_deps::Checked;
+use flu_lines::Refusal;
 use flu_model::{Program, Text};
 use flu_outside::Files;
 use flu_parse::print_job;

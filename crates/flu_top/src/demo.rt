@@ -12,10 +12,10 @@ ghost use Rattle.flu_top.specs.Products.{MaySay};
 
 use crate::planned::planned_greedily;
 use crate::products::Product;
-use flu_lines::Refusal;
 use crate::running::tree_report;
 use flu_command::demos::demo_jobs_are_accepted;
 use flu_gen::{demo_job, demo_streams};
+use flu_lines::Refusal;
 use flu_model::Text;
 use flu_seq::Gate;
 use flu_words::{Draws, Seed, USUAL_DEPTH};

@@ -16,8 +16,8 @@ ghost use Rattle.flu_top.specs.Folding.{IsReported, IsReportRefusal};
 ghost use Rattle.flu_top.specs.Refusing.{IsRefusal};
 
 use crate::programs::program_of;
-use flu_lines::{JobRead, Refusal};
 use flu_cells::State;
+use flu_lines::{JobRead, Refusal};
 use flu_model::{Program, Streams, Text};
 use flu_outside::Files;
 use flu_report::report_text;

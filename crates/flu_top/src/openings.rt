@@ -9,8 +9,8 @@ ghost use Rattle.flu_top.specs.Running.{IsOpening, IsOpened, IsOpeningRefusal, p
 ghost use Rattle.flu_command.specs.Starting.{AreNoSources, IsFileOf, IsNoSource, IsSameName};
 ghost use Rattle.flu_command.specs.Wants.{if_named};
 
-use flu_lines::Refusal;
 use flu_cells::State;
+use flu_lines::Refusal;
 use flu_model::Program;
 use flu_outside::{Files, read_whole};
 use flu_save::read_save;

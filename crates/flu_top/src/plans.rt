@@ -5,8 +5,8 @@ ghost use Rattle.flu_outside.specs.Outside.{WhereTold, SameCounts};
 ghost use Rattle.flu_outside.specs.Taking.{TakesFrom};
 ghost use Rattle.flu_top.specs.Plans.{IsPlanRead, IsTextRefusal};
 
-use flu_lines::{Refusal, plan_refusal};
 use flu_grammar::laws::plans_are_grammar;
+use flu_lines::{Refusal, plan_refusal};
 use flu_model::{Plan, Program};
 use flu_outside::{Files, read_whole};
 use flu_plan::read_plan;

@@ -6,8 +6,8 @@ ghost use Rattle.flu_outside.specs.Taking.{TakesFrom};
 ghost use Rattle.flu_top.specs.Jobs.{IsJobRefusal};
 ghost use Rattle.flu_command.specs.Causes.{IsJobRead};
 
-use flu_lines::{Refusal, job_refusal};
 use flu_grammar::laws::jobs_are_grammar;
+use flu_lines::{Refusal, job_refusal};
 use flu_model::Program;
 use flu_outside::{Files, read_whole};
 use flu_parse::read_job;

@@ -19,10 +19,10 @@ ghost use Rattle.flu_command.specs.Replaying.{EndsOnNet};
 ghost use Rattle.flu_top.specs.Replays.{IsNetRefusal, IsReplayDone, IsReplayRefusal, IsReadIn, StaysEnded};
 
 use crate::planned::{Planned, planned_by};
-use flu_lines::{JobRead, Refusal};
 use crate::sources::streams_of;
 use flu_cells::State;
 use flu_fork::Case;
+use flu_lines::{JobRead, Refusal};
 use flu_model::{Streams, Text};
 use flu_outside::Files;
 use flu_report::report_text;

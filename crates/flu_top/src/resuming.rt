@@ -5,9 +5,7 @@ ghost use Rattle.flu_top.specs.Resuming.{RunsLeaveCheckpoints, ResumedRunsWriteT
 
 use flu_command::one_text::{programs_of_a_job_agree, texts_have_one_job};
 use flu_command::resuming::{of_checkpoints, of_resumed_sources};
-use flu_save::{
-    checkpoints_are_of_jobs, checkpoints_have_one_meaning, faults_are_no_checkpoints,
-};
+use flu_save::{checkpoints_are_of_jobs, checkpoints_have_one_meaning, faults_are_no_checkpoints};
 
 /// A run that saves leaves the name that it saves to as it was; or a checkpoint there, and what was written when that was put is in
 /// out, maybe with a part of the next round's report after it. This holds at the statuses 0 and 6 to 9. A run that is resumed, and ends

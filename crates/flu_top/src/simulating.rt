@@ -21,12 +21,11 @@ ghost use Rattle.flu_command.specs.Simulating.{AreDrawn, IsTextOn};
 
 use crate::planned::{Planned, planned_by};
 use crate::products::Product;
-use flu_lines::{DrawnSteps, Said};
-use flu_lines::{JobRead, Refusal};
 use crate::sources::streams_of;
 use crate::traces::trace_text;
 use flu_cells::State;
 use flu_fork::Case;
+use flu_lines::{DrawnSteps, JobRead, Refusal, Said};
 use flu_live::{Run, simulate};
 use flu_model::{Streams, Text};
 use flu_outside::Files;

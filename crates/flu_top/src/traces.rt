@@ -6,8 +6,8 @@ ghost use Rattle.flu_live.specs.Seeded.{IsSeeded};
 ghost use Rattle.flu_trace.specs.Lines.{number_of};
 ghost use Rattle.flu_command.specs.Simulating.{IsTraceIn, lines_of_steps};
 
-use flu_lines::DrawnSteps;
 use flu_fork::Case;
+use flu_lines::DrawnSteps;
 use flu_live::{TracedRun, trace};
 use flu_model::Text;
 use flu_net::Step;
