@@ -1,5 +1,5 @@
 -- A command and its files call for one status, and what ends it is what they call for.
-use Rattle.std.proofs.Common.{◌≡◌, ◌≢◌, arith, sym, ap, ◌∙◌, refl, subst, ℕ, Option, Some, Ok, Err, inl, inr, ◌⊎◌}
+use Rattle.std.proofs.Common.{◌≡◌, ◌≢◌, sym, ap, ◌∙◌, refl, subst, ℕ, Some, Err, ◌⊎◌}
 use Rattle.std.specs.Prelude.{List, IsTrue}
 use Rattle.flu_outside.specs.Outside.{Contents}
 use Rattle.flu_model.specs.declared.jobs.Program.{Program}
@@ -19,22 +19,20 @@ use Rattle.flu_save.specs.Laws.{LawOfFaults}
 use Rattle.flu_streams.specs.Fronts.{LawOfMeeting}
 use Rattle.flu_trace.specs.OneEnding.{OneEnding}
 use Rattle.flu_lemmas.proofs.Told.{of_told}
-use Rattle.flu_lines.specs.declared.refusals.PlanDefect.{PlanDefect}
 use Rattle.flu_lines.specs.declared.refusals.PlanDefect.TheVariants as defects
-use Rattle.flu_lines.specs.declared.refusals.SaveDefect.{SaveDefect}
 use Rattle.flu_lines.specs.declared.refusals.SaveDefect.TheVariants as starts
 use Rattle.flu_trace.specs.declared.faults.ReplayFault.{ReplayFault}
 use Rattle.flu_trace.specs.declared.faults.ReplayFault.TheVariants as traces
 use Rattle.flu_trace.specs.Replaying.{Ending, Complete, ending_of}
-use Rattle.flu_words.specs.Words.{Command, command_in}
-use Rattle.flu_command.specs.Behind.{WantedJob, Named, Fixed, HasJob, HasPlan, plan_behind}
+use Rattle.flu_words.specs.Words.{Command}
+use Rattle.flu_command.specs.Behind.{WantedJob, Named, HasJob, HasPlan, plan_behind}
 use Rattle.flu_command.specs.Reading.{AreSourcesGood, HasDefect}
 use Rattle.flu_command.specs.Starting.{CanStart, IsSameName, HasBadCheckpoint}
-use Rattle.flu_command.specs.Wants.{job_wanted, plan_named, save_named, trace_named, asks_accepted, how_read, texts_named}
-use Rattle.flu_command.specs.Done.{HasValidPlan, HasPlanAsked, IsGood, IsTraceRead, IsDone, WhereKnown, IsReadName}
+use Rattle.flu_command.specs.Wants.{job_wanted, plan_named, trace_named, asks_accepted, how_read, texts_named}
+use Rattle.flu_command.specs.Done.{HasValidPlan, HasPlanAsked, IsGood}
 use Rattle.flu_command.specs.Determining.{OneEndingOfATrace}
 use Rattle.flu_command.specs.Replaying.{ReplaysTo, HasCompleteTrace}
-use Rattle.flu_command.specs.Causes.{IsJobRead, HasJobFault, HasConflict, HasPlanDefect, HasSaveDefect, IsMet, HasSourceFault, HasTraceFault}
+use Rattle.flu_command.specs.Causes.{IsJobRead, IsMet}
 use Rattle.flu_command.specs.Calling.{HasFaultyTrace, CallsFor, DoneIsCalledFor, JobFaultIsCalledFor, ConflictIsCalledFor, PlanDefectIsCalledFor}
 use Rattle.flu_command.specs.Calling.{SaveDefectIsCalledFor, SourceFaultIsCalledFor, TraceFaultIsCalledFor}
 use Rattle.flu_command.specs.TextFaults.{IsFirstJobFault}
@@ -54,36 +52,26 @@ pub record LawsBelow : Type 0 where
   pub saves : LawOfFaults
   pub traces : OneEnding
 
--- ---- each outcome of a call in which nothing failed
--- the status that is wanted, or that of want of memory
-abbrev IsStatus : ℕ → ℕ → Type 0
-IsStatus wanted status = (status ≡ wanted) ⊎ (status ≡ 9)
-
--- what each outcome would show of the files goes with the status that is wanted
+-- what each status would show of the files is so at the one that is wanted alone
 record Leads (wanted : ℕ) (command : Command) (left : Contents) : Type 0 where
-  done : (p : Program) → IsGood command left p → ¬ HasFaultyTrace command left → IsStatus wanted 0
-  job : (name : List ℕ) (fault : JobFault) → job_wanted command ≡ Named name → job_in (bytes_left left name) ≡ Err fault → IsStatus wanted 3
-  conflict : (p : Program) → IsTrue (asks_accepted command) → ¬ IsAccepted p → HasJob (job_wanted command) left p → IsStatus wanted 4
+  done : (p : Program) → IsGood command left p → HasCompleteTrace command left p → wanted ≡ 0
+  job : (name : List ℕ) (fault : JobFault) → job_wanted command ≡ Named name → job_in (bytes_left left name) ≡ Err fault → wanted ≡ 3
+  conflict : (p : Program) → IsTrue (asks_accepted command) → ¬ IsAccepted p → HasJob (job_wanted command) left p → wanted ≡ 4
   plan : (plan : List ℕ) (p : Program) → plan_named command ≡ Some plan → IsAccepted p → HasJob (job_wanted command) left p
-      → ¬ HasValidPlan (job_wanted command) plan left p → IsStatus wanted 5
+      → ¬ HasValidPlan (job_wanted command) plan left p → wanted ≡ 5
   start : (p : Program) → (IsTrue (asks_accepted command) → IsAccepted p) → HasJob (job_wanted command) left p
-      → HasPlanAsked command left p → ¬ CanStart command left p → IsStatus wanted 11
+      → HasPlanAsked command left p → ¬ CanStart command left p → wanted ≡ 11
   source : (p : Program) → (IsTrue (asks_accepted command) → IsAccepted p) → HasJob (job_wanted command) left p
-      → HasPlanAsked command left p → CanStart command left p → HasDefect (how_read command) (texts_named command) left p → IsStatus wanted 6
+      → HasPlanAsked command left p → CanStart command left p → HasDefect (how_read command) (texts_named command) left p → wanted ≡ 6
   trace : (p : Program) (trace : List ℕ) (ending : Ending) → trace_named command ≡ Some trace → IsGood command left p → ReplaysTo command trace left p ending
-      → ending ≢ Complete → IsStatus wanted 13
-
--- a status that is wanted and is not that of want of memory
-settled : (wanted status : ℕ) → IsStatus wanted status → status ≢ 9 → wanted ≡ status
-settled wanted status (inl same) other = sym same
-settled wanted status (inr nine) other = absurd (other nine)
+      → ending ≢ Complete → wanted ≡ 13
 
 -- a plan's text for a program is one for another that is the same job
 same_plan_text : PlansAreGrammar → (p q : Program) (bytes : List ℕ) (nodes : List Node) → IsSameJob p q → IsPlanText p bytes nodes → IsPlanText q bytes nodes
 same_plan_text plans p q bytes nodes same is = (plans q bytes nodes).0 (sym (same_plan p q bytes same) ∙ (plans p bytes nodes).1 is)
 
-pub valid_of_text : JobsAreGrammar → PlansAreGrammar → (job : WantedJob) (plan : List ℕ) (left : Contents) (p q : Program) → HasJob job left p → HasJob job left q → HasValidPlan job plan left p
-    → HasValidPlan job plan left q
+pub valid_of_text : JobsAreGrammar → PlansAreGrammar → (job : WantedJob) (plan : List ℕ) (left : Contents) (p q : Program)
+    → HasJob job left p → HasJob job left q → HasValidPlan job plan left p → HasValidPlan job plan left q
 valid_of_text jobs plans job plan left p q first second found =
     let same = same_job jobs job left p q first second in
     (found.0, same_plan_text plans p q (plan_behind job plan left) found.0 same found.1, same_valid p q found.0 same found.2)
@@ -103,6 +91,10 @@ module _ (laws : LawsBelow) where
 
   accepted_of_text : (job : WantedJob) (left : Contents) (p q : Program) → HasJob job left p → HasJob job left q → IsAccepted p → IsAccepted q
   accepted_of_text job left p q first second = same_accepted p q (same_job laws.jobs job left p q first second)
+
+  same_plan_asked : (job : WantedJob) (plan : List ℕ) (left : Contents) (p q : Program) → HasJob job left p → HasJob job left q → HasValidPlan job plan left p
+      → HasValidPlan job plan left q
+  same_plan_asked = valid_of_text laws.jobs laws.plans
 
   start_of_text : (command : Command) (left : Contents) (p q : Program) → HasJob (job_wanted command) left p → HasJob (job_wanted command) left q
       → CanStart command left p → CanStart command left q
@@ -141,10 +133,10 @@ module _ (laws : LawsBelow) where
   -- ---- what the status that is called for leaves of the others
   leads_done : (command : Command) (left : Contents) (p : Program) → IsGood command left p → HasCompleteTrace command left p → Leads 0 command left
   leads_done command left p good whole = record {
-    done = λ q other none. inl refl;
+    done = λ q other none. refl;
     job = λ name fault named bad. absurd (not_both (job_wanted command) name left p fault named good.has bad);
     conflict = λ q asked refused has. absurd (refused (accepted_of_text (job_wanted command) left p q good.has has (good.accepted asked)));
-    plan = λ plan q named accepted has bad. absurd (bad (valid_of_text laws.jobs laws.plans (job_wanted command) plan left p q good.has has (good.plan plan named)));
+    plan = λ plan q named accepted has bad. absurd (bad (same_plan_asked (job_wanted command) plan left p q good.has has (good.plan plan named)));
     start = λ q accepted has plan bad. absurd (bad (start_of_text command left p q good.has has good.start));
     source = λ q accepted has plan start bad. absurd (no_defect command left p q good.has has good.sources bad);
     trace = λ q trace ending named also ends other.
@@ -155,7 +147,7 @@ module _ (laws : LawsBelow) where
       → job_in (bytes_left left name) ≡ Err fault → Leads 3 command left
   leads_job command name left fault named bad = record {
     done = λ q good none. absurd (not_both (job_wanted command) name left q fault named good.has bad);
-    job = λ another other also found. inl refl;
+    job = λ another other also found. refl;
     conflict = λ q asked refused has. absurd (not_both (job_wanted command) name left q fault named has bad);
     plan = λ plan q asked accepted has other. absurd (not_both (job_wanted command) name left q fault named has bad);
     start = λ q accepted has plan found. absurd (not_both (job_wanted command) name left q fault named has bad);
@@ -168,7 +160,7 @@ module _ (laws : LawsBelow) where
   leads_conflict command left p asked has refused = record {
     done = λ q good none. absurd (refused (accepted_of_text (job_wanted command) left q p good.has has (good.accepted asked)));
     job = λ name fault named bad. absurd (not_both (job_wanted command) name left p fault named has bad);
-    conflict = λ q asked none found. inl refl;
+    conflict = λ q asked none found. refl;
     plan = λ plan q named accepted found bad. absurd (refused (accepted_of_text (job_wanted command) left q p found has accepted));
     start = λ q accepted found plan bad. absurd (refused (accepted_of_text (job_wanted command) left q p found has (accepted asked)));
     source = λ q accepted found plan start bad. absurd (refused (accepted_of_text (job_wanted command) left q p found has (accepted asked)));
@@ -178,13 +170,13 @@ module _ (laws : LawsBelow) where
   leads_plan : (command : Command) (left : Contents) (p : Program) (plan : List ℕ) → plan_named command ≡ Some plan → HasJob (job_wanted command) left p
       → IsAccepted p → ¬ HasValidPlan (job_wanted command) plan left p → Leads 5 command left
   leads_plan command left p plan named has accepted bad = record {
-    done = λ q good none. absurd (bad (valid_of_text laws.jobs laws.plans (job_wanted command) plan left q p good.has has (good.plan plan named)));
+    done = λ q good none. absurd (bad (same_plan_asked (job_wanted command) plan left q p good.has has (good.plan plan named)));
     job = λ name fault named found. absurd (not_both (job_wanted command) name left p fault named has found);
     conflict = λ q asked refused found. absurd (refused (accepted_of_text (job_wanted command) left p q has found accepted));
-    plan = λ name q also found others worse. inl refl;
-    start = λ q also found valid others. absurd (bad (valid_of_text laws.jobs laws.plans (job_wanted command) plan left q p found has (valid plan named)));
-    source = λ q also found valid start others. absurd (bad (valid_of_text laws.jobs laws.plans (job_wanted command) plan left q p found has (valid plan named)));
-    trace = λ q trace ending its good ends other. absurd (bad (valid_of_text laws.jobs laws.plans (job_wanted command) plan left q p good.has has (good.plan plan named)));
+    plan = λ name q also found others worse. refl;
+    start = λ q also found valid others. absurd (bad (same_plan_asked (job_wanted command) plan left q p found has (valid plan named)));
+    source = λ q also found valid start others. absurd (bad (same_plan_asked (job_wanted command) plan left q p found has (valid plan named)));
+    trace = λ q trace ending its good ends other. absurd (bad (same_plan_asked (job_wanted command) plan left q p good.has has (good.plan plan named)));
   }
 
   leads_source : (command : Command) (left : Contents) (p : Program) → HasJob (job_wanted command) left p → (IsTrue (asks_accepted command) → IsAccepted p)
@@ -194,9 +186,9 @@ module _ (laws : LawsBelow) where
     done = λ q good none. absurd (no_defect command left q p good.has has good.sources bad);
     job = λ name other named found. absurd (not_both (job_wanted command) name left p other named has found);
     conflict = λ q asked refused found. absurd (refused (accepted_of_text (job_wanted command) left p q has found (accepted asked)));
-    plan = λ plan q named also found other. absurd (other (valid_of_text laws.jobs laws.plans (job_wanted command) plan left p q has found (valid plan named)));
+    plan = λ plan q named also found other. absurd (other (same_plan_asked (job_wanted command) plan left p q has found (valid plan named)));
     start = λ q also found plan others. absurd (others (start_of_text command left p q has found start));
-    source = λ q also found plan begun others. inl refl;
+    source = λ q also found plan begun others. refl;
     trace = λ q trace ending its good ends other. absurd (no_defect command left q p good.has has good.sources bad);
   }
 
@@ -207,8 +199,8 @@ module _ (laws : LawsBelow) where
     done = λ q good none. absurd (bad (start_of_text command left q p good.has has good.start));
     job = λ name other named found. absurd (not_both (job_wanted command) name left p other named has found);
     conflict = λ q asked refused found. absurd (refused (accepted_of_text (job_wanted command) left p q has found (accepted asked)));
-    plan = λ plan q named also found other. absurd (other (valid_of_text laws.jobs laws.plans (job_wanted command) plan left p q has found (valid plan named)));
-    start = λ q also found plan others. inl refl;
+    plan = λ plan q named also found other. absurd (other (same_plan_asked (job_wanted command) plan left p q has found (valid plan named)));
+    start = λ q also found plan others. refl;
     source = λ q also found plan start others. absurd (bad (start_of_text command left q p found has start));
     trace = λ q trace ending its good ends other. absurd (bad (start_of_text command left q p good.has has good.start));
   }
@@ -218,13 +210,13 @@ module _ (laws : LawsBelow) where
       let p = faulty.p in
       let good = faulty.good in
       record {
-        done = λ q also none. absurd (none faulty);
+        done = λ q also whole. absurd (only_complete command left q also.has whole faulty);
         job = λ name fault named bad. absurd (not_both (job_wanted command) name left p fault named good.has bad);
         conflict = λ q asked refused has. absurd (refused (accepted_of_text (job_wanted command) left p q good.has has (good.accepted asked)));
-        plan = λ plan q named accepted has bad. absurd (bad (valid_of_text laws.jobs laws.plans (job_wanted command) plan left p q good.has has (good.plan plan named)));
+        plan = λ plan q named accepted has bad. absurd (bad (same_plan_asked (job_wanted command) plan left p q good.has has (good.plan plan named)));
         start = λ q accepted has plan bad. absurd (bad (start_of_text command left p q good.has has good.start));
         source = λ q accepted has plan start bad. absurd (no_defect command left p q good.has has good.sources bad);
-        trace = λ q trace ending named also ends other. inl refl;
+        trace = λ q trace ending named also ends other. refl;
       }
 
   leads : (command : Command) (left : Contents) (wanted : ℕ) → CallsFor command left wanted → Leads wanted command left
@@ -243,20 +235,20 @@ module _ (laws : LawsBelow) where
   -- a command and the files call for one status
   pub one_status : (command : Command) (left : Contents) (a b : ℕ) → CallsFor command left a → CallsFor command left b → a ≡ b
   one_status command left a b first (calls.Good is p good whole) =
-      settled a 0 ((leads command left a first).done p good (only_complete command left p good.has whole)) (λ e. omega (arith, e)) ∙ sym is
+      (leads command left a first).done p good whole ∙ sym is
   one_status command left a b first (calls.FaultyJob is name fault named bad) =
-      settled a 3 ((leads command left a first).job name fault named bad) (λ e. omega (arith, e)) ∙ sym is
+      (leads command left a first).job name fault named bad ∙ sym is
   one_status command left a b first (calls.NotAccepted is p asked has refused) =
-      settled a 4 ((leads command left a first).conflict p asked refused has) (λ e. omega (arith, e)) ∙ sym is
+      (leads command left a first).conflict p asked refused has ∙ sym is
   one_status command left a b first (calls.NoValidPlan is p plan named has accepted bad) =
-      settled a 5 ((leads command left a first).plan plan p named accepted has bad) (λ e. omega (arith, e)) ∙ sym is
+      (leads command left a first).plan plan p named accepted has bad ∙ sym is
   one_status command left a b first (calls.FaultyStart is p has accepted valid bad) =
-      settled a 11 ((leads command left a first).start p accepted has valid bad) (λ e. omega (arith, e)) ∙ sym is
+      (leads command left a first).start p accepted has valid bad ∙ sym is
   one_status command left a b first (calls.FaultySource is p has accepted valid start bad) =
-      settled a 6 ((leads command left a first).source p accepted has valid start bad) (λ e. omega (arith, e)) ∙ sym is
+      (leads command left a first).source p accepted has valid start bad ∙ sym is
   one_status command left a b first (calls.FaultyTrace is faulty) =
-      settled a 13 ((leads command left a first).trace faulty.p faulty.trace faulty.ending faulty.named faulty.good faulty.ends
-      faulty.faulty) (λ e. omega (arith, e)) ∙ sym is
+      (leads command left a first).trace faulty.p faulty.trace faulty.ending faulty.named faulty.good faulty.ends
+      faulty.faulty ∙ sym is
 
   -- ---- what ends a command
   pub done_called : DoneIsCalledFor

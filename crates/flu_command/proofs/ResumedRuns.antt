@@ -1,12 +1,11 @@
 -- What a checkpoint that a run has put opens is the rest of the run.
 use Rattle.std.proofs.Common.{◌≡◌, refl, sym, ap, ◌∙◌, subst, ℕ, ◌<◌, ◌≤◌, ◌^◌, List, [], ◌∷◌, ◌++◌, Option, Some, None, inl, inr, append-nil, append_assoc}
-use Rattle.std.proofs.Common.{arith, zero, suc, true, false, cond}
+use Rattle.std.proofs.Common.{arith, suc, true, false, cond}
 use Rattle.std.specs.Prelude.{slice_get, option_map, unwrap_or, Contains, sum_by}
 use Rattle.std.specs.List.{AllByRecursion, flat_map}
 use Rattle.std.specs.Option.{option_map_or}
 use Rattle.std.specs.Str.{bytes_eq}
 use Rattle.std.proofs.lemmas.Slice.Eq.{bytes_eq-Decides}
-use Rattle.flu_lemmas.proofs.Containing.{contains_here, contains_later}
 use Rattle.flu_lemmas.proofs.Elements.{all_map}
 use Rattle.flu_laws.specs.Updating.{FoldKeepsSorts}
 use Rattle.flu_model.specs.declared.events.Event.{Event}

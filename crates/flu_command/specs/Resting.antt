@@ -1,8 +1,7 @@
 -- The rest of a run: what a checkpoint that a run has put opens, and over which sources.
-use Rattle.std.specs.Prelude.{◌≡◌, ◌⊎◌, ◌≤◌, ℕ, List, [], ◌∷◌, ◌++◌, Option, Some, Contains, Ok}
-use Rattle.flu_outside.specs.Outside.{Contents, WhereTold}
+use Rattle.std.specs.Prelude.{◌≡◌, ◌⊎◌, ◌≤◌, ℕ, List, [], ◌∷◌, ◌++◌, Some, Contains}
+use Rattle.flu_outside.specs.Outside.{Contents}
 use Rattle.flu_outside.specs.Taking.{bytes_left}
-use Rattle.flu_outside.specs.Writing.{AppendsAll}
 use Rattle.flu_model.specs.declared.jobs.Program.{Program}
 use Rattle.flu_model.specs.Erasure.{job_of}
 use Rattle.flu_grammar.specs.Jobs.{IsJobText}
@@ -12,12 +11,9 @@ use Rattle.flu_save.specs.declared.fault.SaveFault.TheVariants.{NoMemory}
 use Rattle.flu_save.specs.Checkpoint.{save}
 use Rattle.flu_save.specs.Forms.{IsFaultOf}
 use Rattle.flu_streams.specs.Files.{files_of}
-use Rattle.flu_words.specs.Words.{Command, Run, RunOptions, command_in}
-use Rattle.flu_command.specs.Behind.{Named, HasJob, emptied_each, lists_behind}
+use Rattle.flu_command.specs.Behind.{emptied_each, lists_behind}
 use Rattle.flu_command.specs.Openings.{Opening, OpensAt, fresh, report_from, state_from}
 use Rattle.flu_command.specs.Reading.{HaveWritten, greatest_border, lines_behind}
-use Rattle.flu_command.specs.Starting.{IsAsBefore, IsSameName, StartsFrom}
-use Rattle.flu_command.specs.Wants.{if_named, job_wanted, texts_named}
 
 -- ---- checkpoints of a run
 -- an opening that a run of a job can have: from the first row on, or the opening of a checkpoint of the job

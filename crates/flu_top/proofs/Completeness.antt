@@ -1,5 +1,5 @@
 -- Where nothing failed, a call's status is the one that the command and its files call for, or that of want of memory.
-use Rattle.std.proofs.Common.{◌≡◌, ◌≢◌, sym, ◌∙◌, refl, subst, ℕ, Option, Some, Ok, inl, inr, ◌⊎◌}
+use Rattle.std.proofs.Common.{◌≡◌, ◌≢◌, ◌∙◌, refl, subst, ℕ, Option, Some, Ok, inl, inr, ◌⊎◌}
 use Rattle.std.specs.Prelude.{List}
 use Rattle.flu_outside.specs.Outside.{Contents}
 use Rattle.flu_lemmas.proofs.Told.{of_told}

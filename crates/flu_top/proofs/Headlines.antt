@@ -1,6 +1,6 @@
 -- The headline of each command, from the clauses of the call.
 use Rattle.std.proofs.Common.{◌≡◌, refl, sym, ap, ◌∙◌, subst, ℕ, ◌≤◌, List, [], ◌∷◌, ◌++◌, Bool, true, false, Option, Some, None, Ok, inl, inr, ◌⊎◌, arith}
-use Rattle.std.specs.Prelude.{Contains, IsTrue, slice_get, if◌then◌else◌}
+use Rattle.std.specs.Prelude.{Contains, if◌then◌else◌}
 use Rattle.std.specs.Option.{option_map_or}
 use Rattle.std.proofs.lemmas.Bool.{false≢true}
 use Rattle.std.proofs.lemmas.List.{append-nil}
@@ -28,14 +28,14 @@ use Rattle.flu_top.specs.Headline.{SimulationIsTheFold, ReplayIsTheFold, OneText
 use Rattle.flu_command.specs.Openings.{Opening, fresh, report_from}
 use Rattle.flu_command.specs.Reading.{lines_behind}
 use Rattle.flu_command.specs.Wants.{job_wanted, plan_named, save_named, resume_named, trace_named, reads_sources, Writes}
-use Rattle.flu_command.specs.Done.{HasValidPlan, MayHaveJob, IsGood, IsDone, WhereKnown, IsReadName}
+use Rattle.flu_command.specs.Done.{HasValidPlan, MayHaveJob, IsGood, IsDone, IsReadName}
 use Rattle.flu_command.specs.Replaying.{HasCompleteTrace}
 use Rattle.flu_top.specs.Outcome.{Outside, Outcome, Faults, NothingFailed, Completes}
 use Rattle.flu_lines.specs.declared.statuses.Status.TheVariants as statuses
 use Rattle.flu_command.specs.Calling as calls
 use Rattle.flu_command.specs.OneText.{TextsHaveOneJob, JobsHaveOneReport}
 use Rattle.flu_top.proofs.Completeness.{known_at}
-use Rattle.flu_top.proofs.OneCommand.{same_command, not_named}
+use Rattle.flu_top.proofs.OneCommand.{not_named}
 use Rattle.flu_top.proofs.Sequence.{none_among, can_start}
 use Rattle.flu_top.proofs.Statuses.{ended_at}
 

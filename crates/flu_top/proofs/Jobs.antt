@@ -62,7 +62,8 @@ has_job_fault job bytes fault a b other whole is = record {
   first = told_weaker (TookWhole job 1048576 bytes) (λ left _. job_in (bytes_left left job) ≡ Err fault) a b (λ x y w. job_of_whole job bytes x y w ∙ is) whole;
 }
 
-pub job_is_refused : (job : List ℕ) (text : Vec ℕ Global) (fault : JobFault) (a b : Option Contents) (before now : List ℕ → ℕ) → WhereTold a b (TookWhole job 1048576 text.items)
+pub job_is_refused : (job : List ℕ) (text : Vec ℕ Global) (fault : JobFault) (a b : Option Contents) (before now : List ℕ → ℕ)
+    → WhereTold a b (TookWhole job 1048576 text.items)
     → Fails fault (job_in text.items) → IsJobRefusal job a b before now (refusal_of_job fault text)
 job_is_refused job text (f.BadUtf8 at) a b before now whole is = has_job_fault job text.items (f.BadUtf8 at) a b (λ e. cc) whole is
 job_is_refused job text (f.BadToken at) a b before now whole is = has_job_fault job text.items (f.BadToken at) a b (λ e. cc) whole is

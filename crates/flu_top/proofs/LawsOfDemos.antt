@@ -11,15 +11,15 @@ use Rattle.flu_lines.specs.declared.refusals.PlanDefect.TheVariants as defects
 use Rattle.flu_lines.specs.declared.refusals.SaveDefect.{SaveDefect}
 use Rattle.flu_lines.specs.declared.refusals.SaveDefect.TheVariants as saves
 use Rattle.flu_command.specs.Behind.{Named, Fixed}
-use Rattle.flu_command.specs.Causes.{HasJobFault, HasConflict, HasPlanDefect, HasSaveDefect, HasSourceFault, HasTraceFault}
+use Rattle.flu_command.specs.Causes.{HasPlanDefect, HasSaveDefect}
 use Rattle.flu_command.specs.Demos.{demo_job}
-use Rattle.flu_command.specs.Done.{IsDone, WhereKnown, WroteForPut, IsReadName}
+use Rattle.flu_command.specs.Done.{IsReadName}
 use Rattle.flu_top.specs.Laws.{DemoReadsNothing, DemoStatuses, DemoIsDone}
 use Rattle.flu_lines.specs.declared.statuses.Status.{Status}
 use Rattle.flu_lines.specs.declared.statuses.Status.TheVariants as statuses
 use Rattle.flu_lines.specs.Statuses.{code}
 use Rattle.flu_top.specs.Outcome.{Outside, Ended}
-use Rattle.flu_command.specs.Wants.{job_wanted, save_named, resume_named}
+use Rattle.flu_command.specs.Wants.{save_named, resume_named}
 use Rattle.flu_top.proofs.OneCommand.{same_command, not_named}
 use Rattle.flu_top.proofs.Statuses.{ended_with, ended_at}
 

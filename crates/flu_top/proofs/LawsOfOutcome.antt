@@ -2,7 +2,6 @@
 use Rattle.std.proofs.Common.{refl, ℕ, List, ◌⊎◌, inl, inr}
 use Rattle.flu_lemmas.proofs.Told.{told_weaker}
 use Rattle.flu_outside.specs.Taking.{TookFronts}
-use Rattle.flu_lines.specs.declared.statuses.Status.{Status}
 use Rattle.flu_lines.specs.declared.statuses.Status.TheVariants as statuses
 use Rattle.flu_command.specs.Taking.{TookOnly, TookFrontsBut}
 use Rattle.flu_command.specs.Done.{IsReadBy, IsSavedBy, MayBePut}

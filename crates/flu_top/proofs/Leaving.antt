@@ -1,5 +1,5 @@
 -- What a run leaves under the name that it saves to, and what one writes that is resumed.
-use Rattle.std.proofs.Common.{◌≡◌, ◌⊎◌, refl, sym, ap, ◌∙◌, subst, ℕ, ◌≤◌, ◌<◌, List, [], ◌∷◌, ◌++◌, take, Option, Some, None, Ok, inl, inr, append_assoc, append-nil, arith}
+use Rattle.std.proofs.Common.{◌≡◌, ◌⊎◌, refl, sym, ap, ◌∙◌, subst, ℕ, ◌≤◌, ◌<◌, List, [], ◌∷◌, ◌++◌, take, Option, Some, None, inl, inr, append_assoc, append-nil, arith}
 use Rattle.flu_lemmas.proofs.Told.{told_weaker}
 use Rattle.flu_outside.specs.Outside.{WhereTold, Contents}
 use Rattle.flu_outside.specs.Taking.{bytes_left}
@@ -7,20 +7,20 @@ use Rattle.flu_outside.specs.Writing.{AppendsAll}
 use Rattle.flu_model.specs.declared.jobs.Program.{Program}
 use Rattle.flu_save.specs.Laws.{LawOfOneMeaning}
 use Rattle.flu_streams.specs.declared.faults.SourceFault.{SourceFault}
-use Rattle.flu_words.specs.Words.{Command, Run, RunOptions, command_in}
+use Rattle.flu_words.specs.Words.{Command, Run, RunOptions}
 use Rattle.flu_command.specs.Behind.{Named, HasJob, emptied_each}
-use Rattle.flu_command.specs.Openings.{Opening, Opens, OpensAt, report_from, state_from}
+use Rattle.flu_command.specs.Openings.{Opening, Opens, OpensAt, report_from}
 use Rattle.flu_command.specs.Starting.{StartsFrom, CanStart, IsAsBefore, Leaves, LeavesPut}
-use Rattle.flu_command.specs.Wants.{if_named, job_wanted, how_read, texts_named}
-use Rattle.flu_command.specs.Reading.{InRounds, HaveWritten, MeetsDefect, ReportsNext, greatest_border, lines_behind}
-use Rattle.flu_command.specs.Done.{HasPlanAsked, IsDone, WhereKnown, AppendsInto, Wrote}
-use Rattle.flu_command.specs.Done.{WroteNone, WroteRounds, WroteSome, WroteUnsaved, WroteForMemory, WroteIntoRound, WrotePart}
+use Rattle.flu_command.specs.Wants.{if_named, texts_named}
+use Rattle.flu_command.specs.Reading.{InRounds, HaveWritten, ReportsNext, lines_behind}
+use Rattle.flu_command.specs.Done.{HasPlanAsked, IsDone, AppendsInto}
+use Rattle.flu_command.specs.Done.{WroteNone, WroteRounds, WroteSome, WroteUnsaved, WroteForMemory, WroteIntoRound}
 use Rattle.flu_command.specs.Causes.{HasSourceFault, IsMetInRounds}
 use Rattle.flu_lines.specs.declared.statuses.Status.{Status}
 use Rattle.flu_lines.specs.declared.statuses.Status.TheVariants as statuses
 use Rattle.flu_lines.specs.Statuses.{code}
 use Rattle.flu_top.specs.Outcome.{Outside, Ended}
-use Rattle.flu_top.specs.Resuming.{BeginsWith, HasPut, Behind, AtTheEnd, HasLeft, MayHaveSaved, RunsLeaveCheckpoints, ResumedRunsWriteTheRest}
+use Rattle.flu_top.specs.Resuming.{BeginsWith, Behind, AtTheEnd, HasLeft, MayHaveSaved, RunsLeaveCheckpoints, ResumedRunsWriteTheRest}
 use Rattle.flu_top.proofs.Statuses.{ended_with, ended_at}
 
 -- ---- openings

@@ -20,11 +20,11 @@ use Rattle.flu_words.specs.Words.{Command, Run, RunOptions, command_in}
 use Rattle.flu_command.specs.Behind.{Named, HasJob, emptied_each, lists_behind, report_behind}
 use Rattle.flu_command.specs.Openings.{Opening, report_from}
 use Rattle.flu_command.specs.Starting.{StartsFrom, CanStart, Leaves, LeavesAnything}
-use Rattle.flu_command.specs.Wants.{job_wanted, if_named, how_read, texts_named}
+use Rattle.flu_command.specs.Wants.{if_named, texts_named}
 use Rattle.flu_top.specs.Mended.{RunsWriteFrontsOfMended}
 use Rattle.flu_command.specs.Reading.{InRounds, HasDefect, HaveWritten, ReportsNext, lines_behind}
-use Rattle.flu_command.specs.Done.{HasPlanAsked, IsGood, IsDone, WhereKnown, AppendsInto, Wrote}
-use Rattle.flu_command.specs.Done.{WroteRounds, WroteSome, WroteUnsaved, WroteForMemory, WroteForPut, WroteIntoRound, WrotePart}
+use Rattle.flu_command.specs.Done.{HasPlanAsked, IsGood, IsDone, AppendsInto}
+use Rattle.flu_command.specs.Done.{WroteRounds, WroteSome, WroteUnsaved, WroteForMemory, WroteIntoRound}
 use Rattle.flu_command.specs.Causes.{HasSourceFault, IsMetInRounds}
 use Rattle.flu_lines.specs.declared.statuses.Status.{Status}
 use Rattle.flu_lines.specs.declared.statuses.Status.TheVariants as statuses

@@ -2,7 +2,6 @@
 use Rattle.std.proofs.Common.{◌≡◌, ◌⊎◌, refl, sym, ap, ◌∙◌, subst, ℕ, List, [], ◌∷◌, Option, Some, Ok, inl, inr}
 use Rattle.std.specs.Prelude.{unwrap_or}
 use Rattle.flu_lemmas.proofs.Told.{of_told, told_weaker}
-use Rattle.flu_grammar.specs.Laws.{JobsAreGrammar, NormalFormIsShort, NormalFormIsUtf8}
 use Rattle.flu_outside.specs.Outside.{WhereTold, Contents}
 use Rattle.flu_outside.specs.Taking.{bytes_left}
 use Rattle.flu_model.specs.declared.jobs.Program.{Program}

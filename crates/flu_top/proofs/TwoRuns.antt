@@ -62,7 +62,8 @@ first_left meaning words words' old new old' status outcome may runs =
     ⊎ HasLeft (Run runs.job runs.plan runs.options) runs.file old.out new.out x y) runs.left runs.now old.left new.left runs.told_left runs.told_now
     (runs_leave meaning words old new status outcome may runs.job runs.plan runs.options runs.file runs.first runs.saves)
 
-module _ (rests : CheckpointsOpenTheRest) (decide : SourcesDecide) (one_job : TextsHaveOneJob) (one_rest : JobsHaveOneRest) (meaning : LawOfOneMeaning) (saves : SavesAreOfJobs) where
+module _ (rests : CheckpointsOpenTheRest) (decide : SourcesDecide) (one_job : TextsHaveOneJob) (one_rest : JobsHaveOneRest)
+    (meaning : LawOfOneMeaning) (saves : SavesAreOfJobs) where
   both_wrote : (job job' : List ℕ) (plan plan' : Option (List ℕ)) (options options' : RunOptions) (file file' : List ℕ)
       (had has had' has' : Option (List ℕ)) (left now left' : Contents)
       → bytes_left (emptied_each (job' ∷ if_named plan') left') file' ≡ bytes_left now file

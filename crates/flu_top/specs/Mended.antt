@@ -1,16 +1,11 @@
 -- Sources whose defects are mended: what a run writes before it meets a defect, whatever is in place of it.
-use Rattle.std.specs.Prelude.{◌≡◌, ℕ, List, ◌++◌, Option, Some, None, Ok}
-use Rattle.flu_lemmas.specs.Elements.{AtEach}
+use Rattle.std.specs.Prelude.{◌≡◌, ℕ, List, ◌++◌, Option, Some, Ok}
 use Rattle.flu_outside.specs.Outside.{Contents, WhereTold, Appends}
-use Rattle.flu_model.specs.declared.jobs.Kind.{Kind}
-use Rattle.flu_model.specs.declared.jobs.Source.{Source}
 use Rattle.flu_model.specs.declared.jobs.Program.{Program}
 use Rattle.flu_model.specs.Folding.{final_outputs}
 use Rattle.flu_model.specs.Reports.{report}
-use Rattle.flu_rows.specs.declared.rows.Next.{Next}
 use Rattle.flu_streams.specs.Good.{lists_of}
-use Rattle.flu_streams.specs.Rounds.{defect_in}
-use Rattle.flu_rounds.specs.Written.{AreSound, lines_in, lists_above}
+use Rattle.flu_rounds.specs.Written.{lists_above}
 use Rattle.flu_words.specs.Words.{Run, RunOptions, command_in}
 use Rattle.flu_command.specs.Mending.{AreMended}
 use Rattle.flu_command.specs.Behind.{Named, HasJob, emptied_each}

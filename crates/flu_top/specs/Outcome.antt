@@ -1,10 +1,8 @@
 -- THE OUTCOME of a call of `flumina`: what its status says about the words, about what the files held and hold, and about what out and
 -- err got.
-use Rattle.std.specs.Prelude.{◌≡◌, ◌≢◌, ℕ, List, Option, Some, Ok, Err, IsTrue, ◌⊎◌}
+use Rattle.std.specs.Prelude.{◌≡◌, ◌≢◌, ℕ, List, Option, Some, Ok, Err, ◌⊎◌}
 use Rattle.flu_outside.specs.Outside.{Contents, WhereTold, Rose, SameCounts}
-use Rattle.flu_outside.specs.Taking.{bytes_left}
 use Rattle.flu_model.specs.declared.jobs.Program.{Program}
-use Rattle.flu_model.specs.Modes.{IsAccepted}
 use Rattle.flu_parse.specs.declared.faults.JobFault.{JobFault}
 use Rattle.flu_check.specs.declared.CheckFault.{CheckFault}
 use Rattle.flu_streams.specs.declared.faults.SourceFault.{SourceFault}
@@ -14,17 +12,11 @@ use Rattle.flu_lines.specs.Statuses.{code}
 use Rattle.flu_lines.specs.declared.refusals.PlanDefect.{PlanDefect}
 use Rattle.flu_lines.specs.declared.refusals.SaveDefect.{SaveDefect}
 use Rattle.flu_trace.specs.declared.faults.ReplayFault.{ReplayFault}
-use Rattle.flu_trace.specs.Replaying.{Ending, Complete}
 use Rattle.flu_words.specs.Words.{Command, command_in}
 pub use Rattle.flu_command.specs.Outside.{Outside, outside, Faults, faults}
 use Rattle.flu_command.specs.Taking.{TookOnly, TookFrontsBut}
-use Rattle.flu_command.specs.Behind.{Named, HasJob}
-use Rattle.flu_command.specs.Reading.{HasDefect}
-use Rattle.flu_command.specs.TextFaults.{IsFirstJobFault}
-use Rattle.flu_command.specs.Wants.{Saying, Nothing, Line, want, save_named, texts_named}
-use Rattle.flu_command.specs.Starting.{CanStart}
-use Rattle.flu_command.specs.Replaying.{ReplaysTo, HasCompleteTrace}
-use Rattle.flu_command.specs.Done.{HasValidPlan, HasPlanAsked, IsGood, IsDone, WhereKnown, Wrote, WroteSome, WroteForMemory, WroteForPut, WrotePart, IsReadName}
+use Rattle.flu_command.specs.Wants.{Saying, Nothing, Line, want, save_named}
+use Rattle.flu_command.specs.Done.{IsDone, WhereKnown, Wrote, WroteSome, WroteForMemory, WroteForPut, WrotePart, IsReadName}
 use Rattle.flu_command.specs.Done.{IsReadBy, IsSavedBy, MayBePut}
 use Rattle.flu_command.specs.Causes.{HasJobFault, HasConflict, HasPlanDefect, HasSaveDefect, HasSourceFault, HasTraceFault}
 use Rattle.flu_command.specs.ReadFaults.{HasReadFault}

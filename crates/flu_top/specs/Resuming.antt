@@ -1,24 +1,18 @@
 -- Runs that are resumed: what a checkpoint that a run has put opens, and what runs write together, each of which continues from the
 -- checkpoint of the one before it.
-use Rattle.std.specs.Prelude.{◌≡◌, ◌⊎◌, ◌≤◌, ℕ, List, [], ◌∷◌, ◌++◌, Option, Some, Contains, Ok}
+use Rattle.std.specs.Prelude.{◌≡◌, ◌⊎◌, ◌≤◌, ℕ, List, [], ◌∷◌, ◌++◌, Option, Some, Ok}
 use Rattle.flu_outside.specs.Outside.{Contents, WhereTold}
 use Rattle.flu_outside.specs.Taking.{bytes_left}
 use Rattle.flu_outside.specs.Writing.{AppendsAll}
 use Rattle.flu_model.specs.declared.jobs.Program.{Program}
-use Rattle.flu_model.specs.Erasure.{job_of}
-use Rattle.flu_grammar.specs.Jobs.{IsJobText}
 use Rattle.flu_rounds.specs.Written.{AreSound}
-use Rattle.flu_save.specs.declared.fault.SaveFault.{SaveFault}
-use Rattle.flu_save.specs.declared.fault.SaveFault.TheVariants.{NoMemory}
 use Rattle.flu_save.specs.Checkpoint.{save}
-use Rattle.flu_save.specs.Forms.{IsFaultOf}
-use Rattle.flu_streams.specs.Files.{files_of}
 use Rattle.flu_words.specs.Words.{Command, Run, RunOptions, command_in}
-use Rattle.flu_command.specs.Behind.{Named, HasJob, emptied_each, lists_behind}
-use Rattle.flu_command.specs.Openings.{Opening, OpensAt, fresh, report_from, state_from}
+use Rattle.flu_command.specs.Behind.{Named, HasJob, emptied_each}
+use Rattle.flu_command.specs.Openings.{Opening, OpensAt, report_from}
 use Rattle.flu_command.specs.Resting.{HasPut, AreSameSources}
 use Rattle.flu_top.specs.Outcome.{Outside, Outcome}
-use Rattle.flu_command.specs.Reading.{HaveWritten, greatest_border, lines_behind}
+use Rattle.flu_command.specs.Reading.{lines_behind}
 use Rattle.flu_command.specs.Starting.{IsAsBefore, IsSameName, StartsFrom}
 use Rattle.flu_command.specs.Wants.{if_named, job_wanted, texts_named}
 
