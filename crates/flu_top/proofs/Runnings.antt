@@ -1,13 +1,15 @@
 -- What a run has read before its rounds, what refuses it there, and how its rounds end its command.
 use Rattle.std.proofs.Common.{◌≡◌, refl, sym, ap, ◌∙◌, subst, ℕ, Bool, true, false, ◌≤◌, List, [], ◌∷◌, ◌++◌, Option, Some, None, Result, Ok, Err, inl, inr}
 use Rattle.std.proofs.Common.{◌⊎◌, arith, append_assoc}
-use Rattle.std.specs.Prelude.{Contains, IfErr, IfSome}
+use Rattle.std.specs.Prelude.{Contains, option_map, slice_get, IfErr, IfSome}
+use Rattle.std.proofs.lemmas.Option.{slice_get-map, slice_get_within, get_or_from_slice_get}
 use Rattle.std.proofs.lemmas.Result.{IfErr-weaker}
 use Rattle.std.proofs.lemmas.List.Elements.{Contains-append_cases, Contains-append_left, Contains-append_right}
 use Rattle.flu_outside.specs.declared.files.PutFault.{PutFault}
 use Rattle.flu_outside.specs.Outside.{WhereTold, Contents, SameCounts, Rose}
 use Rattle.flu_outside.specs.Taking.{TakesFrom, TookFronts, TookAtMost, bytes_left}
 use Rattle.flu_model.specs.declared.jobs.Program.{Program}
+use Rattle.flu_model.specs.declared.jobs.Source.{Source}
 use Rattle.flu_model.specs.Folding.{final_state, final_outputs}
 use Rattle.flu_model.specs.Reports.{report}
 use Rattle.flu_lemmas.proofs.Containing.{contains_here, contains_later, one_contains}
