@@ -11,7 +11,7 @@ use Rattle.flu_streams.specs.declared.border.Border.{Border}
 use Rattle.flu_streams.specs.declared.border.Border.TheVariants.{At, Closed}
 use Rattle.flu_streams.specs.Rounds.{Turn, Open, Shut, Meets, StopsAt, Reads, IsWithin, IsRoundAt, IsRound, ComesFrom, Starts, GoesOn, defect_in}
 use Rattle.flu_rounds.specs.Written.{RanFrom, WouldWriteFrom}
-use Rattle.flu_command.specs.Mending.{IsMended}
+use Rattle.flu_command.specs.Mending.{IsMended, MendedRoundsGoOn}
 
 -- ---- one source
 -- where it stopped behind enough rows, or behind all, it stops there of the mended lines
@@ -80,7 +80,7 @@ module _ (p : Program) (rows : ℕ) (whole mended : ℕ → List Next) (mends : 
       GoesOn done' above' before' now t (rounds_of_mended start done' above' before' came) (round_at above' before' now t was)
 
   -- what was run of the lines was run of the mended ones
-  abbrev pub ran_of_mended : (border : Option ℕ) (opening : State) (above : Option ℕ) (text : List ℕ) → RanFrom p rows border opening whole above text
+  abbrev ran_of_mended : (border : Option ℕ) (opening : State) (above : Option ℕ) (text : List ℕ) → RanFrom p rows border opening whole above text
       → RanFrom p rows border opening mended above text
   ran_of_mended border opening above text ran = record {
     done = ran.done;
@@ -90,6 +90,12 @@ module _ (p : Program) (rows : ℕ) (whole mended : ℕ → List Next) (mends : 
   }
 
   -- and so it is with a round more
-  pub next_of_mended : (border : Option ℕ) (opening : State) (above : Option ℕ) (before now : ℕ → List Next) (end : Border) (text : List ℕ)
+  next_of_mended : (border : Option ℕ) (opening : State) (above : Option ℕ) (before now : ℕ → List Next) (end : Border) (text : List ℕ)
       → WouldWriteFrom p rows border opening whole above before now end text → WouldWriteFrom p rows border opening mended above before now end text
   next_of_mended border opening above before now end text would = record { round = round_of_mended above before now end would.round; text = would.text }
+
+pub goes_on_mended : MendedRoundsGoOn
+goes_on_mended p rows whole mended mends border opening above text ran = (
+  ran_of_mended p rows whole mended mends border opening above text ran,
+  λ now end more would. next_of_mended p rows whole mended mends border opening above ran.before now end more would,
+)

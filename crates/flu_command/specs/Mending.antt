@@ -21,15 +21,12 @@ pub record AreMended (p : Program) (left mended : Contents) : Type 0 where
   pub each : AtEach (λ i s. IsMended p.kinds s (lines_in p left i) (lines_in p mended i)) p.sources
   pub sound : AreSound p (lines_in p mended)
 
--- LAW OF MENDED SOURCES: what rounds wrote over sources, rounds over the mended ones write too; and so it is with a round more
-abbrev pub MendedRoundsWriteTheSame : Type 0
-MendedRoundsWriteTheSame =
-    (p : Program) (rows : ℕ) (whole mended : ℕ → List Next) → AtEach (λ i s. IsMended p.kinds s (whole i) (mended i)) p.sources
-    → (border : Option ℕ) (opening : State) (above : Option ℕ) (text : List ℕ)
-    → RanFrom p rows border opening whole above text → RanFrom p rows border opening mended above text
-
+-- LAW OF MENDED SOURCES: the rounds that ran over sources ran over the mended ones too, with the same text; and so is it with a round more
+-- after them
 abbrev pub MendedRoundsGoOn : Type 0
 MendedRoundsGoOn =
     (p : Program) (rows : ℕ) (whole mended : ℕ → List Next) → AtEach (λ i s. IsMended p.kinds s (whole i) (mended i)) p.sources
-    → (border : Option ℕ) (opening : State) (above : Option ℕ) (before now : ℕ → List Next) (end : Border) (text : List ℕ)
-    → WouldWriteFrom p rows border opening whole above before now end text → WouldWriteFrom p rows border opening mended above before now end text
+    → (border : Option ℕ) (opening : State) (above : Option ℕ) (text : List ℕ) → (ran : RanFrom p rows border opening whole above text)
+    → (its : RanFrom p rows border opening mended above text)
+    × ((now : ℕ → List Next) (end : Border) (more : List ℕ) → WouldWriteFrom p rows border opening whole above ran.before now end more
+    → WouldWriteFrom p rows border opening mended above its.before now end more)

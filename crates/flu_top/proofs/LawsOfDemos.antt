@@ -1,5 +1,6 @@
 -- The laws of demos: no file is read, and so no file refuses them.
-use Rattle.std.proofs.Common.{◌≡◌, refl, sym, ◌∙◌, subst, ℕ, List, Option, Some, None, ◌⊎◌, inl, inr, arith}
+use Rattle.std.proofs.Common.{◌≡◌, ◌≢◌, refl, sym, ◌∙◌, subst, ℕ, List, [], ◌∷◌, Option, Some, None, ◌⊎◌, inl, inr, arith}
+use Rattle.std.specs.Prelude.{Contains}
 use Rattle.flu_lemmas.proofs.Containing.{contains_none}
 use Rattle.std.proofs.lemmas.Bool.{false≢true}
 use Rattle.flu_outside.specs.Outside.{Contents, WhereTold}

@@ -15,12 +15,13 @@ use Rattle.flu_command.specs.Wants.{if_named, texts_named}
 use Rattle.flu_command.specs.Reading.{InRounds, HaveWritten, ReportsNext, lines_behind}
 use Rattle.flu_command.specs.Done.{HasPlanAsked, IsDone, AppendsInto}
 use Rattle.flu_command.specs.Done.{WroteNone, WroteRounds, WroteSome, WroteUnsaved, WroteForMemory, WroteIntoRound}
+use Rattle.flu_command.specs.Resting.{Behind, AtTheEnd}
 use Rattle.flu_command.specs.Causes.{HasSourceFault, IsMetInRounds}
 use Rattle.flu_lines.specs.declared.statuses.Status.{Status}
 use Rattle.flu_lines.specs.declared.statuses.Status.TheVariants as statuses
 use Rattle.flu_lines.specs.Statuses.{code}
 use Rattle.flu_top.specs.Outcome.{Outside, Ended}
-use Rattle.flu_top.specs.Resuming.{BeginsWith, Behind, AtTheEnd, HasLeft, MayHaveSaved, RunsLeaveCheckpoints, ResumedRunsWriteTheRest}
+use Rattle.flu_top.specs.Resuming.{BeginsWith, HasLeft, MayHaveSaved, RunsLeaveCheckpoints, ResumedRunsWriteTheRest}
 use Rattle.flu_top.proofs.Statuses.{ended_with, ended_at}
 
 -- ---- openings

@@ -9,7 +9,7 @@ use Rattle.flu_model.specs.declared.jobs.Program.{Program}
 use Rattle.flu_model.specs.Contents.{nothing_held, Contents as State}
 use Rattle.flu_model.specs.Folding.{final_outputs}
 use Rattle.flu_model.specs.Reports.{report}
-use Rattle.flu_command.specs.Mending.{AreMended, MendedRoundsWriteTheSame, MendedRoundsGoOn}
+use Rattle.flu_command.specs.Mending.{AreMended, MendedRoundsGoOn}
 use Rattle.flu_command.specs.OneText.{TextsHaveOneJob, JobsHaveGoodSources, JobsHaveMendedSources, GoodSourcesHaveNone, StartsHaveRows}
 use Rattle.flu_streams.specs.Borders.{LawOfBorders, ItemsAreCut, up_to, beyond}
 use Rattle.flu_streams.specs.declared.faults.SourceFault.{SourceFault}
@@ -77,7 +77,6 @@ pub record LawsOfMending : Type 0 where
   pub of_fronts : LawsOfFronts
   pub mended : JobsHaveMendedSources
   pub none : GoodSourcesHaveNone
-  pub ran : MendedRoundsWriteTheSame
   pub goes_on : MendedRoundsGoOn
 
 -- the report of mended sources, from an opening
@@ -270,17 +269,16 @@ module _ (laws : LawsOfMending) (job : List ℕ) (plan : Option (List ℕ)) (opt
   mended_front q o border text has some ran =
       let its = mended_of q has in
       laws.of_fronts.fronts o.border o.cells q o.rows mended border text some its.sound
-      (laws.ran q o.rows (lines_behind (texts_named (Run job plan options)) left q) (lines_in q mended) its.each o.border o.cells border text ran)
+      (laws.goes_on q o.rows (lines_behind (texts_named (Run job plan options)) left q) (lines_in q mended) its.each o.border o.cells border text ran).0
 
   mended_next : (q : Program) (o : Opening) (text more : List ℕ) (put : Option (List ℕ)) → HasJob (Named job) left q → 1 ≤ o.rows
       → ReportsNext q o (lines_behind (texts_named (Run job plan options)) left q) text put more → BeginsWith (mended_report mended q o) (text ++ more)
   mended_next q o text more put has some round =
       let its = mended_of q has in
       let whole = lines_behind (texts_named (Run job plan options)) left q in
-      laws.of_fronts.nexts o.border o.cells q o.rows mended round.border text (text ++ more) round.now round.end some its.sound
-      (laws.ran q o.rows whole (lines_in q mended) its.each o.border o.cells round.border text round.ran)
-      (laws.goes_on q o.rows whole (lines_in q mended) its.each o.border o.cells round.border round.ran.before round.now round.end (text ++ more)
-      round.next)
+      let also = laws.goes_on q o.rows whole (lines_in q mended) its.each o.border o.cells round.border text round.ran in
+      laws.of_fronts.nexts o.border o.cells q o.rows mended round.border text (text ++ more) round.now round.end some its.sound also.0
+      (also.1 round.now round.end (text ++ more) round.next)
 
   -- it is not done
   not_done : (q : Program) (o : Opening) → IsGood (Run job plan options) left q

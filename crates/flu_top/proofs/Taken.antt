@@ -49,7 +49,7 @@ refused_at words command old new status outcome is word =
     let found = ended_at words old new status outcome statuses.SaveDefect is command word in by_defect command old.left new.left found.0 found.1
 
 -- ---- no fault does
-module _ (open : CheckpointsOpen) (one_job : TextsHaveOneJob) (meaning : LawOfOneMeaning)
+module _ (checkpoints : CheckpointsOpen) (one_job : TextsHaveOneJob) (meaning : LawOfOneMeaning)
     (of_jobs : SavesAreOfJobs) (faults : LawOfFaults) where
   no_fault : (words words' : List (List ℕ)) (old new old' : Outside) (runs : AreInTurn words words' old new old')
       → HasLeft (Run runs.job runs.plan runs.options) runs.file old.out new.out runs.left runs.now
@@ -60,7 +60,7 @@ module _ (open : CheckpointsOpen) (one_job : TextsHaveOneJob) (meaning : LawOfOn
       let fault = refused.2.0 in
       let bad = refused.2.1 in
       let same : IsSameJob p q = one_job (Named runs.later_job) runs.later_left p q (runs.one_job p stays.job) refused.1 in
-      let opens = (open p (bytes_left runs.left runs.job) stays.opening (texts_named (Run runs.job runs.plan runs.options))
+      let opens = (checkpoints p (bytes_left runs.left runs.job) stays.opening (texts_named (Run runs.job runs.plan runs.options))
       runs.left stays.text stays.checkpoint stays.job (runs.sound p stays.job)
       (is_opening runs.options.rows runs.options.resume (runs.job ∷ if_named runs.plan) runs.left p stays.opening stays.starts.opens) stays.put).0 in
       let opens_later = opens_same of_jobs p q same stays.checkpoint opens.0 opens.1 in

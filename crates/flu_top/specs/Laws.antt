@@ -36,7 +36,8 @@ use Rattle.flu_command.specs.Simulating.{IsLineOfRun, IsStepLine}
 use Rattle.flu_command.specs.Demos.{demo_job, demo_summary}
 use Rattle.flu_lines.specs.Lines.{bad_words_line, job_fault_line, conflict_line, plan_defect_line, source_fault_line, read_fault_line, write_fault_line}
 use Rattle.flu_lines.specs.Lines.{no_memory_line, save_defect_line, put_fault_line, trace_fault_line}
-use Rattle.flu_top.specs.Outcome.{Outside, Said, Hears, Outcome, ReadOnly, Faults, FaultsFirst, HasFaultyTrace, NothingFailed, Completes}
+use Rattle.flu_top.specs.Outcome.{Outside, Said, Hears, Outcome, ReadOnly, Faults, FaultsFirst, NothingFailed, Completes}
+use Rattle.flu_command.specs.Calling.{HasFaultyTrace}
 
 -- ---- the statuses
 -- the status is one of these

@@ -13,7 +13,7 @@ ghost use Rattle.flu_top.specs.Mended.{RunsWriteFrontsOfMended};
 ghost use Rattle.flu_top.specs.Unread.{BadPlansReadNoMore};
 
 use flu_command::calling::{files_call_for_one_status, what_ends_a_command_is_called_for};
-use flu_command::mending::mended_rounds_write_the_same;
+use flu_command::mending::mended_rounds_go_on;
 use flu_command::one_text::{
     good_sources_have_no_defect, plans_fit_each, programs_of_a_job_agree, starts_have_rows,
     texts_have_one_job,
@@ -105,7 +105,7 @@ pub fn of_mended_runs()
 {
     fronts_of_reports();
     good_sources_have_no_defect();
-    mended_rounds_write_the_same();
+    mended_rounds_go_on();
     programs_of_a_job_agree();
     starts_have_rows();
     texts_have_one_job();

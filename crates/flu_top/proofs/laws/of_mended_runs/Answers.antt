@@ -14,6 +14,5 @@ returns c =
       of_fronts = of_fronts;
       mended = c.programs_of_a_job_agree.ensures.mended;
       none = c.good_sources_have_no_defect.ensures;
-      ran = c.mended_rounds_write_the_same.ensures.ran;
-      goes_on = c.mended_rounds_write_the_same.ensures.next;
+      goes_on = c.mended_rounds_go_on.ensures;
     })
