@@ -13,8 +13,8 @@ use Rattle.flu_lines.specs.declared.refusals.PlanDefect.{PlanDefect}
 use Rattle.flu_lines.specs.declared.refusals.SaveDefect.{SaveDefect}
 use Rattle.flu_trace.specs.declared.faults.ReplayFault.{ReplayFault}
 use Rattle.flu_words.specs.Words.{Command, command_in}
-pub use Rattle.flu_command.specs.Calling.{CallsFor}
-use Rattle.flu_command.specs.Outside.{Outside, outside, Faults, faults}
+use Rattle.flu_command.specs.Calling.{CallsFor}
+pub use Rattle.flu_command.specs.Outside.{Outside, outside, Faults, faults}
 use Rattle.flu_command.specs.Taking.{TookOnly, TookFrontsBut}
 use Rattle.flu_command.specs.Wants.{Saying, Nothing, Line, want, save_named}
 use Rattle.flu_command.specs.Done.{IsDone, WhereKnown, Wrote, WroteSome, WroteForMemory, WroteForPut, WrotePart, IsReadName}
