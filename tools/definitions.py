@@ -10,7 +10,7 @@ proof is among them. Those of a law are those that its statement cites, in the s
 the clauses of `flumina` that it takes as its premises do not, since the call has them. The types of the code that they speak of are declared
 in `src/`, and those files are counted apart. Lines are counted without empty ones, comments and imports. The last lines say how many files of
 the contract only the first faults of texts, the runs of `simulate` and `replay` on the net and the demo need: what is not cited any more where
-`TextFaults.antt`, `Simulating.antt` with those of replays, or `Demos.antt` of `flu_top/specs` is left out.
+`TextFaults.antt`, `Simulating.antt` with those of replays, or `Demos.antt` of `flu_command/specs` is left out.
 """
 import re
 import sys
@@ -20,17 +20,18 @@ CRATES = Path(__file__).resolve().parent.parent / "crates"
 TRUST = CRATES.parent / "docs" / "TRUST.md"
 CALL = CRATES / "flu_top" / "src" / "top.rt"
 SPECS = CRATES / "flu_top" / "specs"
+COMMAND = CRATES / "flu_command" / "specs"
 HEADLINE = SPECS / "Headline.antt"
 BEGIN = "<!-- written by tools/definitions.py --write -->"
 END = "<!-- end of what tools/definitions.py writes -->"
 PARTS = {
-    "the first faults of texts": {SPECS / "TextFaults.antt"},
+    "the first faults of texts": {COMMAND / "TextFaults.antt"},
     "the runs of `simulate` and `replay` on the net": {
-        SPECS / "Simulating.antt",
-        SPECS / "Replaying.antt",
+        COMMAND / "Simulating.antt",
+        COMMAND / "Replaying.antt",
         CRATES / "flu_trace" / "specs" / "Replaying.antt",
     },
-    "`demo`": {SPECS / "Demos.antt"},
+    "`demo`": {COMMAND / "Demos.antt"},
 }
 NAMES = re.compile(r"^\s*(?:ghost |pub )*use Rattle\.([\w.]+)\.\{([^}]*)\}", re.M)
 WHOLE = re.compile(r"^\s*(?:ghost |pub )*use Rattle\.([\w.]+)(?: as (\w+))?;?$", re.M)

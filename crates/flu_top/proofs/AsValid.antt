@@ -8,18 +8,18 @@ use Rattle.flu_model.specs.declared.jobs.Program.{Program}
 use Rattle.flu_deps.specs.Checking.{program_of}
 use Rattle.flu_lemmas.proofs.Told.{told_weaker}
 use Rattle.flu_words.specs.Words.{Command, RunOptions, Valid, Run, Simulate, Replay}
-use Rattle.flu_top.specs.declared.refusals.PlanDefect.TheVariants as defects
-use Rattle.flu_top.specs.declared.refusals.SaveDefect.TheVariants as saves
-use Rattle.flu_top.specs.declared.refusals.Refusal.{Refusal}
-use Rattle.flu_top.specs.declared.refusals.Refusal.TheVariants as refusals
-use Rattle.flu_top.specs.Taking.{TookOnly}
-use Rattle.flu_top.specs.Behind.{WantedJob, Named, HasJob, HasPlan, emptied_each, job_files, plan_behind}
-use Rattle.flu_top.specs.TextFaults.{IsFirstTextFault}
-use Rattle.flu_top.specs.Wants.{job_wanted, plan_named, asks_accepted, resume_named, if_named, texts_named}
-use Rattle.flu_top.specs.Done.{HasValidPlan, MayHaveJob, IsPlanName, IsReadName}
-use Rattle.flu_top.specs.Causes.{HasJobFault}
-use Rattle.flu_top.specs.Ready.{AreTextsRead, IsReady}
-use Rattle.flu_top.specs.ReadFaults.{HasReadFault, InJob, InPlan, InCheckpoint, InSources, InRows, InTrace}
+use Rattle.flu_lines.specs.declared.refusals.PlanDefect.TheVariants as defects
+use Rattle.flu_lines.specs.declared.refusals.SaveDefect.TheVariants as saves
+use Rattle.flu_lines.specs.declared.refusals.Refusal.{Refusal}
+use Rattle.flu_lines.specs.declared.refusals.Refusal.TheVariants as refusals
+use Rattle.flu_command.specs.Taking.{TookOnly}
+use Rattle.flu_command.specs.Behind.{WantedJob, Named, HasJob, HasPlan, emptied_each, job_files, plan_behind}
+use Rattle.flu_command.specs.TextFaults.{IsFirstTextFault}
+use Rattle.flu_command.specs.Wants.{job_wanted, plan_named, asks_accepted, resume_named, if_named, texts_named}
+use Rattle.flu_command.specs.Done.{HasValidPlan, MayHaveJob, IsPlanName, IsReadName}
+use Rattle.flu_command.specs.Causes.{HasJobFault}
+use Rattle.flu_command.specs.Ready.{AreTextsRead, IsReady}
+use Rattle.flu_command.specs.ReadFaults.{HasReadFault, InJob, InPlan, InCheckpoint, InSources, InRows, InTrace}
 use Rattle.flu_top.specs.Refusing.{IsRefusal}
 use Rattle.flu_top.proofs.Sequence.{none_among}
 
@@ -103,11 +103,11 @@ fault_as_valid command job plan a c k m reads (InTrace name trace rose) = absurd
 pub refusal_as_valid : (command : Command) (job plan : List ℕ) (a c : Option Contents) (k m : List ℕ → ℕ) (refusal : Refusal) → ReadsPlan command job plan
     → IsRefusal (Valid job plan) a c k m refusal → IsRefusal command a c k m refusal
 refusal_as_valid command job plan a c k m (refusals.BadWords bad) reads is = is
-refusal_as_valid command job plan a c k m (refusals.JobFault fault) reads is =
+refusal_as_valid command job plan a c k m (refusals.JobFault fault text) reads is =
     subst (λ (wanted : WantedJob). HasJobFault wanted a c fault) (sym reads.its_job) is
 refusal_as_valid command job plan a c k m (refusals.Conflict fault) reads is =
     record { asked = reads.accepted; name = is.name; named = reads.its_job ∙ is.named; conflict = is.conflict; job = is.job }
-refusal_as_valid command job plan a c k m (refusals.PlanDefect (defects.Text fault)) reads is = record {
+refusal_as_valid command job plan a c k m (refusals.PlanDefect (defects.Text fault text)) reads is = record {
   plan = is.plan;
   program = is.program;
   asked = reads.its_plan ∙ is.asked;

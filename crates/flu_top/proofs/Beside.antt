@@ -34,14 +34,14 @@ use Rattle.flu_rounds.specs.Halves.{AppendsReport, AppendsPartOfReport, AreRun, 
 use Rattle.flu_rounds.specs.Standing.{Standing, IsSourceFault, StandsBehind}
 use Rattle.flu_rounds.specs.Written.{lines_in}
 use Rattle.flu_save.specs.Checkpoint.{save}
-use Rattle.flu_top.specs.declared.products.Said.{Said}
+use Rattle.flu_lines.specs.declared.products.Said.{Said}
 use Rattle.flu_top.specs.declared.running.RunFault.TheVariants.{Round}
 use Rattle.flu_top.specs.Ending.{Call, call}
-use Rattle.flu_top.specs.Openings.{Opening}
+use Rattle.flu_command.specs.Openings.{Opening}
 use Rattle.flu_top.specs.ReadingAhead.{HasBegun, IsFilled, StepsAhead, rounds_left}
 use Rattle.flu_top.specs.Running.{EndsRounds, GoesOn, IsSavedTo, IsWithin, PutsAt, SaysCounts, StaysWithin, Steps, border_at}
-use Rattle.flu_top.specs.Starting.{IsNoSource}
-use Rattle.flu_top.specs.Taking.{TookOnly}
+use Rattle.flu_command.specs.Starting.{IsNoSource}
+use Rattle.flu_command.specs.Taking.{TookOnly}
 use Rattle.flu_top.proofs.RunReports.{round_of_halves}
 use Rattle.flu_top.proofs.Roundings.{Laws, IsRun, IsHalted, ends_halted, failed_behind, goes_on, ran_some, steps_on, stays}
 

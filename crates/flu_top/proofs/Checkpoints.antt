@@ -17,11 +17,11 @@ use Rattle.flu_model.specs.Sorts.{IsStateOf}
 use Rattle.flu_model.specs.declared.jobs.Source.{Source}
 use Rattle.flu_streams.specs.Files.{files_of, LeavesOthers}
 use Rattle.flu_words.specs.Words.{RunOptions, Run}
-use Rattle.flu_top.specs.Starting.{IsFileOf, IsNoSource, IsSameName, Resumes}
+use Rattle.flu_command.specs.Starting.{IsFileOf, IsNoSource, IsSameName, Resumes}
 use Rattle.flu_save.specs.declared.fault.SaveFault.{SaveFault}
 use Rattle.flu_save.specs.declared.fault.SaveFault.TheVariants as f
 use Rattle.flu_save.specs.Forms.{IsFaultOf, IsSave, IsShort, most_bytes}
-use Rattle.flu_top.specs.Answer.{refusal_of_save}
+use Rattle.flu_lines.specs.Answer.{refusal_of_save}
 use Rattle.flu_top.specs.Running.{IsOpened, IsOpening, IsOpeningRefusal}
 use Rattle.flu_top.proofs.Sequence.{one_text}
 

@@ -4,13 +4,13 @@ use Rattle.std.specs.Prelude.{IsTrue}
 use Rattle.flu_outside.specs.Outside.{WhereTold, Contents}
 use Rattle.flu_model.specs.declared.jobs.Program.{Program}
 use Rattle.flu_lemmas.proofs.Told.{told_weaker}
-use Rattle.flu_top.specs.declared.refusals.Refusal.{Refusal}
-use Rattle.flu_top.specs.declared.refusals.Refusal.TheVariants as refusals
+use Rattle.flu_lines.specs.declared.refusals.Refusal.{Refusal}
+use Rattle.flu_lines.specs.declared.refusals.Refusal.TheVariants as refusals
 use Rattle.flu_words.specs.Words.{Command, Check}
-use Rattle.flu_top.specs.Behind.{Named}
-use Rattle.flu_top.specs.Wants.{job_wanted, asks_accepted}
-use Rattle.flu_top.specs.Done.{IsWritten}
-use Rattle.flu_top.specs.Causes.{IsJobRead}
+use Rattle.flu_command.specs.Behind.{Named}
+use Rattle.flu_command.specs.Wants.{job_wanted, asks_accepted}
+use Rattle.flu_command.specs.Done.{IsWritten}
+use Rattle.flu_command.specs.Causes.{IsJobRead}
 use Rattle.flu_top.specs.Checking.{IsChecked, IsCheckRefusal}
 use Rattle.flu_top.specs.Refusing.{IsRefusal}
 use Rattle.flu_top.proofs.Sequence.{only_one, can_start, has_saved}
@@ -41,7 +41,7 @@ pub check_refusal : (command : Command) (job : List ℕ) (p : Program) (a b : Op
     → job_wanted command ≡ Named job → IsTrue (asks_accepted command) → WhereTold a b (IsJobRead job p) → IsCheckRefusal p refusal
     → IsRefusal command a b before now refusal
 check_refusal command job p a b before now (refusals.BadWords bad) named asked read is = is
-check_refusal command job p a b before now (refusals.JobFault fault) named asked read is = absurd is
+check_refusal command job p a b before now (refusals.JobFault fault text) named asked read is = absurd is
 check_refusal command job p a b before now (refusals.Conflict fault) named asked read is = record {
   asked = asked;
   name = job;

@@ -1,357 +1,74 @@
--- Where nothing failed, a call's status is the one that the command, its job's text, its plan and its sources call for, or that of want of memory.
-use Rattle.std.proofs.Common.{◌≡◌, ◌≢◌, arith, sym, ap, ◌∙◌, refl, subst, ℕ, Option, Some, Ok, Err, inl, inr, ◌⊎◌}
-use Rattle.std.specs.Prelude.{List, IsTrue}
+-- Where nothing failed, a call's status is the one that the command and its files call for, or that of want of memory.
+use Rattle.std.proofs.Common.{◌≡◌, ◌≢◌, ◌∙◌, refl, subst, ℕ, Option, Some, Ok, inl, inr, ◌⊎◌}
+use Rattle.std.specs.Prelude.{List}
 use Rattle.flu_outside.specs.Outside.{Contents}
-use Rattle.flu_model.specs.declared.jobs.Program.{Program}
-use Rattle.flu_model.specs.Erasure.{IsSameJob, job_of}
-use Rattle.flu_model.specs.declared.plans.Node.{Node}
-use Rattle.flu_model.specs.Modes.{IsAccepted}
-use Rattle.flu_model.specs.Validity.{IsValid}
-use Rattle.flu_deps.specs.Checking.{program_of}
-use Rattle.flu_parse.specs.declared.faults.JobFault.{JobFault}
-use Rattle.flu_parse.specs.Reading.{job_in}
-use Rattle.flu_plan.specs.Reading.{plan_in}
-use Rattle.flu_grammar.specs.Plans.{IsPlanText}
-use Rattle.flu_grammar.specs.Laws.{JobsAreGrammar, PlansAreGrammar}
-use Rattle.flu_plan.specs.declared.fault.PlanFault.{PlanFault}
-use Rattle.flu_outside.specs.Taking.{bytes_left}
-use Rattle.flu_save.specs.Laws.{LawOfFaults}
-use Rattle.flu_streams.specs.Fronts.{LawOfMeeting}
-use Rattle.flu_trace.specs.OneEnding.{OneEnding}
 use Rattle.flu_lemmas.proofs.Told.{of_told}
-use Rattle.flu_top.specs.declared.refusals.PlanDefect.{PlanDefect}
-use Rattle.flu_top.specs.declared.refusals.PlanDefect.TheVariants as defects
-use Rattle.flu_top.specs.declared.refusals.SaveDefect.{SaveDefect}
-use Rattle.flu_top.specs.declared.refusals.SaveDefect.TheVariants as starts
-use Rattle.flu_trace.specs.declared.faults.ReplayFault.{ReplayFault}
-use Rattle.flu_trace.specs.declared.faults.ReplayFault.TheVariants as traces
-use Rattle.flu_trace.specs.Replaying.{Ending, Complete, ending_of}
 use Rattle.flu_words.specs.Words.{Command, command_in}
-use Rattle.flu_top.specs.Behind.{WantedJob, Named, Fixed, HasJob, HasPlan, plan_behind}
-use Rattle.flu_top.specs.Reading.{AreSourcesGood, HasDefect}
-use Rattle.flu_top.specs.Starting.{CanStart, IsSameName, HasBadCheckpoint}
-use Rattle.flu_top.specs.Wants.{job_wanted, plan_named, save_named, trace_named, asks_accepted, how_read, texts_named}
-use Rattle.flu_top.specs.Done.{HasValidPlan, HasPlanAsked, IsGood, IsTraceRead, IsDone, WhereKnown, IsReadName}
-use Rattle.flu_top.specs.Determining.{OneEndingOfATrace}
-use Rattle.flu_top.specs.Replaying.{ReplaysTo, HasCompleteTrace}
-use Rattle.flu_top.specs.Causes.{IsJobRead, HasJobFault, HasConflict, HasPlanDefect, HasSaveDefect, IsMet, HasSourceFault, HasTraceFault}
-use Rattle.flu_top.specs.Outcome.{Outside, Outcome, Faults, FaultsFirst, HasFaultyTrace, CallsFor, NothingFailed, Completes}
-use Rattle.flu_top.specs.Outcome as cases
-use Rattle.flu_top.proofs.OneCommand.{same_command, no_command}
-use Rattle.flu_top.proofs.Defects.{good_or_bad, met_defect}
-use Rattle.flu_top.proofs.SameJob.{same_good}
-use Rattle.flu_top.proofs.SameAcceptance.{same_accepted}
-use Rattle.flu_top.proofs.SamePlans.{same_plan, same_valid}
-use Rattle.flu_top.proofs.OneRuns.{one_ending_of_trace, same_job}
-use Rattle.flu_top.proofs.Starts.{same_start, same_name_stops, bad_checkpoint_stops}
+use Rattle.flu_lines.specs.declared.statuses.Status.{Status}
+use Rattle.flu_lines.specs.declared.statuses.Status.TheVariants as statuses
+use Rattle.flu_lines.specs.Statuses.{code}
+use Rattle.flu_command.specs.Behind.{WantedJob, Named, Fixed}
+use Rattle.flu_command.specs.Calling.{CallsFor, CallsForOneStatus, DoneIsCalledFor, JobFaultIsCalledFor, ConflictIsCalledFor, PlanDefectIsCalledFor}
+use Rattle.flu_command.specs.Calling.{SaveDefectIsCalledFor, SourceFaultIsCalledFor, TraceFaultIsCalledFor}
+use Rattle.flu_command.specs.Done.{IsDone, WhereKnown, IsReadName}
+use Rattle.flu_command.specs.Wants.{job_wanted, save_named}
+use Rattle.flu_top.specs.Outcome.{Outside, Ended, Outcome, Faults, FaultsFirst, NothingFailed, Completes}
+use Rattle.flu_top.proofs.OneCommand.{same_command}
+use Rattle.flu_top.proofs.Statuses.{ended_with}
 
--- texts are read by their grammar, a defect that a round meets is the first of its source, bytes with a fault are no checkpoint, and a trace has one ending
-pub record LawsBelow : Type 0 where
-  pub jobs : JobsAreGrammar
-  pub plans : PlansAreGrammar
-  pub meeting : LawOfMeeting
-  pub saves : LawOfFaults
-  pub traces : OneEnding
+-- what ends a command is what its files call for, and they call for one status
+pub record LawsOfCalls : Type 0 where
+  pub one : CallsForOneStatus
+  pub done : DoneIsCalledFor
+  pub job_fault : JobFaultIsCalledFor
+  pub conflict : ConflictIsCalledFor
+  pub plan_defect : PlanDefectIsCalledFor
+  pub save_defect : SaveDefectIsCalledFor
+  pub source_fault : SourceFaultIsCalledFor
+  pub trace_fault : TraceFaultIsCalledFor
 
--- ---- each outcome of a call in which nothing failed
--- the status that is wanted, or that of want of memory
-abbrev IsStatus : ℕ → ℕ → Type 0
-IsStatus wanted status = (status ≡ wanted) ⊎ (status ≡ 9)
-
--- what each outcome would show of the files goes with the status that is wanted
-record Leads (wanted : ℕ) (command : Command) (left : Contents) : Type 0 where
-  done : (p : Program) → IsGood command left p → ¬ HasFaultyTrace command left → IsStatus wanted 0
-  job : (name : List ℕ) (fault : JobFault) → job_wanted command ≡ Named name → job_in (bytes_left left name) ≡ Err fault → IsStatus wanted 3
-  conflict : (p : Program) → IsTrue (asks_accepted command) → ¬ IsAccepted p → HasJob (job_wanted command) left p → IsStatus wanted 4
-  plan : (plan : List ℕ) (p : Program) → plan_named command ≡ Some plan → IsAccepted p → HasJob (job_wanted command) left p
-      → ¬ HasValidPlan (job_wanted command) plan left p → IsStatus wanted 5
-  start : (p : Program) → (IsTrue (asks_accepted command) → IsAccepted p) → HasJob (job_wanted command) left p
-      → HasPlanAsked command left p → ¬ CanStart command left p → IsStatus wanted 11
-  source : (p : Program) → (IsTrue (asks_accepted command) → IsAccepted p) → HasJob (job_wanted command) left p
-      → HasPlanAsked command left p → CanStart command left p → HasDefect (how_read command) (texts_named command) left p → IsStatus wanted 6
-  trace : (p : Program) (trace : List ℕ) (ending : Ending) → trace_named command ≡ Some trace → IsGood command left p → ReplaysTo command trace left p ending
-      → ending ≢ Complete → IsStatus wanted 13
-
--- a status that is wanted and is not that of want of memory
-settled : (wanted status : ℕ) → IsStatus wanted status → status ≢ 9 → wanted ≡ status
-settled wanted status (inl same) other = sym same
-settled wanted status (inr nine) other = absurd (other nine)
-
--- ---- commands
 -- what is known of the files is true of what they hold where they tell it
 pub known_at : (job : WantedJob) (P : Contents → Contents → Type 0) (x : Contents) (a b : Option Contents) → a ≡ Some x → WhereKnown job a b P
     → (y : Contents) × P x y
 known_at (Named name) P x a b told known = of_told P x a b told known
 known_at (Fixed job) P x a b told known = (x, known x)
 
-module _ (laws : LawsBelow) where
-  not_both : (job : WantedJob) (name : List ℕ) (left : Contents) (p : Program) (fault : JobFault) → job ≡ Named name → HasJob job left p
-      → job_in (bytes_left left name) ≡ Err fault → ⊥
-  not_both job name left p fault named has bad =
-      let e = sym ((laws.jobs (bytes_left left name) (job_of p)).1 (subst (λ (wanted : WantedJob). HasJob wanted left p) named has)) ∙ bad in cc
+module _ (laws : LawsOfCalls) (command : Command) (left : Contents) (old new : Outside) (told : old.left ≡ Some left) where
+  by_ended : (status : Status) → Ended command old new status → (code status ≢ 7) × (code status ≢ 8) × (code status ≢ 12)
+      → CallsFor command left (code status) ⊎ (code status ≡ 9)
+  by_ended statuses.Done ended apart =
+      let found = known_at (job_wanted command) (IsDone command old.out new.out ended.0) left old.left new.left told ended.1 in
+      inl (laws.done command left found.0 old.out new.out ended.0 found.1)
+  by_ended statuses.BadWords ended apart = absurd ended
+  by_ended statuses.JobFault ended apart = inl (laws.job_fault command left old.left new.left ended.0 told ended.1)
+  by_ended statuses.Conflict ended apart = inl (laws.conflict command left old.left new.left ended.0 told ended.1)
+  by_ended statuses.PlanDefect ended apart = inl (laws.plan_defect command left old.left new.left ended.0 told ended.1)
+  by_ended statuses.SourceFault ended apart = inl (laws.source_fault command left old.left new.left ended.0 ended.1 ended.2 told ended.3)
+  by_ended statuses.ReadFault ended apart = absurd (apart.0 refl)
+  by_ended statuses.WriteFault ended apart = absurd (apart.1 refl)
+  by_ended statuses.NoMemory ended apart = inr refl
+  by_ended statuses.SaveDefect ended apart = inl (laws.save_defect command left old.left new.left ended.0 told ended.1)
+  by_ended statuses.PutFault ended apart = absurd (apart.2 refl)
+  by_ended statuses.TraceFault ended apart = inl (laws.trace_fault command left old.left new.left ended.0 told ended.1)
 
-  -- good sources have no defect, whichever program of the text is looked at
-  no_defect : (command : Command) (left : Contents) (p q : Program) → HasJob (job_wanted command) left p → HasJob (job_wanted command) left q
-      → AreSourcesGood (how_read command) (texts_named command) left p → HasDefect (how_read command) (texts_named command) left q → ⊥
-  no_defect command left p q first second good bad =
-      good_or_bad (how_read command) (texts_named command) left q (same_good (how_read command) (texts_named command) left p q
-      (same_job laws.jobs (job_wanted command) left p q first second) good) bad
+-- where nothing failed, no status of a failure comes
+unfailed : (words : List (List ℕ)) (told : Option Contents) (before now : Faults) (status : ℕ) (command : Command) → FaultsFirst words told before now status
+    → command_in words ≡ Ok command → NothingFailed command told before now → (status ≢ 7) × (status ≢ 8) × (status ≢ 12)
+unfailed words told before now status command faults word nothing = (
+  λ is. let rose = faults.read is in
+      nothing.files rose.0 (subst (λ (d : Command). IsReadName told d rose.0) (same_command words rose.1.0 command rose.1.1 word) rose.1.2) rose.2,
+  λ is. nothing.out (faults.write is),
+  λ is. let rose = faults.put is in
+      nothing.saves rose.0 (subst (λ (d : Command). save_named d ≡ Some rose.0) (same_command words rose.1.0 command rose.1.1 word) rose.1.2) rose.2,
+)
 
-  accepted_of_text : (job : WantedJob) (left : Contents) (p q : Program) → HasJob job left p → HasJob job left q → IsAccepted p → IsAccepted q
-  accepted_of_text job left p q first second = same_accepted p q (same_job laws.jobs job left p q first second)
-
-  -- a plan's text for a program is one for another that is the same job
-  same_plan_text : (p q : Program) (bytes : List ℕ) (nodes : List Node) → IsSameJob p q → IsPlanText p bytes nodes → IsPlanText q bytes nodes
-  same_plan_text p q bytes nodes same is = (laws.plans q bytes nodes).0 (sym (same_plan p q bytes same) ∙ (laws.plans p bytes nodes).1 is)
-
-  pub valid_of_text : (job : WantedJob) (plan : List ℕ) (left : Contents) (p q : Program) → HasJob job left p → HasJob job left q → HasValidPlan job plan left p
-      → HasValidPlan job plan left q
-  valid_of_text job plan left p q first second found =
-      let same = same_job laws.jobs job left p q first second in
-      (found.0, same_plan_text p q (plan_behind job plan left) found.0 same found.1, same_valid p q found.0 same found.2)
-
-  start_of_text : (command : Command) (left : Contents) (p q : Program) → HasJob (job_wanted command) left p → HasJob (job_wanted command) left q
-      → CanStart command left p → CanStart command left q
-  start_of_text command left p q first second start = same_start command left p q (same_job laws.jobs (job_wanted command) left p q first second) start
-
-  -- ---- plans with a defect
-  faulty_text : (job : WantedJob) (plan : List ℕ) (left : Contents) (p : Program) (fault : PlanFault) → plan_in p (plan_behind job plan left) ≡ Err fault
-      → HasValidPlan job plan left p → ⊥
-  faulty_text job plan left p fault is found = let e = sym is ∙ (laws.plans p (plan_behind job plan left) found.0).1 found.1 in cc
-
-  invalid_plan : (job : WantedJob) (plan : List ℕ) (left : Contents) (p : Program) (nodes : List Node) → ¬ IsValid p nodes → HasPlan job plan left p nodes
-      → HasValidPlan job plan left p → ⊥
-  invalid_plan job plan left p nodes refused is found =
-      let bytes = plan_behind job plan left in
-      let e = sym ((laws.plans p bytes found.0).1 found.1) ∙ (laws.plans p bytes nodes).1 is in
-      let same : found.0 ≡ nodes = cc in
-      refused (subst (IsValid p) same found.2)
-
-  -- ---- traces that end otherwise
-  one_ending : OneEndingOfATrace
-  one_ending = one_ending_of_trace laws.jobs laws.plans laws.traces
-
-  only_complete : (command : Command) (left : Contents) (p : Program) → HasJob (job_wanted command) left p → HasCompleteTrace command left p
-      → ¬ HasFaultyTrace command left
-  only_complete command left p has whole faulty =
-      faulty.faulty (one_ending command left p faulty.p faulty.trace Complete faulty.ending has faulty.good.has (whole faulty.trace faulty.named) faulty.ends)
-
-  -- a trace that was read is complete
-  read_complete : (command : Command) (left after : Contents) (p : Program) → HasJob (job_wanted command) left p → IsTraceRead command p left after
-      → ¬ HasFaultyTrace command left
-  read_complete command left after p has read = only_complete command left p has (λ trace named. (read trace named).0)
-
-  -- a fault tells another ending
-  told_ending : (fault : ReplayFault) (ending : Ending) → ending_of fault ≡ Some ending → ending ≢ Complete
-  told_ending (traces.Bad line) ending tells same = let e = tells ∙ ap Some same in cc
-  told_ending (traces.NotEnabled line) ending tells same = let e = tells ∙ ap Some same in cc
-  told_ending (traces.Incomplete line) ending tells same = let e = tells ∙ ap Some same in cc
-  told_ending traces.ReadFault ending tells same = cc
-  told_ending traces.NoMemory ending tells same = cc
-
-  -- ---- what the status that is called for leaves of the others
-  leads_done : (command : Command) (left : Contents) (p : Program) → IsGood command left p → HasCompleteTrace command left p → Leads 0 command left
-  leads_done command left p good whole = record {
-    done = λ q other none. inl refl;
-    job = λ name fault named bad. absurd (not_both (job_wanted command) name left p fault named good.has bad);
-    conflict = λ q asked refused has. absurd (refused (accepted_of_text (job_wanted command) left p q good.has has (good.accepted asked)));
-    plan = λ plan q named accepted has bad. absurd (bad (valid_of_text (job_wanted command) plan left p q good.has has (good.plan plan named)));
-    start = λ q accepted has plan bad. absurd (bad (start_of_text command left p q good.has has good.start));
-    source = λ q accepted has plan start bad. absurd (no_defect command left p q good.has has good.sources bad);
-    trace = λ q trace ending named also ends other.
-        absurd (other (one_ending command left p q trace Complete ending good.has also.has (whole trace named) ends));
-  }
-
-  leads_job : (command : Command) (name : List ℕ) (left : Contents) (fault : JobFault) → job_wanted command ≡ Named name
-      → job_in (bytes_left left name) ≡ Err fault → Leads 3 command left
-  leads_job command name left fault named bad = record {
-    done = λ q good none. absurd (not_both (job_wanted command) name left q fault named good.has bad);
-    job = λ another other also found. inl refl;
-    conflict = λ q asked refused has. absurd (not_both (job_wanted command) name left q fault named has bad);
-    plan = λ plan q asked accepted has other. absurd (not_both (job_wanted command) name left q fault named has bad);
-    start = λ q accepted has plan found. absurd (not_both (job_wanted command) name left q fault named has bad);
-    source = λ q accepted has plan start found. absurd (not_both (job_wanted command) name left q fault named has bad);
-    trace = λ q trace ending its good ends other. absurd (not_both (job_wanted command) name left q fault named good.has bad);
-  }
-
-  leads_conflict : (command : Command) (left : Contents) (p : Program) → IsTrue (asks_accepted command) → HasJob (job_wanted command) left p → ¬ IsAccepted p
-      → Leads 4 command left
-  leads_conflict command left p asked has refused = record {
-    done = λ q good none. absurd (refused (accepted_of_text (job_wanted command) left q p good.has has (good.accepted asked)));
-    job = λ name fault named bad. absurd (not_both (job_wanted command) name left p fault named has bad);
-    conflict = λ q asked none found. inl refl;
-    plan = λ plan q named accepted found bad. absurd (refused (accepted_of_text (job_wanted command) left q p found has accepted));
-    start = λ q accepted found plan bad. absurd (refused (accepted_of_text (job_wanted command) left q p found has (accepted asked)));
-    source = λ q accepted found plan start bad. absurd (refused (accepted_of_text (job_wanted command) left q p found has (accepted asked)));
-    trace = λ q trace ending its good ends other. absurd (refused (accepted_of_text (job_wanted command) left q p good.has has (good.accepted asked)));
-  }
-
-  leads_plan : (command : Command) (left : Contents) (p : Program) (plan : List ℕ) → plan_named command ≡ Some plan → HasJob (job_wanted command) left p
-      → IsAccepted p → ¬ HasValidPlan (job_wanted command) plan left p → Leads 5 command left
-  leads_plan command left p plan named has accepted bad = record {
-    done = λ q good none. absurd (bad (valid_of_text (job_wanted command) plan left q p good.has has (good.plan plan named)));
-    job = λ name fault named found. absurd (not_both (job_wanted command) name left p fault named has found);
-    conflict = λ q asked refused found. absurd (refused (accepted_of_text (job_wanted command) left p q has found accepted));
-    plan = λ name q also found others worse. inl refl;
-    start = λ q also found valid others. absurd (bad (valid_of_text (job_wanted command) plan left q p found has (valid plan named)));
-    source = λ q also found valid start others. absurd (bad (valid_of_text (job_wanted command) plan left q p found has (valid plan named)));
-    trace = λ q trace ending its good ends other. absurd (bad (valid_of_text (job_wanted command) plan left q p good.has has (good.plan plan named)));
-  }
-
-  leads_source : (command : Command) (left : Contents) (p : Program) → HasJob (job_wanted command) left p → (IsTrue (asks_accepted command) → IsAccepted p)
-      → HasPlanAsked command left p → CanStart command left p
-      → HasDefect (how_read command) (texts_named command) left p → Leads 6 command left
-  leads_source command left p has accepted valid start bad = record {
-    done = λ q good none. absurd (no_defect command left q p good.has has good.sources bad);
-    job = λ name other named found. absurd (not_both (job_wanted command) name left p other named has found);
-    conflict = λ q asked refused found. absurd (refused (accepted_of_text (job_wanted command) left p q has found (accepted asked)));
-    plan = λ plan q named also found other. absurd (other (valid_of_text (job_wanted command) plan left p q has found (valid plan named)));
-    start = λ q also found plan others. absurd (others (start_of_text command left p q has found start));
-    source = λ q also found plan begun others. inl refl;
-    trace = λ q trace ending its good ends other. absurd (no_defect command left q p good.has has good.sources bad);
-  }
-
-  leads_start : (command : Command) (left : Contents) (p : Program) → HasJob (job_wanted command) left p → (IsTrue (asks_accepted command) → IsAccepted p)
-      → HasPlanAsked command left p → ¬ CanStart command left p
-      → Leads 11 command left
-  leads_start command left p has accepted valid bad = record {
-    done = λ q good none. absurd (bad (start_of_text command left q p good.has has good.start));
-    job = λ name other named found. absurd (not_both (job_wanted command) name left p other named has found);
-    conflict = λ q asked refused found. absurd (refused (accepted_of_text (job_wanted command) left p q has found (accepted asked)));
-    plan = λ plan q named also found other. absurd (other (valid_of_text (job_wanted command) plan left p q has found (valid plan named)));
-    start = λ q also found plan others. inl refl;
-    source = λ q also found plan start others. absurd (bad (start_of_text command left q p found has start));
-    trace = λ q trace ending its good ends other. absurd (bad (start_of_text command left q p good.has has good.start));
-  }
-
-  leads_trace : (command : Command) (left : Contents) → HasFaultyTrace command left → Leads 13 command left
-  leads_trace command left faulty =
-      let p = faulty.p in
-      let good = faulty.good in
-      record {
-        done = λ q also none. absurd (none faulty);
-        job = λ name fault named bad. absurd (not_both (job_wanted command) name left p fault named good.has bad);
-        conflict = λ q asked refused has. absurd (refused (accepted_of_text (job_wanted command) left p q good.has has (good.accepted asked)));
-        plan = λ plan q named accepted has bad. absurd (bad (valid_of_text (job_wanted command) plan left p q good.has has (good.plan plan named)));
-        start = λ q accepted has plan bad. absurd (bad (start_of_text command left p q good.has has good.start));
-        source = λ q accepted has plan start bad. absurd (no_defect command left p q good.has has good.sources bad);
-        trace = λ q trace ending named also ends other. inl refl;
-      }
-
-  leads : (command : Command) (left : Contents) (wanted : ℕ) → CallsFor command left wanted → Leads wanted command left
-  leads command left wanted (cases.Good is p good whole) = subst (λ n. Leads n command left) (sym is) (leads_done command left p good whole)
-  leads command left wanted (cases.FaultyJob is name fault named bad) = subst (λ n. Leads n command left) (sym is) (leads_job command name left fault named bad)
-  leads command left wanted (cases.NotAccepted is p asked has refused) =
-      subst (λ n. Leads n command left) (sym is) (leads_conflict command left p asked has refused)
-  leads command left wanted (cases.NoValidPlan is p plan named has accepted bad) =
-      subst (λ n. Leads n command left) (sym is) (leads_plan command left p plan named has accepted bad)
-  leads command left wanted (cases.FaultyStart is p has accepted valid bad) =
-      subst (λ n. Leads n command left) (sym is) (leads_start command left p has accepted valid bad)
-  leads command left wanted (cases.FaultySource is p has accepted valid start bad) =
-      subst (λ n. Leads n command left) (sym is) (leads_source command left p has accepted valid start bad)
-  leads command left wanted (cases.FaultyTrace is faulty) = subst (λ n. Leads n command left) (sym is) (leads_trace command left faulty)
-
-  -- a command and the files call for one status
-  pub one_status : (command : Command) (left : Contents) (a b : ℕ) → CallsFor command left a → CallsFor command left b → a ≡ b
-  one_status command left a b first (cases.Good is p good whole) =
-      settled a 0 ((leads command left a first).done p good (only_complete command left p good.has whole)) (λ e. omega (arith, e)) ∙ sym is
-  one_status command left a b first (cases.FaultyJob is name fault named bad) =
-      settled a 3 ((leads command left a first).job name fault named bad) (λ e. omega (arith, e)) ∙ sym is
-  one_status command left a b first (cases.NotAccepted is p asked has refused) =
-      settled a 4 ((leads command left a first).conflict p asked refused has) (λ e. omega (arith, e)) ∙ sym is
-  one_status command left a b first (cases.NoValidPlan is p plan named has accepted bad) =
-      settled a 5 ((leads command left a first).plan plan p named accepted has bad) (λ e. omega (arith, e)) ∙ sym is
-  one_status command left a b first (cases.FaultyStart is p has accepted valid bad) =
-      settled a 11 ((leads command left a first).start p accepted has valid bad) (λ e. omega (arith, e)) ∙ sym is
-  one_status command left a b first (cases.FaultySource is p has accepted valid start bad) =
-      settled a 6 ((leads command left a first).source p accepted has valid start bad) (λ e. omega (arith, e)) ∙ sym is
-  one_status command left a b first (cases.FaultyTrace is faulty) =
-      settled a 13 ((leads command left a first).trace faulty.p faulty.trace faulty.ending faulty.named faulty.good faulty.ends
-      faulty.faulty) (λ e. omega (arith, e)) ∙ sym is
-
-  -- ---- the outcome
-  -- what each outcome shows of the files
-  by_defect : (wanted : ℕ) (command : Command) (left : Contents) (old new : Option Contents) (defect : PlanDefect) → old ≡ Some left
-      → Leads wanted command left → HasPlanDefect command old new defect → IsStatus wanted 5
-  by_defect wanted command left old new (defects.Text fault) told leads why =
-      let found = of_told (λ old _. HasJob (job_wanted command) old why.program
-      × (plan_in why.program (plan_behind (job_wanted command) why.plan old) ≡ Err fault)) left old new told why.first in
-      leads.plan why.plan why.program why.asked why.accepted found.1.0 (faulty_text (job_wanted command) why.plan left why.program fault found.1.1)
-  by_defect wanted command left old new (defects.Invalid checked fault) told leads why =
-      let found = of_told (λ old _. HasJob (job_wanted command) old (program_of checked)
-      × HasPlan (job_wanted command) why.plan old (program_of checked) fault.plan.nodes) left old new told why.text in
-      leads.plan why.plan (program_of checked) why.asked why.accepted found.1.0
-      (invalid_plan (job_wanted command) why.plan left (program_of checked) fault.plan.nodes why.invalid.refused found.1.1)
-
-  by_start : (wanted : ℕ) (command : Command) (left : Contents) (old new : Option Contents) (defect : SaveDefect) → old ≡ Some left
-      → Leads wanted command left → HasSaveDefect command old new defect → IsStatus wanted 11
-  by_start wanted command left old new (starts.SameName checked number) told leads why =
-      let p = program_of checked in
-      let found = (of_told (λ old _. HasJob (job_wanted command) old p × HasPlanAsked command old p × IsSameName command p number) left old new told
-      why.first).1 in
-      leads.start p why.accepted found.0 found.1 (same_name_stops command left p number found.2)
-  by_start wanted command left old new (starts.Checkpoint fault) told leads why =
-      let p = why.0 in
-      let found = (of_told (λ old _. HasJob (job_wanted command) old p × HasPlanAsked command old p × HasBadCheckpoint command old p fault) left old new told
-      why.1.first).1 in
-      leads.start p why.1.accepted found.0 found.1 (bad_checkpoint_stops laws.saves command left p fault found.2)
-
-  by_case : (words : List (List ℕ)) (old new : Outside) (before now : Faults) (status wanted : ℕ) (command : Command) (left : Contents)
-      → Outcome words old new status → FaultsFirst words old.left before now status → command_in words ≡ Ok command → old.left ≡ Some left
-      → NothingFailed command old.left before now → Leads wanted command left → IsStatus wanted status
-  by_case words old new before now status wanted command left (cases.Done is other also line done heard) faults word told nothing leads =
-      let same = same_command words other command also word in
-      let known = subst (λ (d : Command). WhereKnown (job_wanted d) old.left new.left (IsDone d old.out new.out line)) same done in
-      let found = known_at (job_wanted command) (IsDone command old.out new.out line) left old.left new.left told known in
-      let read = found.1.2 in
-      subst (IsStatus wanted) (sym is) (leads.done found.1.0 read.good (read_complete command left found.0 found.1.0 read.good.has read.trace))
-  by_case words old new before now status wanted command left (cases.BadWords is at bad files refused) faults word told nothing leads =
-      absurd (no_command words command at word bad)
-  by_case words old new before now status wanted command left (cases.BadJob is other also fault why refused) faults word told nothing leads =
-      let same = same_command words other command also word in
-      let has = subst (λ (d : Command). HasJobFault (job_wanted d) old.left new.left fault) same why in
-      subst (IsStatus wanted) (sym is) (leads.job has.name fault has.named
-      (of_told (λ old _. job_in (bytes_left old has.name) ≡ Err fault) left old.left new.left told has.first).1)
-  by_case words old new before now status wanted command left (cases.Conflicts is other also fault why refused) faults word told nothing leads =
-      let same = same_command words other command also word in
-      let has = subst (λ (d : Command). HasConflict d old.left new.left fault) same why in
-      let read = of_told (IsJobRead has.name fault.program) left old.left new.left told has.job in
-      subst (IsStatus wanted) (sym is) (leads.conflict fault.program has.asked has.conflict.refused
-      (subst (λ (job : WantedJob). HasJob job left fault.program) (sym has.named) read.1.has))
-  by_case words old new before now status wanted command left (cases.BadPlan is other also defect why refused) faults word told nothing leads =
-      let same = same_command words other command also word in
-      let has = subst (λ (d : Command). HasPlanDefect d old.left new.left defect) same why in
-      subst (IsStatus wanted) (sym is) (by_defect wanted command left old.left new.left defect told leads has)
-  by_case words old new before now status wanted command left (cases.BadSource is other also p fault text why wrote said) faults word told nothing leads =
-      let same = same_command words other command also word in
-      let has = subst (λ (d : Command). HasSourceFault d old.left new.left p fault text) same why in
-      let found = of_told (λ old new. HasJob (job_wanted command) old p × HasPlanAsked command old p × CanStart command old p
-      × IsMet (how_read command) command old new p text fault) left old.left new.left told has.first in
-      subst (IsStatus wanted) (sym is)
-      (leads.source p has.accepted found.1.0 found.1.1 found.1.2 (met_defect laws.meeting (how_read command) command left found.0 p text fault found.1.3))
-  by_case words old new before now status wanted command left (cases.ReadFailed is other also some said) faults word told nothing leads =
-      let rose = faults.read is in
-      let same = same_command words rose.1.0 command rose.1.1 word in
-      absurd (nothing.files rose.0 (subst (λ (d : Command). IsReadName old.left d rose.0) same rose.1.2) rose.2)
-  by_case words old new before now status wanted command left (cases.WriteFailed is other also partly said) faults word told nothing leads =
-      absurd (nothing.out (faults.write is))
-  by_case words old new before now status wanted command left (cases.NoMemory is other also some said) faults word told nothing leads = inr is
-  by_case words old new before now status wanted command left (cases.BadSave is other also defect why refused) faults word told nothing leads =
-      let same = same_command words other command also word in
-      let has = subst (λ (d : Command). HasSaveDefect d old.left new.left defect) same why in
-      subst (IsStatus wanted) (sym is) (by_start wanted command left old.left new.left defect told leads has)
-  by_case words old new before now status wanted command left (cases.PutFailed is other also some said) faults word told nothing leads =
-      let rose = faults.put is in
-      let same = same_command words rose.1.0 command rose.1.1 word in
-      absurd (nothing.saves rose.0 (subst (λ (d : Command). save_named d ≡ Some rose.0) same rose.1.2) rose.2)
-  by_case words old new before now status wanted command left (cases.BadTrace is other also fault why refused) faults word told nothing leads =
-      let same = same_command words other command also word in
-      let has = subst (λ (d : Command). HasTraceFault d old.left new.left fault) same why in
-      let found = of_told (λ old _. IsGood command old has.p × ReplaysTo command has.trace old has.p has.ending) left old.left new.left told has.first in
-      subst (IsStatus wanted) (sym is) (leads.trace has.p has.trace has.ending has.named found.1.0 found.1.1 (told_ending fault has.ending has.tells))
-
-  -- completeness follows from the outcome, where a fault of the outside comes first
-  pub completes_of : (words : List (List ℕ)) (old new : Outside) (before now : Faults) (status : ℕ) → Outcome words old new status
-      → FaultsFirst words old.left before now status → Completes words old.left before now status
-  completes_of words old new before now status outcome faults command left wanted word told nothing called =
-      by_case words old new before now status wanted command left outcome faults word told nothing (leads command left wanted called)
+-- completeness follows from the outcome, where a fault of the outside comes first
+pub completes_of : LawsOfCalls → (words : List (List ℕ)) (old new : Outside) (before now : Faults) (status : ℕ) → Outcome words old new status
+    → FaultsFirst words old.left before now status → Completes words old.left before now status
+completes_of laws words old new before now status outcome faults command left wanted word told nothing called =
+    let found = ended_with words old new status outcome command word in
+    let apart = unfailed words old.left before now status command faults word nothing in
+    elim (by_ended laws command left old new told found.0 found.2 (subst (λ n. (n ≢ 7) × (n ≢ 8) × (n ≢ 12)) found.1 apart)) [
+      | inl calls ↦ inl (found.1 ∙ laws.one command left (code found.0) wanted calls called)
+      | inr none ↦ inr (found.1 ∙ none)
+    ]

@@ -14,11 +14,11 @@ use Rattle.flu_gen.specs.DemoJob.{IsDemoJob}
 use Rattle.flu_gen.specs.DemoStreams.{demo_lists}
 use Rattle.flu_words.specs.Words.{Demo}
 use Rattle.flu_top.specs.declared.products.Product.{Product}
-use Rattle.flu_top.specs.declared.refusals.Refusal.{Refusal}
-use Rattle.flu_top.specs.declared.refusals.Refusal.TheVariants as refusals
+use Rattle.flu_lines.specs.declared.refusals.Refusal.{Refusal}
+use Rattle.flu_lines.specs.declared.refusals.Refusal.TheVariants as refusals
 use Rattle.flu_top.specs.Checking.{IsCheckRefusal}
-use Rattle.flu_top.specs.Demos.{demo_job, summary, demo_summary}
-use Rattle.flu_top.specs.Done.{IsWritten}
+use Rattle.flu_command.specs.Demos.{demo_job, summary, demo_summary}
+use Rattle.flu_command.specs.Done.{IsWritten}
 use Rattle.flu_top.specs.Refusing.{IsRefusal}
 use Rattle.flu_top.proofs.Sequence.{none_among, can_start, has_saved}
 
@@ -68,7 +68,7 @@ is_shown n seed p text left demo accepted is = (
 -- a job that is accepted is refused for want of memory alone
 pub only_memory : (p : Program) (refusal : Refusal) → IsAccepted p → IsCheckRefusal p refusal → refusal ≡ refusals.NoMemory
 only_memory p (refusals.BadWords bad) accepted is = absurd is
-only_memory p (refusals.JobFault fault) accepted is = absurd is
+only_memory p (refusals.JobFault fault text) accepted is = absurd is
 only_memory p (refusals.Conflict fault) accepted is = absurd (is.1.refused (subst (λ (q : Program). IsAccepted q) (sym is.0) accepted))
 only_memory p (refusals.PlanDefect defect) accepted is = absurd is
 only_memory p (refusals.SourceFault q fault) accepted is = absurd is

@@ -7,22 +7,23 @@ use Rattle.flu_outside.specs.Taking.{TookFronts}
 use Rattle.flu_outside.specs.Writing.{AppendsAll}
 use Rattle.flu_lemmas.proofs.Told.{told_same, told_weaker}
 use Rattle.flu_outside.specs.Outside.{Contents}
-use Rattle.flu_top.specs.declared.refusals.Refusal.{Refusal}
-use Rattle.flu_top.specs.declared.refusals.Refusal.TheVariants as refusals
+use Rattle.flu_lines.specs.declared.refusals.Refusal.{Refusal}
+use Rattle.flu_lines.specs.declared.refusals.Refusal.TheVariants as refusals
 use Rattle.flu_words.specs.Words.{Command, command_in}
-use Rattle.flu_top.specs.Taking.{TookOnly, TookFrontsBut}
-use Rattle.flu_top.specs.Behind.{WantedJob, Named, Fixed}
-use Rattle.flu_top.specs.Reading.{Reading, Unread, Whole, InRounds}
-use Rattle.flu_top.specs.declared.products.Said.{Said}
+use Rattle.flu_command.specs.Taking.{TookOnly, TookFrontsBut}
+use Rattle.flu_command.specs.Behind.{WantedJob, Named, Fixed}
+use Rattle.flu_command.specs.Reading.{Reading, Unread, Whole, InRounds}
+use Rattle.flu_lines.specs.declared.products.Said.{Said}
 use Rattle.flu_top.specs.declared.products.Product.{Product}
-use Rattle.flu_top.specs.Wants.{want, job_wanted, how_read}
-use Rattle.flu_top.specs.Starting.{Leaves}
-use Rattle.flu_top.specs.Done.{IsWritten, IsDone, IsPartlyDone, WhereKnown, Wrote, WroteSome, WrotePart, IsReadName, IsReadBy, IsPutAt, IsSavedBy, MayBePut}
-use Rattle.flu_top.specs.ReadFaults.{HasReadFault, InJob, InPlan, InCheckpoint, InSources, InRows, InTrace}
+use Rattle.flu_command.specs.Wants.{want, job_wanted, how_read}
+use Rattle.flu_command.specs.Starting.{Leaves}
+use Rattle.flu_command.specs.Done.{IsWritten, IsDone, IsPartlyDone, WhereKnown, Wrote, WroteSome, WrotePart, IsReadName, IsReadBy, IsPutAt, IsSavedBy, MayBePut}
+use Rattle.flu_command.specs.ReadFaults.{HasReadFault, InJob, InPlan, InCheckpoint, InSources, InRows, InTrace}
 use Rattle.flu_top.specs.Refusing.{IsRefusal}
-use Rattle.flu_top.specs.Products.{line_said, MaySay}
-use Rattle.flu_top.specs.Lines.{IsSaid}
-use Rattle.flu_top.specs.Answer.{status_after, line_of, IsHeard}
+use Rattle.flu_lines.specs.Products.{line_said}
+use Rattle.flu_top.specs.Products.{MaySay}
+use Rattle.flu_lines.specs.Lines.{IsSaid}
+use Rattle.flu_lines.specs.Answer.{code_after, line_of, IsHeard}
 use Rattle.flu_top.specs.Ending.{Call, WroteNothing, HasAll, IsStopped, IsEnding, Ends}
 use Rattle.flu_top.specs.Writing.{IsPutAll, IsPutPart, IsPut, as_product}
 
@@ -60,7 +61,7 @@ part_of_all InRounds command a b had has other partly = absurd (other refl)
 pub stopped : (c : Call) (command : Command) (refusal : Refusal) → IsRefusal command c.left c.left_after c.counts c.counts_after refusal
     → LeavesAll (how_read command) command c.left c.left_after → WroteNothing c → IsStopped c command refusal
 stopped c command (refusals.BadWords bad) why leaves nothing = why
-stopped c command (refusals.JobFault fault) why leaves nothing = (why, nothing)
+stopped c command (refusals.JobFault fault text) why leaves nothing = (why, nothing)
 stopped c command (refusals.Conflict fault) why leaves nothing = (why, nothing)
 stopped c command (refusals.PlanDefect defect) why leaves nothing = (why, nothing)
 stopped c command (refusals.SourceFault job fault) why leaves nothing =
@@ -173,24 +174,24 @@ only_wider words command status a b is only =
     (λ x y took name untouched. took name (λ touched. untouched (elim touched [ inl read ↦ inl (command, is, read) | inr put ↦ inr (command, is, put) ]))) only
 
 -- ---- which ending has a status
-of_read_fault : (ended : Result (Option Said) Refusal) → status_after ended ≡ 7 → ended ≡ Err refusals.ReadFault
+of_read_fault : (ended : Result (Option Said) Refusal) → code_after ended ≡ 7 → ended ≡ Err refusals.ReadFault
 of_read_fault (Err refusals.ReadFault) is = refl
 of_read_fault ended is = absurd (omega arith)
 
-of_write_fault : (ended : Result (Option Said) Refusal) → status_after ended ≡ 8 → ended ≡ Err refusals.WriteFault
+of_write_fault : (ended : Result (Option Said) Refusal) → code_after ended ≡ 8 → ended ≡ Err refusals.WriteFault
 of_write_fault (Err refusals.WriteFault) is = refl
 of_write_fault ended is = absurd (omega arith)
 
-of_put_fault : (ended : Result (Option Said) Refusal) → status_after ended ≡ 12 → ended ≡ Err refusals.PutFault
+of_put_fault : (ended : Result (Option Said) Refusal) → code_after ended ≡ 12 → ended ≡ Err refusals.PutFault
 of_put_fault (Err refusals.PutFault) is = refl
 of_put_fault ended is = absurd (omega arith)
 
 -- the ending of a call whose status is not that of bad words
-ending_at : (words : List (List ℕ)) (c : Call) (ended : Result (Option Said) Refusal) → Ends words c ended → status_after ended ≢ 2
+ending_at : (words : List (List ℕ)) (c : Call) (ended : Result (Option Said) Refusal) → Ends words c ended → code_after ended ≢ 2
     → (command : Command) × (command_in words ≡ Ok command) × IsEnding c command ended
-ending_at words c ended ends apart = elim ends.how [ inl ending ↦ ending | inr refused ↦ absurd (apart (ap status_after refused.2.words)) ]
+ending_at words c ended ends apart = elim ends.how [ inl ending ↦ ending | inr refused ↦ absurd (apart (ap code_after refused.2.words)) ]
 
-pub read_fault_of : (words : List (List ℕ)) (c : Call) (ended : Result (Option Said) Refusal) → Ends words c ended → status_after ended ≡ 7
+pub read_fault_of : (words : List (List ℕ)) (c : Call) (ended : Result (Option Said) Refusal) → Ends words c ended → code_after ended ≡ 7
     → (command : Command) × (command_in words ≡ Ok command) × HasReadFault command c.left c.left_after c.counts c.counts_after
 read_fault_of words c ended ends is =
     let ending = ending_at words c ended ends (λ e. omega arith) in
@@ -206,20 +207,20 @@ name_that_failed command old new before now (InSources name file whole rose hide
 name_that_failed command old new before now (InRows name file rounds rose hides) = (name, inr (inr (inr (inl file))), rose)
 name_that_failed command old new before now (InTrace name trace rose) = (name, inr (inr (inr (inr trace))), rose)
 
-pub read_fault_at : (words : List (List ℕ)) (c : Call) (ended : Result (Option Said) Refusal) → Ends words c ended → status_after ended ≡ 7
+pub read_fault_at : (words : List (List ℕ)) (c : Call) (ended : Result (Option Said) Refusal) → Ends words c ended → code_after ended ≡ 7
     → (name : List ℕ) × IsReadBy words c.left name × Rose (c.counts name) (c.counts_after name)
 read_fault_at words c ended ends is =
     let fault = read_fault_of words c ended ends is in
     let found = name_that_failed fault.0 c.left c.left_after c.counts c.counts_after fault.2 in
     (found.0, (fault.0, fault.1, found.1), found.2)
 
-pub write_fault_at : (words : List (List ℕ)) (c : Call) (ended : Result (Option Said) Refusal) → Ends words c ended → status_after ended ≡ 8
+pub write_fault_at : (words : List (List ℕ)) (c : Call) (ended : Result (Option Said) Refusal) → Ends words c ended → code_after ended ≡ 8
     → Rose c.count c.count_after
 write_fault_at words c ended ends is =
     let ending = ending_at words c ended ends (λ e. omega arith) in
     (subst (IsEnding c ending.0) (of_write_fault ended is) ending.2).rose
 
-pub put_fault_at : (words : List (List ℕ)) (c : Call) (ended : Result (Option Said) Refusal) → Ends words c ended → status_after ended ≡ 12
+pub put_fault_at : (words : List (List ℕ)) (c : Call) (ended : Result (Option Said) Refusal) → Ends words c ended → code_after ended ≡ 12
     → (name : List ℕ) × IsSavedBy words name × Rose (c.puts name) (c.puts_after name)
 put_fault_at words c ended ends is =
     let ending = ending_at words c ended ends (λ e. omega arith) in

@@ -1,6 +1,6 @@
 -- The headline of each command, from the clauses of the call.
 use Rattle.std.proofs.Common.{◌≡◌, refl, sym, ap, ◌∙◌, subst, ℕ, ◌≤◌, List, [], ◌∷◌, ◌++◌, Bool, true, false, Option, Some, None, Ok, inl, inr, ◌⊎◌, arith}
-use Rattle.std.specs.Prelude.{Contains, IsTrue, slice_get, if◌then◌else◌}
+use Rattle.std.specs.Prelude.{Contains, if◌then◌else◌}
 use Rattle.std.specs.Option.{option_map_or}
 use Rattle.std.proofs.lemmas.Bool.{false≢true}
 use Rattle.std.proofs.lemmas.List.{append-nil}
@@ -21,23 +21,23 @@ use Rattle.flu_streams.specs.Files.{files_of}
 use Rattle.flu_streams.specs.Good.{first_fault}
 use Rattle.flu_streams.specs.Rounds.{defect_in}
 use Rattle.flu_words.specs.Words.{Command, Fold, Run, Simulate, Replay, RoundsHaveRows, command_in}
-use Rattle.flu_top.specs.Behind.{Named, HasJob, fault_behind, lists_behind, report_behind, plan_behind}
-use Rattle.flu_top.specs.Emptied.{emptied, emptied_each, if_named}
+use Rattle.flu_command.specs.Behind.{Named, HasJob, fault_behind, lists_behind, report_behind, plan_behind}
+use Rattle.flu_command.specs.Emptied.{emptied, emptied_each, if_named}
 use Rattle.flu_top.specs.Headline.{fold_report, WritesOrNoMemory, NoneFailed, HaveNoDefect, IsValidPlanText, FoldIsTheReport, RunIsTheFold}
 use Rattle.flu_top.specs.Headline.{SimulationIsTheFold, ReplayIsTheFold, OneTextOneReport}
-use Rattle.flu_top.specs.Openings.{Opening, fresh, report_from}
-use Rattle.flu_top.specs.Reading.{lines_behind}
-use Rattle.flu_top.specs.Wants.{job_wanted, plan_named, save_named, resume_named, trace_named, reads_sources, Writes}
-use Rattle.flu_top.specs.Done.{HasValidPlan, MayHaveJob, IsGood, IsDone, WhereKnown, IsReadName}
-use Rattle.flu_top.specs.Replaying.{HasCompleteTrace}
+use Rattle.flu_command.specs.Openings.{Opening, fresh, report_from}
+use Rattle.flu_command.specs.Reading.{lines_behind}
+use Rattle.flu_command.specs.Wants.{job_wanted, plan_named, save_named, resume_named, trace_named, reads_sources, Writes}
+use Rattle.flu_command.specs.Done.{HasValidPlan, MayHaveJob, IsGood, IsDone, IsReadName}
+use Rattle.flu_command.specs.Replaying.{HasCompleteTrace}
 use Rattle.flu_top.specs.Outcome.{Outside, Outcome, Faults, NothingFailed, Completes}
-use Rattle.flu_top.specs.Outcome as cases
+use Rattle.flu_lines.specs.declared.statuses.Status.TheVariants as statuses
+use Rattle.flu_command.specs.Calling as calls
+use Rattle.flu_command.specs.OneText.{TextsHaveOneJob, JobsHaveOneReport}
 use Rattle.flu_top.proofs.Completeness.{known_at}
-use Rattle.flu_top.proofs.OneRuns.{same_job}
-use Rattle.flu_top.proofs.OneCommand.{same_command, not_named}
-use Rattle.flu_top.proofs.SameReport.{same_report}
+use Rattle.flu_top.proofs.OneCommand.{not_named}
 use Rattle.flu_top.proofs.Sequence.{none_among, can_start}
-use Rattle.flu_top.proofs.Statuses.{at_0}
+use Rattle.flu_top.proofs.Statuses.{ended_at}
 
 -- ---- out
 appended : (a b : Option (List ℕ)) (text had : List ℕ) → a ≡ Some had → WhereTold a b (AppendsAll text) → b ≡ Some (had ++ text)
@@ -59,7 +59,7 @@ record AreAmong (command : Command) (job : List ℕ) (p : Program) (names : List
   trace_in : (name : List ℕ) → trace_named command ≡ Some name → Contains names name
   sources_in : (name : List ℕ) → Contains (files_of p.sources) name → Contains names name
 
-module _ (jobs : JobsAreGrammar) (command : Command) (job : List ℕ) (left : Contents) (p : Program) (names : List (List ℕ))
+module _ (one : TextsHaveOneJob) (command : Command) (job : List ℕ) (left : Contents) (p : Program) (names : List (List ℕ))
     (all : AreAmong command job p names) (has : HasJob (job_wanted command) left p) where
   read_among : (told : Option Contents) → told ≡ Some left → (name : List ℕ) → IsReadName told command name → Contains names name
   read_among told is name (inl same) =
@@ -71,7 +71,7 @@ module _ (jobs : JobsAreGrammar) (command : Command) (job : List ℕ) (left : Co
   read_among told is name (inr (inr (inr (inl source)))) =
       let q = source.p in
       let its : HasJob (job_wanted command) left q = subst (λ o. MayHaveJob o (job_wanted command) q) is source.job.has in
-      let same = same_job jobs (job_wanted command) left q p its has in
+      let same = one (job_wanted command) left q p its has in
       all.sources_in name (subst (λ (ss : List Source). Contains (files_of ss) name) (ap (λ j. j.sources) same)
       (in_files (reads_sources command) q name source.named))
   read_among told is name (inr (inr (inr (inr trace)))) = all.trace_in name trace.named
@@ -95,29 +95,27 @@ writes : (words : List (List ℕ)) (old new : Outside) (before now : Faults) (st
     → NothingFailed command old.left before now → IsGood command left p → HasCompleteTrace command left p → WritesOnly command left text
     → WritesOrNoMemory text old new status
 writes words old new before now status outcome complete command left p text word told nothing good only is =
-    elim (complete command left 0 word told nothing (cases.Good refl p good only)) [
+    elim (complete command left 0 word told nothing (calls.Good refl p good only)) [
       | inl done ↦ inl (done, λ had out. found done had out)
       | inr none ↦ inr none
     ]
   where
     found : status ≡ 0 → (had : List ℕ) → old.out ≡ Some had → new.out ≡ Some (had ++ text)
     found done had out =
-        let at = at_0 words old new status outcome done in
-        let same = same_command words at.0 command at.2 word in
-        let known = subst (λ (d : Command). WhereKnown (job_wanted d) old.left new.left (IsDone d old.out new.out at.1)) same at.3 in
-        let all = (known_at (job_wanted command) (IsDone command old.out new.out at.1) left old.left new.left told known).1 in
+        let at = ended_at words old new status outcome statuses.Done done command word in
+        let all = (known_at (job_wanted command) (IsDone command old.out new.out at.0) left old.left new.left told at.1).1 in
         appended old.out new.out text had out (subst (λ bytes. WhereTold old.out new.out (AppendsAll bytes)) (is all.0 all.1 all.2.good.has all.3) all.5)
 
 -- ---- one text
-one_report : JobsAreGrammar → (name : List ℕ) (left behind : Contents) (p q : Program) → HasJob (Named name) left p → HasJob (Named name) left q
+one_report : TextsHaveOneJob → JobsHaveOneReport → (name : List ℕ) (left behind : Contents) (p q : Program) → HasJob (Named name) left p → HasJob (Named name) left q
     → fold_report q behind ≡ fold_report p behind
-one_report jobs name left behind p q first second = same_report q p nothing_held behind (same_job jobs (Named name) left q p second first)
+one_report one report name left behind p q first second = report q p nothing_held behind (one (Named name) left q p second first)
 
-pub one_text_law : JobsAreGrammar → OneTextOneReport
-one_text_law jobs bytes p q first second left =
+pub one_text_law : JobsAreGrammar → JobsHaveOneReport → OneTextOneReport
+one_text_law jobs report bytes p q first second left =
     let e = sym ((jobs bytes (job_of p)).1 first) ∙ (jobs bytes (job_of q)).1 second in
     let same : job_of p ≡ job_of q = cc in
-    same_report p q nothing_held left same
+    report p q nothing_held left same
 
 -- ---- what is asked of each command
 no_name : (name : List ℕ) → None ≡ Some name → ⊥
@@ -157,17 +155,17 @@ fold_good job left p text good = record {
   sources = good;
 }
 
-fold_writes : JobsAreGrammar → (job : List ℕ) (left : Contents) (p : Program) → HasJob (Named job) left p
+fold_writes : TextsHaveOneJob → JobsHaveOneReport → (job : List ℕ) (left : Contents) (p : Program) → HasJob (Named job) left p
     → WritesOnly (Fold job) left (fold_report p (emptied job left))
 unfolding report_behind
-fold_writes jobs job left p text q other its is = is ∙ one_report jobs job left (emptied job left) p q text its
+fold_writes one report job left p text q other its is = is ∙ one_report one report job left (emptied job left) p q text its
 
-pub fold_law : JobsAreGrammar → FoldIsTheReport
-fold_law jobs words old new before now status outcome complete job left p word told text good none =
+pub fold_law : TextsHaveOneJob → JobsHaveOneReport → FoldIsTheReport
+fold_law one report words old new before now status outcome complete job left p word told text good none =
     writes words old new before now status outcome complete (Fold job) left p (fold_report p (emptied job left)) word told
-    (nothing_failed jobs (Fold job) job left p (job ∷ files_of p.sources) (fold_among job p) text old.left before now told none
+    (nothing_failed one (Fold job) job left p (job ∷ files_of p.sources) (fold_among job p) text old.left before now told none
     (λ name named. absurd (no_name name named)))
-    (fold_good job left p text good) (λ trace named. absurd (no_name trace named)) (fold_writes jobs job left p text)
+    (fold_good job left p text good) (λ trace named. absurd (no_name trace named)) (fold_writes one report job left p text)
 
 -- ---- run
 abbrev run_fresh : List ℕ → Option (List ℕ) → ℕ → ℕ → Bool → Option (List ℕ) → Bool → Command
@@ -200,24 +198,24 @@ run_good job plan depth rows adapt save unflushed left p some text accepted vali
       (sound p (emptied_each (job ∷ if_named plan) left) good);
 }
 
-run_writes : JobsAreGrammar → (job : List ℕ) (plan : Option (List ℕ)) (depth rows : ℕ) (adapt : Bool) (save : Option (List ℕ)) (unflushed : Bool)
+run_writes : TextsHaveOneJob → JobsHaveOneReport → (job : List ℕ) (plan : Option (List ℕ)) (depth rows : ℕ) (adapt : Bool) (save : Option (List ℕ)) (unflushed : Bool)
     → (left : Contents) (p : Program) → HasJob (Named job) left p
     → WritesOnly (run_fresh job plan depth rows adapt save unflushed) left (fold_report p (emptied_each (job ∷ if_named plan) left))
 unfolding lists_behind
-run_writes jobs job plan depth rows adapt save unflushed left p text q other its is =
+run_writes one report job plan depth rows adapt save unflushed left p text q other its is =
     is.2
     ∙ (ap (λ (o : Opening). report_from o ((job ∷ if_named plan) ++ []) left q) is.1.0
     ∙ (ap (λ (texts : List (List ℕ)). report_from (fresh rows) texts left q) (append-nil (job ∷ if_named plan))
-    ∙ one_report jobs job left (emptied_each (job ∷ if_named plan) left) p q text its))
+    ∙ one_report one report job left (emptied_each (job ∷ if_named plan) left) p q text its))
 
-pub run_law : JobsAreGrammar → RoundsHaveRows → RunIsTheFold
-run_law jobs has_rows words old new before now status outcome complete job plan depth rows adapt save unflushed left p word told text accepted valid good none puts =
+pub run_law : TextsHaveOneJob → JobsHaveOneReport → RoundsHaveRows → RunIsTheFold
+run_law one report has_rows words old new before now status outcome complete job plan depth rows adapt save unflushed left p word told text accepted valid good none puts =
     let command = run_fresh job plan depth rows adapt save unflushed in
     writes words old new before now status outcome complete command left p (fold_report p (emptied_each (job ∷ if_named plan) left)) word told
-    (nothing_failed jobs command job left p ((job ∷ if_named plan) ++ files_of p.sources) (run_among job plan depth rows adapt save unflushed p) text
+    (nothing_failed one command job left p ((job ∷ if_named plan) ++ files_of p.sources) (run_among job plan depth rows adapt save unflushed p) text
     old.left before now told none (λ name named. (puts name named).1))
     (run_good job plan depth rows adapt save unflushed left p (has_rows words job plan _ word).0 text accepted valid good (λ name named. (puts name named).0))
-    (λ trace named. absurd (no_name trace named)) (run_writes jobs job plan depth rows adapt save unflushed left p text)
+    (λ trace named. absurd (no_name trace named)) (run_writes one report job plan depth rows adapt save unflushed left p text)
 
 -- ---- simulate and replay
 simulation_among : (job plan : List ℕ) (seed : ℕ) (p : Program) → AreAmong (Simulate job plan seed false) job p ((job ∷ plan ∷ []) ++ files_of p.sources)
@@ -272,23 +270,23 @@ replay_good job plan trace left p text accepted valid good = record {
 }
 
 -- both write the report of the job behind its text and the plan's
-both_write : JobsAreGrammar → (job plan : List ℕ) (left : Contents) (p : Program) → HasJob (Named job) left p → (q : Program) (other : List ℕ)
+both_write : TextsHaveOneJob → JobsHaveOneReport → (job plan : List ℕ) (left : Contents) (p : Program) → HasJob (Named job) left p → (q : Program) (other : List ℕ)
     → HasJob (Named job) left q → other ≡ report_behind (job ∷ plan ∷ []) left q → other ≡ fold_report p (emptied plan (emptied job left))
 unfolding report_behind
-both_write jobs job plan left p text q other its is = is ∙ one_report jobs job left (emptied plan (emptied job left)) p q text its
+both_write one report job plan left p text q other its is = is ∙ one_report one report job left (emptied plan (emptied job left)) p q text its
 
-pub simulation_law : JobsAreGrammar → SimulationIsTheFold
-simulation_law jobs words old new before now status outcome complete job plan seed left p word told text accepted valid good none =
+pub simulation_law : TextsHaveOneJob → JobsHaveOneReport → SimulationIsTheFold
+simulation_law one report words old new before now status outcome complete job plan seed left p word told text accepted valid good none =
     let command = Simulate job plan seed false in
     writes words old new before now status outcome complete command left p (fold_report p (emptied plan (emptied job left))) word told
-    (nothing_failed jobs command job left p ((job ∷ plan ∷ []) ++ files_of p.sources) (simulation_among job plan seed p) text old.left before now told none
+    (nothing_failed one command job left p ((job ∷ plan ∷ []) ++ files_of p.sources) (simulation_among job plan seed p) text old.left before now told none
     (λ name named. absurd (no_name name named)))
-    (simulation_good job plan seed left p text accepted valid good) (λ trace named. absurd (no_name trace named)) (both_write jobs job plan left p text)
+    (simulation_good job plan seed left p text accepted valid good) (λ trace named. absurd (no_name trace named)) (both_write one report job plan left p text)
 
-pub replay_law : JobsAreGrammar → ReplayIsTheFold
-replay_law jobs words old new before now status outcome complete job plan trace left p word told text accepted valid good only none =
+pub replay_law : TextsHaveOneJob → JobsHaveOneReport → ReplayIsTheFold
+replay_law one report words old new before now status outcome complete job plan trace left p word told text accepted valid good only none =
     let command = Replay job plan trace in
     writes words old new before now status outcome complete command left p (fold_report p (emptied plan (emptied job left))) word told
-    (nothing_failed jobs command job left p ((job ∷ plan ∷ trace ∷ []) ++ files_of p.sources) (replay_among job plan trace p) text old.left before now told none
+    (nothing_failed one command job left p ((job ∷ plan ∷ trace ∷ []) ++ files_of p.sources) (replay_among job plan trace p) text old.left before now told none
     (λ name named. absurd (no_name name named)))
-    (replay_good job plan trace left p text accepted valid good) only (both_write jobs job plan left p text)
+    (replay_good job plan trace left p text accepted valid good) only (both_write one report job plan left p text)

@@ -1,5 +1,5 @@
 -- The job of a file's bytes, of which more than a job text may have need not be read.
-use Rattle.std.proofs.Common.{◌≡◌, ◌≢◌, refl, sym, ap, ◌∙◌, subst, ℕ, ◌≤◌, List, [], ◌++◌, length, nat_le, Bool, true, false, Option, Result, Ok, Err, arith}
+use Rattle.std.proofs.Common.{◌≡◌, ◌≢◌, refl, sym, ap, ◌∙◌, subst, ℕ, ◌≤◌, List, [], ◌++◌, length, nat_le, Bool, true, false, Option, Result, Ok, Err, Vec, Global, arith}
 use Rattle.std.proofs.Common.{append-nil, length-append}
 use Rattle.std.specs.Prelude.{IfErr}
 use Rattle.std.proofs.lemmas.Bool.Decides.{nat_tests}
@@ -15,10 +15,10 @@ use Rattle.flu_parse.specs.Faults.{Fails}
 use Rattle.flu_parse.specs.Reading.{job_in}
 use Rattle.flu_outside.specs.Taking.{TookWhole}
 use Rattle.flu_grammar.specs.Laws.{JobsAreGrammar}
-use Rattle.flu_top.specs.Behind.{Named}
+use Rattle.flu_command.specs.Behind.{Named}
 use Rattle.flu_top.specs.Jobs.{IsJobRefusal}
-use Rattle.flu_top.specs.Causes.{IsJobRead, HasJobFault}
-use Rattle.flu_top.specs.Answer.{refusal_of_job}
+use Rattle.flu_command.specs.Causes.{IsJobRead, HasJobFault}
+use Rattle.flu_lines.specs.Answer.{refusal_of_job}
 
 -- a text that is too long has the fault of its bytes, whatever stands in it
 long_job : (bytes : List ℕ) → nat_le (length bytes) 1048576 ≡ false → job_in bytes ≡ Err (f.OverLimit Bytes 1048577)
@@ -62,16 +62,17 @@ has_job_fault job bytes fault a b other whole is = record {
   first = told_weaker (TookWhole job 1048576 bytes) (λ left _. job_in (bytes_left left job) ≡ Err fault) a b (λ x y w. job_of_whole job bytes x y w ∙ is) whole;
 }
 
-pub job_is_refused : (job bytes : List ℕ) (fault : JobFault) (a b : Option Contents) (before now : List ℕ → ℕ) → WhereTold a b (TookWhole job 1048576 bytes)
-    → Fails fault (job_in bytes) → IsJobRefusal job a b before now (refusal_of_job fault)
-job_is_refused job bytes (f.BadUtf8 at) a b before now whole is = has_job_fault job bytes (f.BadUtf8 at) a b (λ e. cc) whole is
-job_is_refused job bytes (f.BadToken at) a b before now whole is = has_job_fault job bytes (f.BadToken at) a b (λ e. cc) whole is
-job_is_refused job bytes (f.Unexpected at) a b before now whole is = has_job_fault job bytes (f.Unexpected at) a b (λ e. cc) whole is
-job_is_refused job bytes (f.UnknownName at) a b before now whole is = has_job_fault job bytes (f.UnknownName at) a b (λ e. cc) whole is
-job_is_refused job bytes (f.TwiceNamed at) a b before now whole is = has_job_fault job bytes (f.TwiceNamed at) a b (λ e. cc) whole is
-job_is_refused job bytes (f.WrongShape at) a b before now whole is = has_job_fault job bytes (f.WrongShape at) a b (λ e. cc) whole is
-job_is_refused job bytes (f.OverLimit what count) a b before now whole is = has_job_fault job bytes (f.OverLimit what count) a b (λ e. cc) whole is
-job_is_refused job bytes f.NoMemory a b before now whole is = tt
+pub job_is_refused : (job : List ℕ) (text : Vec ℕ Global) (fault : JobFault) (a b : Option Contents) (before now : List ℕ → ℕ)
+    → WhereTold a b (TookWhole job 1048576 text.items)
+    → Fails fault (job_in text.items) → IsJobRefusal job a b before now (refusal_of_job fault text)
+job_is_refused job text (f.BadUtf8 at) a b before now whole is = has_job_fault job text.items (f.BadUtf8 at) a b (λ e. cc) whole is
+job_is_refused job text (f.BadToken at) a b before now whole is = has_job_fault job text.items (f.BadToken at) a b (λ e. cc) whole is
+job_is_refused job text (f.Unexpected at) a b before now whole is = has_job_fault job text.items (f.Unexpected at) a b (λ e. cc) whole is
+job_is_refused job text (f.UnknownName at) a b before now whole is = has_job_fault job text.items (f.UnknownName at) a b (λ e. cc) whole is
+job_is_refused job text (f.TwiceNamed at) a b before now whole is = has_job_fault job text.items (f.TwiceNamed at) a b (λ e. cc) whole is
+job_is_refused job text (f.WrongShape at) a b before now whole is = has_job_fault job text.items (f.WrongShape at) a b (λ e. cc) whole is
+job_is_refused job text (f.OverLimit what count) a b before now whole is = has_job_fault job text.items (f.OverLimit what count) a b (λ e. cc) whole is
+job_is_refused job text f.NoMemory a b before now whole is = tt
 
 -- what holds of the error of a result
 pub if_err_at : {T E : Type 0} (P : E → Type 0) (r : Result T E) (x : E) → (y : E) × (r ≡ Err y) × (y ≡ x) → P x → IfErr r P

@@ -1,30 +1,34 @@
 -- The laws of demos: no file is read, and so no file refuses them.
-use Rattle.std.proofs.Common.{◌≡◌, refl, sym, ◌∙◌, subst, ℕ, List, Option, Some, None, ◌⊎◌, inl, inr, arith}
+use Rattle.std.proofs.Common.{◌≡◌, ◌≢◌, refl, sym, ◌∙◌, subst, ℕ, List, [], ◌∷◌, Option, Some, None, ◌⊎◌, inl, inr, arith}
+use Rattle.std.specs.Prelude.{Contains}
 use Rattle.flu_lemmas.proofs.Containing.{contains_none}
 use Rattle.std.proofs.lemmas.Bool.{false≢true}
 use Rattle.flu_outside.specs.Outside.{Contents, WhereTold}
 use Rattle.flu_outside.specs.Writing.{AppendsAll}
 use Rattle.flu_model.specs.Erasure.{Job}
 use Rattle.flu_words.specs.Words.{Command, Demo}
-use Rattle.flu_top.specs.declared.refusals.PlanDefect.{PlanDefect}
-use Rattle.flu_top.specs.declared.refusals.PlanDefect.TheVariants as defects
-use Rattle.flu_top.specs.declared.refusals.SaveDefect.{SaveDefect}
-use Rattle.flu_top.specs.declared.refusals.SaveDefect.TheVariants as saves
-use Rattle.flu_top.specs.Behind.{Named, Fixed}
-use Rattle.flu_top.specs.Causes.{HasJobFault, HasConflict, HasPlanDefect, HasSaveDefect, HasSourceFault, HasTraceFault}
-use Rattle.flu_top.specs.Demos.{demo_job}
-use Rattle.flu_top.specs.Done.{IsDone, WhereKnown, WroteForPut, IsReadName}
+use Rattle.flu_lines.specs.declared.refusals.PlanDefect.{PlanDefect}
+use Rattle.flu_lines.specs.declared.refusals.PlanDefect.TheVariants as defects
+use Rattle.flu_lines.specs.declared.refusals.SaveDefect.{SaveDefect}
+use Rattle.flu_lines.specs.declared.refusals.SaveDefect.TheVariants as saves
+use Rattle.flu_command.specs.Behind.{Named, Fixed}
+use Rattle.flu_command.specs.Causes.{HasPlanDefect, HasSaveDefect}
+use Rattle.flu_command.specs.Demos.{demo_job}
+use Rattle.flu_command.specs.Done.{IsReadName}
 use Rattle.flu_top.specs.Laws.{DemoReadsNothing, DemoStatuses, DemoIsDone}
-use Rattle.flu_top.specs.Outcome as cases
-use Rattle.flu_top.specs.Wants.{job_wanted, save_named, resume_named}
-use Rattle.flu_top.proofs.OneCommand.{same_command, no_command, not_named}
-use Rattle.flu_top.proofs.Statuses.{at_0}
+use Rattle.flu_lines.specs.declared.statuses.Status.{Status}
+use Rattle.flu_lines.specs.declared.statuses.Status.TheVariants as statuses
+use Rattle.flu_lines.specs.Statuses.{code}
+use Rattle.flu_top.specs.Outcome.{Outside, Ended}
+use Rattle.flu_command.specs.Wants.{save_named, resume_named}
+use Rattle.flu_top.proofs.OneCommand.{same_command, not_named}
+use Rattle.flu_top.proofs.Statuses.{ended_with, ended_at}
 
 fixed_has_no_name : (job : Job) (name : List ℕ) → Fixed job ≡ Named name → ⊥
 fixed_has_no_name job name e = cc
 
 no_defect : (n seed : ℕ) (old new : Option Contents) (defect : PlanDefect) → HasPlanDefect (Demo n seed) old new defect → ⊥
-no_defect n seed old new (defects.Text fault) why = not_named None why.plan refl why.asked
+no_defect n seed old new (defects.Text fault text) why = not_named None why.plan refl why.asked
 no_defect n seed old new (defects.Invalid checked fault) why = not_named None why.plan refl why.asked
 
 no_start : (n seed : ℕ) (name : List ℕ) → (save_named (Demo n seed) ≡ Some name) ⊎ (resume_named (Demo n seed) ≡ Some name) → ⊥
@@ -46,38 +50,28 @@ pub reads_law : DemoReadsNothing
 reads_law words n seed word left name read =
     not_read n seed left name (subst (λ (d : Command). IsReadName left d name) (same_command words read.0 (Demo n seed) read.1 word) read.2)
 
+by_ended : (n seed : ℕ) (old new : Outside) (status : Status) → Ended (Demo n seed) old new status → code status ≢ 7 → Contains (0 ∷ 8 ∷ 9 ∷ []) (code status)
+by_ended n seed old new statuses.Done ended apart = (0, omega arith, refl)
+by_ended n seed old new statuses.BadWords ended apart = absurd ended
+by_ended n seed old new statuses.JobFault ended apart = absurd (fixed_has_no_name demo_job ended.1.name ended.1.named)
+by_ended n seed old new statuses.Conflict ended apart = absurd (fixed_has_no_name demo_job ended.1.name ended.1.named)
+by_ended n seed old new statuses.PlanDefect ended apart = absurd (no_defect n seed old.left new.left ended.0 ended.1)
+by_ended n seed old new statuses.SourceFault ended apart = absurd (false≢true ended.3.asked)
+by_ended n seed old new statuses.ReadFault ended apart = absurd (apart refl)
+by_ended n seed old new statuses.WriteFault ended apart = (1, omega arith, refl)
+by_ended n seed old new statuses.NoMemory ended apart = (2, omega arith, refl)
+by_ended n seed old new statuses.SaveDefect ended apart = absurd (no_save_defect n seed old.left new.left ended.0 ended.1)
+by_ended n seed old new statuses.PutFault ended apart = absurd (ended.0.saves refl)
+by_ended n seed old new statuses.TraceFault ended apart = absurd (not_named None ended.1.trace refl ended.1.named)
+
 pub statuses_law : DemoStatuses
-statuses_law words old new status before now (cases.Done is command also line done heard) faults n seed word = (0, omega arith, sym is)
-statuses_law words old new status before now (cases.BadWords is at bad files refused) faults n seed word = absurd (no_command words (Demo n seed) at word bad)
-statuses_law words old new status before now (cases.BadJob is command also fault has refused) faults n seed word =
-    let why = subst (λ (d : Command). HasJobFault (job_wanted d) old.left new.left fault) (same_command words command (Demo n seed) also word) has in
-    absurd (fixed_has_no_name demo_job why.name why.named)
-statuses_law words old new status before now (cases.Conflicts is command also fault has refused) faults n seed word =
-    let why = subst (λ (d : Command). HasConflict d old.left new.left fault) (same_command words command (Demo n seed) also word) has in
-    absurd (fixed_has_no_name demo_job why.name why.named)
-statuses_law words old new status before now (cases.BadPlan is command also defect has refused) faults n seed word =
-    absurd (no_defect n seed old.left new.left defect (subst (λ (d : Command). HasPlanDefect d old.left new.left defect)
-    (same_command words command (Demo n seed) also word) has))
-statuses_law words old new status before now (cases.BadSource is command also p fault text has wrote said) faults n seed word =
-    let why = subst (λ (d : Command). HasSourceFault d old.left new.left p fault text) (same_command words command (Demo n seed) also word) has in
-    absurd (false≢true why.asked)
-statuses_law words old new status before now (cases.ReadFailed is command also some said) faults n seed word =
-    let rose = faults.read is in absurd (reads_law words n seed word old.left rose.0 rose.1)
-statuses_law words old new status before now (cases.WriteFailed is command also partly said) faults n seed word = (1, omega arith, sym is)
-statuses_law words old new status before now (cases.NoMemory is command also some said) faults n seed word = (2, omega arith, sym is)
-statuses_law words old new status before now (cases.BadSave is command also defect has refused) faults n seed word =
-    absurd (no_save_defect n seed old.left new.left defect (subst (λ (d : Command). HasSaveDefect d old.left new.left defect)
-    (same_command words command (Demo n seed) also word) has))
-statuses_law words old new status before now (cases.PutFailed is command also some said) faults n seed word =
-    absurd ((subst (λ (d : Command). WroteForPut d old.left new.left old.out new.out) (same_command words command (Demo n seed) also word) some).saves refl)
-statuses_law words old new status before now (cases.BadTrace is command also fault has refused) faults n seed word =
-    let why = subst (λ (d : Command). HasTraceFault d old.left new.left fault) (same_command words command (Demo n seed) also word) has in
-    absurd (not_named None why.trace refl why.named)
+statuses_law words old new status before now outcome faults n seed word =
+    let found = ended_with words old new status outcome (Demo n seed) word in
+    let unread = λ (seven : code found.0 ≡ 7). let rose = faults.read (found.1 ∙ seven) in reads_law words n seed word old.left rose.0 rose.1 in
+    subst (Contains (0 ∷ 8 ∷ 9 ∷ [])) (sym found.1) (by_ended n seed old new found.0 found.2 unread)
 
 pub done_law : DemoIsDone
 done_law words old new status outcome is n seed word =
-    let found = at_0 words old new status outcome is in
-    let same = same_command words found.0 (Demo n seed) found.2 word in
-    let known = subst (λ (d : Command). WhereKnown (job_wanted d) old.left new.left (IsDone d old.out new.out found.1)) same found.3 in
-    let done = known (λ name. None) in
+    let found = ended_at words old new status outcome statuses.Done is (Demo n seed) word in
+    let done = found.1 (λ name. None) in
     (done.0, done.2.good.has, subst (λ (text : List ℕ). WhereTold old.out new.out (AppendsAll text)) done.3 done.5)

@@ -1,5 +1,5 @@
 -- What a run leaves under the name that it saves to, and what one writes that is resumed.
-use Rattle.std.proofs.Common.{◌≡◌, ◌⊎◌, refl, sym, ap, ◌∙◌, subst, ℕ, ◌≤◌, ◌<◌, List, [], ◌∷◌, ◌++◌, take, Option, Some, None, Ok, inl, inr, append_assoc, append-nil, arith}
+use Rattle.std.proofs.Common.{◌≡◌, ◌⊎◌, refl, sym, ap, ◌∙◌, subst, ℕ, ◌≤◌, ◌<◌, List, [], ◌∷◌, ◌++◌, take, Option, Some, None, inl, inr, append_assoc, append-nil, arith}
 use Rattle.flu_lemmas.proofs.Told.{told_weaker}
 use Rattle.flu_outside.specs.Outside.{WhereTold, Contents}
 use Rattle.flu_outside.specs.Taking.{bytes_left}
@@ -7,19 +7,22 @@ use Rattle.flu_outside.specs.Writing.{AppendsAll}
 use Rattle.flu_model.specs.declared.jobs.Program.{Program}
 use Rattle.flu_save.specs.Laws.{LawOfOneMeaning}
 use Rattle.flu_streams.specs.declared.faults.SourceFault.{SourceFault}
-use Rattle.flu_words.specs.Words.{Command, Run, RunOptions, command_in}
-use Rattle.flu_top.specs.Behind.{Named, HasJob, emptied_each}
-use Rattle.flu_top.specs.Openings.{Opening, Opens, OpensAt, report_from, state_from}
-use Rattle.flu_top.specs.Starting.{StartsFrom, CanStart, IsAsBefore, Leaves, LeavesPut}
-use Rattle.flu_top.specs.Wants.{if_named, job_wanted, how_read, texts_named}
-use Rattle.flu_top.specs.Reading.{InRounds, HaveWritten, MeetsDefect, ReportsNext, greatest_border, lines_behind}
-use Rattle.flu_top.specs.Done.{HasPlanAsked, IsDone, WhereKnown, AppendsInto, Wrote}
-use Rattle.flu_top.specs.Done.{WroteNone, WroteRounds, WroteSome, WroteUnsaved, WroteForMemory, WroteIntoRound, WrotePart}
-use Rattle.flu_top.specs.Causes.{HasSourceFault, IsMetInRounds}
-use Rattle.flu_top.specs.Outcome.{Outside, Outcome}
-use Rattle.flu_top.specs.Outcome as cases
-use Rattle.flu_top.specs.Resuming.{BeginsWith, HasPut, Behind, AtTheEnd, HasLeft, MayHaveSaved, RunsLeaveCheckpoints, ResumedRunsWriteTheRest}
-use Rattle.flu_top.proofs.OneCommand.{same_command}
+use Rattle.flu_words.specs.Words.{Command, Run, RunOptions}
+use Rattle.flu_command.specs.Behind.{Named, HasJob, emptied_each}
+use Rattle.flu_command.specs.Openings.{Opening, Opens, OpensAt, report_from}
+use Rattle.flu_command.specs.Starting.{StartsFrom, CanStart, IsAsBefore, Leaves, LeavesPut}
+use Rattle.flu_command.specs.Wants.{if_named, texts_named}
+use Rattle.flu_command.specs.Reading.{InRounds, HaveWritten, ReportsNext, lines_behind}
+use Rattle.flu_command.specs.Done.{HasPlanAsked, IsDone, AppendsInto}
+use Rattle.flu_command.specs.Done.{WroteNone, WroteRounds, WroteSome, WroteUnsaved, WroteForMemory, WroteIntoRound}
+use Rattle.flu_command.specs.Resting.{Behind, AtTheEnd}
+use Rattle.flu_command.specs.Causes.{HasSourceFault, IsMetInRounds}
+use Rattle.flu_lines.specs.declared.statuses.Status.{Status}
+use Rattle.flu_lines.specs.declared.statuses.Status.TheVariants as statuses
+use Rattle.flu_lines.specs.Statuses.{code}
+use Rattle.flu_top.specs.Outcome.{Outside, Ended}
+use Rattle.flu_top.specs.Resuming.{BeginsWith, HasLeft, MayHaveSaved, RunsLeaveCheckpoints, ResumedRunsWriteTheRest}
+use Rattle.flu_top.proofs.Statuses.{ended_with, ended_at}
 
 -- ---- openings
 -- bytes open in one way, with a number of rows
@@ -43,10 +46,6 @@ begins_more text more before now wrote = (more, wrote ∙ sym (append_assoc befo
 
 begins_into : (text more before now : List ℕ) → AppendsInto text more before now → BeginsWith text before now
 begins_into text more before now wrote = (take wrote.0 more, wrote.2)
-
-no_rounds : (status n : ℕ) → MayHaveSaved status → status ≡ n → (n ≡ 0 → ⊥) → (6 ≤ n → n ≤ 9 → ⊥) → ⊥
-no_rounds status n (inl none) is not0 not = not0 (sym is ∙ none)
-no_rounds status n (inr both) is not0 not = not (subst (λ m. 6 ≤ m) is both.0) (subst (λ m. m ≤ 9) is both.1)
 
 module _ (meaning : LawOfOneMeaning) (job : List ℕ) (plan : Option (List ℕ)) (options : RunOptions) (file : List ℕ) (saves : options.save ≡ Some file) where
   abbrev whole : Command
@@ -158,40 +157,20 @@ module _ (meaning : LawOfOneMeaning) (job : List ℕ) (plan : Option (List ℕ))
   by_memory a b had has (inl some) = by_some a b had has some
   by_memory a b had has (inr wrote) = by_unsaved a b had has wrote
 
-  by_case : (words : List (List ℕ)) (old new : Outside) (status : ℕ) → Outcome words old new status → MayHaveSaved status → command_in words ≡ Ok whole
-      → WhereTold old.left new.left (Left old.out new.out)
-  by_case words old new status (cases.Done is command also line done heard) may word =
-      by_done old.left new.left old.out new.out line
-      (subst (λ (d : Command). WhereKnown (job_wanted d) old.left new.left (IsDone d old.out new.out line)) (same_command words command whole also word) done)
-  by_case words old new status (cases.BadWords is at bad files refused) may word = absurd (no_rounds status 2 may is (λ e. cc) (λ low high. omega (arith, low)))
-  by_case words old new status (cases.BadJob is command also fault has refused) may word =
-      absurd (no_rounds status 3 may is (λ e. cc) (λ low high. omega (arith, low)))
-  by_case words old new status (cases.Conflicts is command also fault has refused) may word =
-      absurd (no_rounds status 4 may is (λ e. cc) (λ low high. omega (arith, low)))
-  by_case words old new status (cases.BadPlan is command also defect has refused) may word =
-      absurd (no_rounds status 5 may is (λ e. cc) (λ low high. omega (arith, low)))
-  by_case words old new status (cases.BadSource is command also q fault text has wrote said) may word =
-      let same = same_command words command whole also word in
-      by_defect old.left new.left old.out new.out q fault text (subst (λ (d : Command). HasSourceFault d old.left new.left q fault text) same has)
-      (subst (λ (d : Command). Wrote (how_read d) text old.out new.out) same wrote)
-  by_case words old new status (cases.ReadFailed is command also some said) may word =
-      by_some old.left new.left old.out new.out
-      (subst (λ (d : Command). WroteSome (how_read d) d old.left new.left old.out new.out) (same_command words command whole also word) some)
-  by_case words old new status (cases.WriteFailed is command also partly said) may word =
-      by_part old.left new.left old.out new.out
-      (subst (λ (d : Command). WrotePart (how_read d) d old.left new.left old.out new.out) (same_command words command whole also word) partly)
-  by_case words old new status (cases.NoMemory is command also some said) may word =
-      by_memory old.left new.left old.out new.out
-      (subst (λ (d : Command). WroteForMemory (how_read d) d old.left new.left old.out new.out) (same_command words command whole also word) some)
-  by_case words old new status (cases.BadSave is command also defect has refused) may word =
-      absurd (no_rounds status 11 may is (λ e. cc) (λ low high. omega (arith, high)))
-  by_case words old new status (cases.PutFailed is command also wrote said) may word =
-      absurd (no_rounds status 12 may is (λ e. cc) (λ low high. omega (arith, high)))
-  by_case words old new status (cases.BadTrace is command also fault has refused) may word =
-      absurd (no_rounds status 13 may is (λ e. cc) (λ low high. omega (arith, high)))
+  by_ended : (old new : Outside) (status : Status) → Ended whole old new status → MayHaveSaved (code status) → WhereTold old.left new.left (Left old.out new.out)
+  by_ended old new statuses.Done ended may = by_done old.left new.left old.out new.out ended.0 ended.1
+  by_ended old new statuses.BadWords ended may = absurd ended
+  by_ended old new statuses.SourceFault ended may = by_defect old.left new.left old.out new.out ended.0 ended.1 ended.2 ended.3 ended.4
+  by_ended old new statuses.ReadFault ended may = by_some old.left new.left old.out new.out ended.0
+  by_ended old new statuses.WriteFault ended may = by_part old.left new.left old.out new.out ended.0
+  by_ended old new statuses.NoMemory ended may = by_memory old.left new.left old.out new.out ended.0
+  by_ended old new status ended (inl none) = absurd (omega (arith, none))
+  by_ended old new status ended (inr both) = absurd (omega (arith, both.0, both.1))
 
 pub runs_leave : LawOfOneMeaning → RunsLeaveCheckpoints
-runs_leave meaning words old new status outcome may job plan options file word saves = by_case meaning job plan options file saves words old new status outcome may word
+runs_leave meaning words old new status outcome may job plan options file word saves =
+    let found = ended_with words old new status outcome (Run job plan options) word in
+    by_ended meaning job plan options file saves old new found.0 found.2 (subst MayHaveSaved found.1 may)
 
 -- ---- a run that is resumed
 module _ (job : List ℕ) (plan : Option (List ℕ)) (options : RunOptions) (file : List ℕ) (resumes : options.resume ≡ Some file) where
@@ -218,22 +197,7 @@ module _ (job : List ℕ) (plan : Option (List ℕ)) (options : RunOptions) (fil
         ),
       )) done
 
-  rest_by_case : (words : List (List ℕ)) (old new : Outside) (status : ℕ) → Outcome words old new status → status ≡ 0 → command_in words ≡ Ok resumed
-      → WhereTold old.left new.left (Rest old.out new.out)
-  rest_by_case words old new status (cases.Done is command also line done heard) zero word =
-      rest_written old.left new.left old.out new.out line
-      (subst (λ (d : Command). WhereKnown (job_wanted d) old.left new.left (IsDone d old.out new.out line)) (same_command words command resumed also word) done)
-  rest_by_case words old new status (cases.BadWords is at bad files refused) zero word = absurd (let e : 2 ≡ 0 = sym is ∙ zero in cc)
-  rest_by_case words old new status (cases.BadJob is command also fault has refused) zero word = absurd (let e : 3 ≡ 0 = sym is ∙ zero in cc)
-  rest_by_case words old new status (cases.Conflicts is command also fault has refused) zero word = absurd (let e : 4 ≡ 0 = sym is ∙ zero in cc)
-  rest_by_case words old new status (cases.BadPlan is command also defect has refused) zero word = absurd (let e : 5 ≡ 0 = sym is ∙ zero in cc)
-  rest_by_case words old new status (cases.BadSource is command also q fault text has wrote said) zero word = absurd (let e : 6 ≡ 0 = sym is ∙ zero in cc)
-  rest_by_case words old new status (cases.ReadFailed is command also some said) zero word = absurd (let e : 7 ≡ 0 = sym is ∙ zero in cc)
-  rest_by_case words old new status (cases.WriteFailed is command also partly said) zero word = absurd (let e : 8 ≡ 0 = sym is ∙ zero in cc)
-  rest_by_case words old new status (cases.NoMemory is command also some said) zero word = absurd (let e : 9 ≡ 0 = sym is ∙ zero in cc)
-  rest_by_case words old new status (cases.BadSave is command also defect has refused) zero word = absurd (let e : 11 ≡ 0 = sym is ∙ zero in cc)
-  rest_by_case words old new status (cases.PutFailed is command also wrote said) zero word = absurd (let e : 12 ≡ 0 = sym is ∙ zero in cc)
-  rest_by_case words old new status (cases.BadTrace is command also fault has refused) zero word = absurd (let e : 13 ≡ 0 = sym is ∙ zero in cc)
-
 pub resumed_write : ResumedRunsWriteTheRest
-resumed_write words old new outcome job plan options file word resumes = rest_by_case job plan options file resumes words old new 0 outcome refl word
+resumed_write words old new outcome job plan options file word resumes =
+    let found = ended_at words old new 0 outcome statuses.Done refl (Run job plan options) word in
+    rest_written job plan options file resumes old.left new.left old.out new.out found.0 found.1

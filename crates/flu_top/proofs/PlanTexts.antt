@@ -1,5 +1,5 @@
 -- The plan of a file's bytes, of which more than a plan text may have need not be read.
-use Rattle.std.proofs.Common.{◌≡◌, ◌≢◌, refl, sym, ap, ◌∙◌, ℕ, ◌≤◌, List, [], ◌++◌, length, nat_le, Bool, true, false, Option, Ok, Err, arith, append-nil}
+use Rattle.std.proofs.Common.{◌≡◌, ◌≢◌, refl, sym, ap, ◌∙◌, ℕ, ◌≤◌, List, [], ◌++◌, length, nat_le, Bool, true, false, Option, Ok, Err, Vec, Global, arith, append-nil}
 use Rattle.std.proofs.Common.{length-append}
 use Rattle.std.proofs.lemmas.Bool.Decides.{nat_tests}
 use Rattle.flu_outside.specs.Outside.{WhereTold, Contents}
@@ -15,7 +15,7 @@ use Rattle.flu_plan.specs.Reading.{plan_in}
 use Rattle.flu_outside.specs.Taking.{TookWhole}
 use Rattle.flu_grammar.specs.Laws.{PlansAreGrammar}
 use Rattle.flu_top.specs.Plans.{IsPlanRead, HasTextFault, IsTextRefusal}
-use Rattle.flu_top.specs.Answer.{refusal_of_plan}
+use Rattle.flu_lines.specs.Answer.{refusal_of_plan}
 
 -- a text that is too long has the fault of its bytes, whatever stands in it
 long_plan : (p : Program) (bytes : List ℕ) → nat_le (length bytes) 1048576 ≡ false → plan_in p bytes ≡ Err (f.OverLimit Bytes 1048577)
@@ -59,11 +59,11 @@ has_text_fault p plan bytes fault a b other whole is = record {
       (λ x y w. plan_of_whole p plan bytes x y w ∙ is) whole;
 }
 
-pub plan_is_refused : (p : Program) (plan bytes : List ℕ) (fault : PlanFault) (a b : Option Contents) (before now : List ℕ → ℕ)
-    → WhereTold a b (TookWhole plan 1048576 bytes) → Fails fault (plan_in p bytes) → IsTextRefusal p plan a b before now (refusal_of_plan fault)
-plan_is_refused p plan bytes (f.BadToken at) a b before now whole is = has_text_fault p plan bytes (f.BadToken at) a b (λ e. cc) whole is
-plan_is_refused p plan bytes (f.Unexpected at) a b before now whole is = has_text_fault p plan bytes (f.Unexpected at) a b (λ e. cc) whole is
-plan_is_refused p plan bytes (f.UnknownName at) a b before now whole is = has_text_fault p plan bytes (f.UnknownName at) a b (λ e. cc) whole is
-plan_is_refused p plan bytes (f.NotATree name) a b before now whole is = has_text_fault p plan bytes (f.NotATree name) a b (λ e. cc) whole is
-plan_is_refused p plan bytes (f.OverLimit what count) a b before now whole is = has_text_fault p plan bytes (f.OverLimit what count) a b (λ e. cc) whole is
-plan_is_refused p plan bytes f.NoMemory a b before now whole is = tt
+pub plan_is_refused : (p : Program) (plan : List ℕ) (text : Vec ℕ Global) (fault : PlanFault) (a b : Option Contents) (before now : List ℕ → ℕ)
+    → WhereTold a b (TookWhole plan 1048576 text.items) → Fails fault (plan_in p text.items) → IsTextRefusal p plan a b before now (refusal_of_plan fault text)
+plan_is_refused p plan text (f.BadToken at) a b before now whole is = has_text_fault p plan text.items (f.BadToken at) a b (λ e. cc) whole is
+plan_is_refused p plan text (f.Unexpected at) a b before now whole is = has_text_fault p plan text.items (f.Unexpected at) a b (λ e. cc) whole is
+plan_is_refused p plan text (f.UnknownName at) a b before now whole is = has_text_fault p plan text.items (f.UnknownName at) a b (λ e. cc) whole is
+plan_is_refused p plan text (f.NotATree name) a b before now whole is = has_text_fault p plan text.items (f.NotATree name) a b (λ e. cc) whole is
+plan_is_refused p plan text (f.OverLimit what count) a b before now whole is = has_text_fault p plan text.items (f.OverLimit what count) a b (λ e. cc) whole is
+plan_is_refused p plan text f.NoMemory a b before now whole is = tt

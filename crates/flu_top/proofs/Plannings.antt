@@ -4,8 +4,8 @@ use Rattle.flu_outside.specs.Outside.{WhereTold, Contents}
 use Rattle.flu_model.specs.declared.jobs.Program.{Program}
 use Rattle.flu_lemmas.proofs.Told.{told_weaker}
 use Rattle.flu_words.specs.Words.{Plan}
-use Rattle.flu_top.specs.Done.{IsWritten}
-use Rattle.flu_top.specs.Causes.{IsJobRead}
+use Rattle.flu_command.specs.Done.{IsWritten}
+use Rattle.flu_command.specs.Causes.{IsJobRead}
 use Rattle.flu_top.specs.Planning.{IsPlanned}
 use Rattle.flu_top.proofs.Sequence.{only_one, can_start, has_saved}
 

@@ -25,19 +25,19 @@ use Rattle.flu_trace.specs.declared.faults.ReplayFault.{ReplayFault}
 use Rattle.flu_trace.specs.declared.faults.ReplayFault.TheVariants as traces
 use Rattle.flu_trace.specs.Replaying.{Ending, Complete, IsReplayed, ending_of}
 use Rattle.flu_words.specs.Words.{Replay}
-use Rattle.flu_top.specs.declared.refusals.Refusal.{Refusal}
-use Rattle.flu_top.specs.declared.refusals.Refusal.TheVariants as refusals
-use Rattle.flu_top.specs.Answer.{refusal_of_replay}
-use Rattle.flu_top.specs.Taking.{TookOnly}
-use Rattle.flu_top.specs.Emptied.{emptied, emptied_each}
-use Rattle.flu_top.specs.Starting.{AreNoSources}
-use Rattle.flu_top.specs.Done.{IsGood, IsReadName, IsTraceName, IsWritten}
-use Rattle.flu_top.specs.Ready.{HasNodes, IsReady}
-use Rattle.flu_top.specs.ReadFaults.{InTrace}
+use Rattle.flu_lines.specs.declared.refusals.Refusal.{Refusal}
+use Rattle.flu_lines.specs.declared.refusals.Refusal.TheVariants as refusals
+use Rattle.flu_lines.specs.Answer.{refusal_of_replay}
+use Rattle.flu_command.specs.Taking.{TookOnly}
+use Rattle.flu_command.specs.Emptied.{emptied, emptied_each}
+use Rattle.flu_command.specs.Starting.{AreNoSources}
+use Rattle.flu_command.specs.Done.{IsGood, IsReadName, IsTraceName, IsWritten}
+use Rattle.flu_command.specs.Ready.{HasNodes, IsReady}
+use Rattle.flu_command.specs.ReadFaults.{InTrace}
 use Rattle.flu_top.specs.Refusing.{IsRefusal}
-use Rattle.flu_top.specs.Replaying.{EndsOnNet, EndsBehind, ReplaysTo, trace_in}
+use Rattle.flu_command.specs.Replaying.{EndsOnNet, EndsBehind, ReplaysTo, trace_in}
 use Rattle.flu_top.specs.Replays.{IsNetRefusal, IsReplayDone, IsReadIn, StaysEnded, IsReplayRefusal}
-use Rattle.flu_top.specs.Simulating.{from_nothing}
+use Rattle.flu_command.specs.Simulating.{from_nothing}
 use Rattle.flu_top.proofs.Sequence.{among, only_one, same_or_apart, read_at, good_at, report_at, report_refusal, text_is_read, source_name_is_read}
 use Rattle.flu_top.proofs.Sequence.{stays_ended, NamesNoCheckpoint, no_sources, can_start}
 
@@ -194,7 +194,7 @@ pub behind_refusal : (p : Program) (nodes : List Node) (lists : List (List Item)
     → WhereTold a b (AreRead p lists) → WhereTold b c (TakesFrom trace) → ((n : List ℕ) → k n ≤ l n) → IsNetRefusal p nodes lists trace b c l m refusal
     → IsReplayRefusal p nodes trace a c k m refusal
 behind_refusal p nodes lists trace a b c k l m (refusals.BadWords bad) read taken rise is = is
-behind_refusal p nodes lists trace a b c k l m (refusals.JobFault fault) read taken rise is = is
+behind_refusal p nodes lists trace a b c k l m (refusals.JobFault fault text) read taken rise is = is
 behind_refusal p nodes lists trace a b c k l m (refusals.Conflict fault) read taken rise is = is
 behind_refusal p nodes lists trace a b c k l m (refusals.PlanDefect defect) read taken rise is = is
 behind_refusal p nodes lists trace a b c k l m (refusals.SourceFault job fault) read taken rise is = absurd is
@@ -276,7 +276,7 @@ module _ (job plan trace : List ℕ) (p : Program) (nodes : List Node) (a b c : 
   pub replay_refusal : (k l m : List ℕ → ℕ) (refusal : Refusal) → ((n : List ℕ) → k n ≤ l n) → IsReplayRefusal p nodes trace b c l m refusal
       → IsRefusal (Replay job plan trace) a c k m refusal
   replay_refusal k l m (refusals.BadWords bad) rise is = is
-  replay_refusal k l m (refusals.JobFault fault) rise is = absurd is
+  replay_refusal k l m (refusals.JobFault fault text) rise is = absurd is
   replay_refusal k l m (refusals.Conflict fault) rise is = absurd is
   replay_refusal k l m (refusals.PlanDefect defect) rise is = absurd is
   replay_refusal k l m (refusals.SourceFault q fault) rise is = report_refusal (Replay job plan trace) p a b c k l m (refusals.SourceFault q fault) refl

@@ -37,19 +37,19 @@ use Rattle.flu_rounds.specs.Counting.{LawOfLastCounts}
 use Rattle.flu_rounds.specs.Written.{RanFrom, WouldWriteFrom, lines_in, text_up_from}
 use Rattle.flu_rounds.specs.Standing.{Standing, IsFirstFrom, Runs, IsRoundOf, IsSourceFault, StandsBehind, round_lists, round_report}
 use Rattle.flu_save.specs.Checkpoint.{save}
-use Rattle.flu_top.specs.declared.products.Said.{Said}
+use Rattle.flu_lines.specs.declared.products.Said.{Said}
 use Rattle.flu_top.specs.declared.running.RunFault.{RunFault}
 use Rattle.flu_top.specs.declared.running.RunFault.TheVariants.{Round, Unsaved}
-use Rattle.flu_top.specs.Done.{AppendsInto}
+use Rattle.flu_command.specs.Done.{AppendsInto}
 use Rattle.flu_top.specs.Ending.{Call, call}
-use Rattle.flu_top.specs.Openings.{Opening}
-use Rattle.flu_top.specs.Products.{line_said}
-use Rattle.flu_top.specs.Reading.{HaveWritten, MeetsDefect, ReportsNext, put_by, greatest_border}
+use Rattle.flu_command.specs.Openings.{Opening}
+use Rattle.flu_lines.specs.Products.{line_said}
+use Rattle.flu_command.specs.Reading.{HaveWritten, MeetsDefect, ReportsNext, put_by, greatest_border}
 use Rattle.flu_top.specs.Running.{GoesOn, StaysWithin, IsAllRun, HasFailed, RanAll, RanToDefect, RanSome, RanInto, RanUnsaved, EndsRounds, Steps, PutsAt, PutFailed}
 use Rattle.flu_top.specs.Running.{IsSavedTo, border_at, borders_above, put_behind}
 use Rattle.flu_top.specs.Running.{IsPlanSaid, IsWithin, SaysCounts, SaysPlan, all_lists}
-use Rattle.flu_top.specs.Starting.{IsNoSource, LeavesPut, LeavesAnything}
-use Rattle.flu_top.specs.Taking.{TookOnly, TookFrontsBut}
+use Rattle.flu_command.specs.Starting.{IsNoSource, LeavesPut, LeavesAnything}
+use Rattle.flu_command.specs.Taking.{TookOnly, TookFrontsBut}
 
 -- ---- each border is later than the one before it
 pub borders_fall : (above : Option ℕ) (t : ℕ) (next : Option ℕ) → IsNewBorder above (At t) → next ≡ Some t → borders_above next < borders_above above

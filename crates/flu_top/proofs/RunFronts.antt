@@ -9,31 +9,28 @@ use Rattle.flu_model.specs.declared.jobs.Program.{Program}
 use Rattle.flu_model.specs.Contents.{nothing_held, Contents as State}
 use Rattle.flu_model.specs.Folding.{final_outputs}
 use Rattle.flu_model.specs.Reports.{report}
-use Rattle.flu_grammar.specs.Laws.{JobsAreGrammar}
+use Rattle.flu_command.specs.Mending.{AreMended, MendedRoundsGoOn}
+use Rattle.flu_command.specs.OneText.{TextsHaveOneJob, JobsHaveGoodSources, JobsHaveMendedSources, GoodSourcesHaveNone, StartsHaveRows}
 use Rattle.flu_streams.specs.Borders.{LawOfBorders, ItemsAreCut, up_to, beyond}
 use Rattle.flu_streams.specs.declared.faults.SourceFault.{SourceFault}
 use Rattle.flu_streams.specs.Good.{lists_of}
 use Rattle.flu_rounds.specs.Coming.{LawOfReportFronts, LawOfNextReportFronts}
 use Rattle.flu_rounds.specs.Written.{AreSound, RanFrom, lines_in, lists_above}
 use Rattle.flu_words.specs.Words.{Command, Run, RunOptions, command_in}
-use Rattle.flu_top.specs.Behind.{Named, HasJob, emptied_each, lists_behind, report_behind}
-use Rattle.flu_top.specs.Openings.{Opening, report_from}
-use Rattle.flu_top.specs.Starting.{StartsFrom, CanStart, Leaves, LeavesAnything}
-use Rattle.flu_top.specs.Wants.{job_wanted, if_named, how_read, texts_named}
-use Rattle.flu_top.specs.Mended.{AreMended, RunsWriteFrontsOfMended}
-use Rattle.flu_top.specs.Reading.{InRounds, HasDefect, HaveWritten, ReportsNext, lines_behind}
-use Rattle.flu_top.specs.Done.{HasPlanAsked, IsGood, IsDone, WhereKnown, AppendsInto, Wrote}
-use Rattle.flu_top.specs.Done.{WroteRounds, WroteSome, WroteUnsaved, WroteForMemory, WroteForPut, WroteIntoRound, WrotePart}
-use Rattle.flu_top.specs.Causes.{HasSourceFault, IsMetInRounds}
-use Rattle.flu_top.specs.Outcome.{Outside, Outcome}
-use Rattle.flu_top.specs.Outcome as cases
+use Rattle.flu_command.specs.Behind.{Named, HasJob, emptied_each, lists_behind, report_behind}
+use Rattle.flu_command.specs.Openings.{Opening, report_from}
+use Rattle.flu_command.specs.Starting.{StartsFrom, CanStart, Leaves, LeavesAnything}
+use Rattle.flu_command.specs.Wants.{if_named, texts_named}
+use Rattle.flu_top.specs.Mended.{RunsWriteFrontsOfMended}
+use Rattle.flu_command.specs.Reading.{InRounds, HasDefect, HaveWritten, ReportsNext, lines_behind}
+use Rattle.flu_command.specs.Done.{HasPlanAsked, IsGood, IsDone, AppendsInto}
+use Rattle.flu_command.specs.Done.{WroteRounds, WroteSome, WroteUnsaved, WroteForMemory, WroteIntoRound}
+use Rattle.flu_command.specs.Causes.{HasSourceFault, IsMetInRounds}
+use Rattle.flu_lines.specs.declared.statuses.Status.{Status}
+use Rattle.flu_lines.specs.declared.statuses.Status.TheVariants as statuses
+use Rattle.flu_top.specs.Outcome.{Outside, Ended, Outcome}
 use Rattle.flu_top.specs.Laws.{RunsWriteFronts, FreshRunsReportTheFold, ResumedRunsGoOn}
-use Rattle.flu_top.proofs.OneRuns.{same_job}
-use Rattle.flu_top.proofs.Defects.{good_or_bad}
-use Rattle.flu_top.proofs.Mendings.{ran_of_mended, next_of_mended}
-use Rattle.flu_top.proofs.SameJob.{same_good, same_mended}
-use Rattle.flu_top.proofs.OneCommand.{same_command, no_command}
-use Rattle.flu_top.proofs.Starts.{starts_some}
+use Rattle.flu_top.proofs.Statuses.{ended_with}
 
 -- ---- bytes
 -- a front of a text stands behind what was there
@@ -68,6 +65,20 @@ ReportFronts = (border : Option ℕ) (opening : State) → LawOfReportFronts bor
 abbrev NextReportFronts : Type 0
 NextReportFronts = (border : Option ℕ) (opening : State) → LawOfNextReportFronts border opening
 
+-- what is used of a run, of good sources and of mended ones
+pub record LawsOfFronts : Type 0 where
+  pub one_job : TextsHaveOneJob
+  pub rows : StartsHaveRows
+  pub good : JobsHaveGoodSources
+  pub fronts : ReportFronts
+  pub nexts : NextReportFronts
+
+pub record LawsOfMending : Type 0 where
+  pub of_fronts : LawsOfFronts
+  pub mended : JobsHaveMendedSources
+  pub none : GoodSourcesHaveNone
+  pub goes_on : MendedRoundsGoOn
+
 -- the report of mended sources, from an opening
 abbrev mended_report : Contents → Program → Opening → List ℕ
 mended_report mended q o = report q (final_outputs q o.cells (lists_above o.border (lists_of q mended)))
@@ -78,8 +89,8 @@ BeginsWith text front = (rest : List ℕ) × (text ≡ front ++ rest)
 
 -- a run that can start, where what each program writes from an opening begins with what any rounds have written, with the report of one
 -- round more, and with the report of all events where the run is done
-module _ (job : List ℕ) (plan : Option (List ℕ)) (options : RunOptions) (left : Contents) (p : Program) (has_job : HasJob (Named job) left p)
-    (start : CanStart (Run job plan options) left p) (written : Program → Opening → List ℕ)
+module _ (starts_some : StartsHaveRows) (job : List ℕ) (plan : Option (List ℕ)) (options : RunOptions) (left : Contents) (p : Program)
+    (has_job : HasJob (Named job) left p) (start : CanStart (Run job plan options) left p) (written : Program → Opening → List ℕ)
     (front_of : (q : Program) (o : Opening) (border : Option ℕ) (text : List ℕ) → HasJob (Named job) left q → 1 ≤ o.rows
     → RanFrom q o.rows o.border o.cells (lines_behind (texts_named (Run job plan options)) left q) border text → BeginsWith (written q o) text)
     (next_of : (q : Program) (o : Opening) (text more : List ℕ) (put : Option (List ℕ)) → HasJob (Named job) left q → 1 ≤ o.rows
@@ -195,107 +206,91 @@ module _ (job : List ℕ) (plan : Option (List ℕ)) (options : RunOptions) (lef
   memory_written a b had has told (inl some) = rounds_or_nothing a b had has told some
   memory_written a b had has told (inr wrote) = unsaved_written (Leaves whole) a b had has told wrote
 
-  by_case : (words : List (List ℕ)) (old new : Outside) (status : ℕ) → Outcome words old new status → command_in words ≡ Ok whole → old.left ≡ Some left
-      → HasFront written whole job left old.out new.out
-  by_case words old new status (cases.Done is command also line done heard) word told =
-      done_written old.left new.left old.out new.out line told
-      (subst (λ (d : Command). WhereKnown (job_wanted d) old.left new.left (IsDone d old.out new.out line)) (same_command words command whole also word) done)
-  by_case words old new status (cases.BadWords is at bad files refused) word told = absurd (no_command words whole at word bad)
-  by_case words old new status (cases.BadJob is command also fault has refused) word told = nothing old.out new.out refused.nothing
-  by_case words old new status (cases.Conflicts is command also fault has refused) word told = nothing old.out new.out refused.nothing
-  by_case words old new status (cases.BadPlan is command also defect has refused) word told = nothing old.out new.out refused.nothing
-  by_case words old new status (cases.BadSource is command also q fault text has wrote said) word told =
-      let same = same_command words command whole also word in
-      met_written old.left new.left old.out new.out q fault text told (subst (λ (d : Command). HasSourceFault d old.left new.left q fault text) same has)
-      (subst (λ (d : Command). Wrote (how_read d) text old.out new.out) same wrote)
-  by_case words old new status (cases.ReadFailed is command also some said) word told =
-      rounds_or_nothing old.left new.left old.out new.out told
-      (subst (λ (d : Command). WroteSome (how_read d) d old.left new.left old.out new.out) (same_command words command whole also word) some)
-  by_case words old new status (cases.WriteFailed is command also partly said) word told =
-      part_written old.left new.left old.out new.out told
-      (subst (λ (d : Command). WrotePart (how_read d) d old.left new.left old.out new.out) (same_command words command whole also word) partly)
-  by_case words old new status (cases.NoMemory is command also some said) word told =
-      memory_written old.left new.left old.out new.out told
-      (subst (λ (d : Command). WroteForMemory (how_read d) d old.left new.left old.out new.out) (same_command words command whole also word) some)
-  by_case words old new status (cases.BadSave is command also defect has refused) word told = nothing old.out new.out refused.nothing
-  by_case words old new status (cases.PutFailed is command also some said) word told =
-      unsaved_written LeavesAnything old.left new.left old.out new.out told
-      (subst (λ (d : Command). WroteForPut d old.left new.left old.out new.out) (same_command words command whole also word) some)
-  by_case words old new status (cases.BadTrace is command also fault has refused) word told = nothing old.out new.out refused.nothing
+  by_ended : (old new : Outside) (status : Status) → Ended whole old new status → old.left ≡ Some left → HasFront written whole job left old.out new.out
+  by_ended old new statuses.Done ended told = done_written old.left new.left old.out new.out ended.0 told ended.1
+  by_ended old new statuses.BadWords ended told = absurd ended
+  by_ended old new statuses.JobFault ended told = nothing old.out new.out ended.2.nothing
+  by_ended old new statuses.Conflict ended told = nothing old.out new.out ended.2.nothing
+  by_ended old new statuses.PlanDefect ended told = nothing old.out new.out ended.2.nothing
+  by_ended old new statuses.SourceFault ended told = met_written old.left new.left old.out new.out ended.0 ended.1 ended.2 told ended.3 ended.4
+  by_ended old new statuses.ReadFault ended told = rounds_or_nothing old.left new.left old.out new.out told ended.0
+  by_ended old new statuses.WriteFault ended told = part_written old.left new.left old.out new.out told ended.0
+  by_ended old new statuses.NoMemory ended told = memory_written old.left new.left old.out new.out told ended.0
+  by_ended old new statuses.SaveDefect ended told = nothing old.out new.out ended.2.nothing
+  by_ended old new statuses.PutFault ended told = unsaved_written LeavesAnything old.left new.left old.out new.out told ended.0
+  by_ended old new statuses.TraceFault ended told = nothing old.out new.out ended.2.nothing
 
   pub what_was_written : (words : List (List ℕ)) (old new : Outside) (status : ℕ) → Outcome words old new status → command_in words ≡ Ok (Run job plan options)
       → old.left ≡ Some left
       → (q : Program) × HasJob (Named job) left q
       × ((o : Opening) × StartsFrom (Run job plan options) left q o × WhereTold old.out new.out (AppendsFront (written q o)))
   unfolding HasFront
-  what_was_written words old new status outcome word told = by_case words old new status outcome word told
+  what_was_written words old new status outcome word told =
+      let found = ended_with words old new status outcome whole word in by_ended old new found.0 found.2 told
 
 -- ---- a run of good sources
-module _ (jobs : JobsAreGrammar) (fronts : ReportFronts) (nexts : NextReportFronts)
-    (job : List ℕ) (plan : Option (List ℕ)) (options : RunOptions) (left : Contents) (p : Program) (good : IsGood (Run job plan options) left p) where
+module _ (laws : LawsOfFronts) (job : List ℕ) (plan : Option (List ℕ)) (options : RunOptions) (left : Contents) (p : Program) (good : IsGood (Run job plan options) left p) where
   abbrev its_texts : List (List ℕ)
   its_texts = texts_named (Run job plan options)
 
   sound_of : (q : Program) → HasJob (Named job) left q → AreSound q (lines_behind its_texts left q)
-  sound_of q has = same_good InRounds its_texts left p q (same_job jobs (Named job) left p q good.has has) good.sources
+  sound_of q has = laws.good InRounds its_texts left p q (laws.one_job (Named job) left p q good.has has) good.sources
 
   good_front : (q : Program) (o : Opening) (border : Option ℕ) (text : List ℕ) → HasJob (Named job) left q → 1 ≤ o.rows
       → RanFrom q o.rows o.border o.cells (lines_behind its_texts left q) border text → BeginsWith (report_from o its_texts left q) text
   unfolding lists_behind
   good_front q o border text has some ran =
-      fronts o.border o.cells q o.rows (emptied_each its_texts left) border text some (sound_of q has) ran
+      laws.fronts o.border o.cells q o.rows (emptied_each its_texts left) border text some (sound_of q has) ran
 
   good_next : (q : Program) (o : Opening) (text more : List ℕ) (put : Option (List ℕ)) → HasJob (Named job) left q → 1 ≤ o.rows
       → ReportsNext q o (lines_behind its_texts left q) text put more → BeginsWith (report_from o its_texts left q) (text ++ more)
   unfolding lists_behind
   good_next q o text more put has some round =
-      nexts o.border o.cells q o.rows (emptied_each its_texts left) round.border text (text ++ more) round.now round.end some (sound_of q has)
+      laws.nexts o.border o.cells q o.rows (emptied_each its_texts left) round.border text (text ++ more) round.now round.end some (sound_of q has)
       round.ran round.next
 
-pub runs_law : JobsAreGrammar → ReportFronts → NextReportFronts → RunsWriteFronts
-runs_law jobs fronts nexts words old new status outcome job plan options left p word told good =
-    what_was_written job plan options left p good.has good.start (λ q o. report_from o (texts_named (Run job plan options)) left q)
-    (good_front jobs fronts nexts job plan options left p good) (good_next jobs fronts nexts job plan options left p good)
+pub runs_law : LawsOfFronts → RunsWriteFronts
+runs_law laws words old new status outcome job plan options left p word told good =
+    what_was_written laws.rows job plan options left p good.has good.start (λ q o. report_from o (texts_named (Run job plan options)) left q)
+    (good_front laws job plan options left p good) (good_next laws job plan options left p good)
     (λ q o its. ([], sym (append-nil (report_from o (texts_named (Run job plan options)) left q))))
     words old new status outcome word told
 
 -- ---- a run of sources with a defect
-module _ (jobs : JobsAreGrammar) (fronts : ReportFronts) (nexts : NextReportFronts)
-    (job : List ℕ) (plan : Option (List ℕ)) (options : RunOptions) (left mended : Contents) (p : Program) (has_job : HasJob (Named job) left p)
+module _ (laws : LawsOfMending) (job : List ℕ) (plan : Option (List ℕ)) (options : RunOptions) (left mended : Contents) (p : Program) (has_job : HasJob (Named job) left p)
     (bad : HasDefect InRounds (texts_named (Run job plan options)) left p)
     (mends : AreMended p (emptied_each (texts_named (Run job plan options)) left) mended) where
   mended_of : (q : Program) → HasJob (Named job) left q → AreMended q (emptied_each (texts_named (Run job plan options)) left) mended
-  mended_of q has = same_mended p q (emptied_each (texts_named (Run job plan options)) left) mended (same_job jobs (Named job) left p q has_job has) mends
+  mended_of q has = laws.mended p q (emptied_each (texts_named (Run job plan options)) left) mended (laws.of_fronts.one_job (Named job) left p q has_job has) mends
 
   mended_front : (q : Program) (o : Opening) (border : Option ℕ) (text : List ℕ) → HasJob (Named job) left q → 1 ≤ o.rows
       → RanFrom q o.rows o.border o.cells (lines_behind (texts_named (Run job plan options)) left q) border text
       → BeginsWith (mended_report mended q o) text
   mended_front q o border text has some ran =
       let its = mended_of q has in
-      fronts o.border o.cells q o.rows mended border text some its.sound
-      (ran_of_mended q o.rows (lines_behind (texts_named (Run job plan options)) left q) (lines_in q mended) its.each o.border o.cells border text ran)
+      laws.of_fronts.fronts o.border o.cells q o.rows mended border text some its.sound
+      (laws.goes_on q o.rows (lines_behind (texts_named (Run job plan options)) left q) (lines_in q mended) its.each o.border o.cells border text ran).0
 
   mended_next : (q : Program) (o : Opening) (text more : List ℕ) (put : Option (List ℕ)) → HasJob (Named job) left q → 1 ≤ o.rows
       → ReportsNext q o (lines_behind (texts_named (Run job plan options)) left q) text put more → BeginsWith (mended_report mended q o) (text ++ more)
   mended_next q o text more put has some round =
       let its = mended_of q has in
       let whole = lines_behind (texts_named (Run job plan options)) left q in
-      nexts o.border o.cells q o.rows mended round.border text (text ++ more) round.now round.end some its.sound
-      (ran_of_mended q o.rows whole (lines_in q mended) its.each o.border o.cells round.border text round.ran)
-      (next_of_mended q o.rows whole (lines_in q mended) its.each o.border o.cells round.border round.ran.before round.now round.end (text ++ more)
-      round.next)
+      let also = laws.goes_on q o.rows whole (lines_in q mended) its.each o.border o.cells round.border text round.ran in
+      laws.of_fronts.nexts o.border o.cells q o.rows mended round.border text (text ++ more) round.now round.end some its.sound also.0
+      (also.1 round.now round.end (text ++ more) round.next)
 
   -- it is not done
   not_done : (q : Program) (o : Opening) → IsGood (Run job plan options) left q
       → BeginsWith (mended_report mended q o) (report_from o (texts_named (Run job plan options)) left q)
-  not_done q o good = absurd (good_or_bad InRounds (texts_named (Run job plan options)) left p
-      (same_good InRounds (texts_named (Run job plan options)) left q p (same_job jobs (Named job) left q p good.has has_job) good.sources) bad)
+  not_done q o good = absurd (laws.none InRounds (texts_named (Run job plan options)) left p
+      (laws.of_fronts.good InRounds (texts_named (Run job plan options)) left q p (laws.of_fronts.one_job (Named job) left q p good.has has_job) good.sources) bad)
 
-pub mended_law : JobsAreGrammar → ReportFronts → NextReportFronts → RunsWriteFrontsOfMended
-mended_law jobs fronts nexts words old new status outcome job plan options left mended p word told has start bad mends =
-    what_was_written job plan options left p has start (mended_report mended)
-    (mended_front jobs fronts nexts job plan options left mended p has bad mends) (mended_next jobs fronts nexts job plan options left mended p has bad mends)
-    (not_done jobs fronts nexts job plan options left mended p has bad mends) words old new status outcome word told
+pub mended_law : LawsOfMending → RunsWriteFrontsOfMended
+mended_law laws words old new status outcome job plan options left mended p word told has start bad mends =
+    what_was_written laws.of_fronts.rows job plan options left p has start (mended_report mended)
+    (mended_front laws job plan options left mended p has bad mends) (mended_next laws job plan options left mended p has bad mends)
+    (not_done laws job plan options left mended p has bad mends) words old new status outcome word told
 
 -- ---- what the report is
 pub fresh_law : FreshRunsReportTheFold

@@ -25,7 +25,7 @@ use Rattle.flu_streams.specs.declared.border.Border.{Border}
 use Rattle.flu_streams.specs.Holding.{AreHeldBehind}
 use Rattle.flu_rounds.specs.Halves.{Begins, AreRun, AppendsReport}
 use Rattle.flu_rounds.specs.Standing.{Standing, Runs, round_lists, round_report}
-use Rattle.flu_top.specs.declared.products.Said.TheVariants.{Plan}
+use Rattle.flu_lines.specs.declared.products.Said.TheVariants.{Plan}
 use Rattle.flu_top.specs.Running.{SaysCounts}
 
 pub outputs_report : (p q r : Program) (opening : Contents) (lists : List (List Item)) (outs : List Out) (text : List ℕ) → q ≡ p → r ≡ p

@@ -1,13 +1,15 @@
 -- What a run has read before its rounds, what refuses it there, and how its rounds end its command.
 use Rattle.std.proofs.Common.{◌≡◌, refl, sym, ap, ◌∙◌, subst, ℕ, Bool, true, false, ◌≤◌, List, [], ◌∷◌, ◌++◌, Option, Some, None, Result, Ok, Err, inl, inr}
 use Rattle.std.proofs.Common.{◌⊎◌, arith, append_assoc}
-use Rattle.std.specs.Prelude.{Contains, IfErr, IfSome}
+use Rattle.std.specs.Prelude.{Contains, option_map, slice_get, IfErr, IfSome}
+use Rattle.std.proofs.lemmas.Option.{slice_get-map, slice_get_within, get_or_from_slice_get}
 use Rattle.std.proofs.lemmas.Result.{IfErr-weaker}
 use Rattle.std.proofs.lemmas.List.Elements.{Contains-append_cases, Contains-append_left, Contains-append_right}
 use Rattle.flu_outside.specs.declared.files.PutFault.{PutFault}
 use Rattle.flu_outside.specs.Outside.{WhereTold, Contents, SameCounts, Rose}
 use Rattle.flu_outside.specs.Taking.{TakesFrom, TookFronts, TookAtMost, bytes_left}
 use Rattle.flu_model.specs.declared.jobs.Program.{Program}
+use Rattle.flu_model.specs.declared.jobs.Source.{Source}
 use Rattle.flu_model.specs.Folding.{final_state, final_outputs}
 use Rattle.flu_model.specs.Reports.{report}
 use Rattle.flu_lemmas.proofs.Containing.{contains_here, contains_later, one_contains}
@@ -23,33 +25,40 @@ use Rattle.flu_save.specs.Checkpoint.{save}
 use Rattle.flu_save.specs.Forms.{IsFaultOf}
 use Rattle.flu_streams.specs.Good.{lists_of}
 use Rattle.flu_words.specs.Words.{RunOptions, Run, Valid}
-use Rattle.flu_top.specs.declared.products.Said.{Said}
-use Rattle.flu_top.specs.declared.refusals.JobRead.{JobRead}
-use Rattle.flu_top.specs.declared.refusals.Refusal.{Refusal}
-use Rattle.flu_top.specs.declared.refusals.Refusal.TheVariants as refusals
-use Rattle.flu_top.specs.declared.refusals.SaveDefect.TheVariants as defects
-use Rattle.flu_top.specs.Answer.{status_after}
-use Rattle.flu_top.specs.Behind.{WantedJob, Named, job_files, HasJob, emptied_each, lists_behind}
-use Rattle.flu_top.specs.Causes.{IsJobRead, HasSourceFault, HasStartDefect, IsMet}
-use Rattle.flu_top.specs.Done.{HasPlanAsked, MayHaveJob, MayBeJob, IsDone, IsLine, WroteRounds, WroteUnsaved, WroteIntoRound, IsReadName, IsSourceFile, IsPutAt}
+use Rattle.flu_lines.specs.declared.products.Said.{Said}
+use Rattle.flu_lines.specs.declared.refusals.JobRead.{JobRead}
+use Rattle.flu_lines.specs.declared.refusals.Refusal.{Refusal}
+use Rattle.flu_lines.specs.declared.refusals.Refusal.TheVariants as refusals
+use Rattle.flu_lines.specs.declared.refusals.SaveDefect.TheVariants as defects
+use Rattle.flu_lines.specs.Answer.{code_after}
+use Rattle.flu_command.specs.Behind.{WantedJob, Named, job_files, HasJob, emptied_each, lists_behind}
+use Rattle.flu_command.specs.Causes.{IsJobRead, HasSourceFault, HasStartDefect, IsMet}
+use Rattle.flu_command.specs.Done.{HasPlanAsked, MayHaveJob, MayBeJob, IsDone, IsLine, WroteRounds, WroteUnsaved, WroteIntoRound, IsReadName, IsSourceFile, IsPutAt}
 use Rattle.flu_top.specs.Ending.{call, HasAll, HasDefectMet, IsStopped, IsEnding}
-use Rattle.flu_top.specs.Jobs.{program_read}
-use Rattle.flu_top.specs.Openings.{Opening, Opens, OpensAt, lists_from}
-use Rattle.flu_top.specs.Products.{line_said, MaySay}
-use Rattle.flu_top.specs.Ready.{AreTextsRead, IsReady}
-use Rattle.flu_top.specs.Reading.{InRounds, HaveWritten, MeetsDefect, ReportsNext, greatest_border, lines_behind}
-use Rattle.flu_top.specs.ReadFaults.{InCheckpoint, InRows}
+use Rattle.flu_lines.specs.Jobs.{program_read}
+use Rattle.flu_command.specs.Openings.{Opening, Opens, OpensAt, lists_from}
+use Rattle.flu_lines.specs.Products.{line_said}
+use Rattle.flu_top.specs.Products.{MaySay}
+use Rattle.flu_command.specs.Ready.{AreTextsRead, IsReady}
+use Rattle.flu_command.specs.Reading.{InRounds, HaveWritten, MeetsDefect, ReportsNext, greatest_border, lines_behind}
+use Rattle.flu_command.specs.ReadFaults.{InCheckpoint, InRows}
 use Rattle.flu_top.specs.Refusing.{IsRefusal}
 use Rattle.flu_top.specs.Running.{IsBegun, IsOpened, IsOpeningRefusal, IsSavedTo, StaysWithin, IsAllRun, RanAll, RanToDefect, RanSome, RanInto, RanUnsaved}
 use Rattle.flu_top.specs.Running.{IsRoundsRefusal, EndsRun}
 use Rattle.flu_top.specs.Running.{IsPlanSaid, MaySayPlan, SaysPlan}
-use Rattle.flu_top.specs.Starting.{AreNoSources, CanStart, HasBadCheckpoint, StartsFrom, IsSameName, Saves, Resumes, Leaves, LeavesPut, LeavesAnything}
-use Rattle.flu_top.specs.Taking.{TookOnly, TookFrontsBut}
-use Rattle.flu_top.specs.Unfinished.{IsUnfinished}
-use Rattle.flu_top.specs.Wants.{if_named, plan_said, job_and_plan_named, texts_named, sources_read, IsNotSaved}
+use Rattle.flu_command.specs.Starting.{AreNoSources, CanStart, HasBadCheckpoint, StartsFrom, IsSameName, Saves, Resumes, Leaves, LeavesPut, LeavesAnything}
+use Rattle.flu_command.specs.Taking.{TookOnly, TookFrontsBut}
+use Rattle.flu_command.specs.Unfinished.{IsUnfinished}
+use Rattle.flu_command.specs.Wants.{if_named, plan_said, job_and_plan_named, texts_named, sources_read, IsNotSaved}
 use Rattle.flu_top.proofs.AsValid.{only_as_valid, refusal_as_valid, run_reads}
-use Rattle.flu_top.proofs.ResumedRuns.{file_is_named}
 use Rattle.flu_top.proofs.Sequence.{among, name_given, none_among, one_text, is_source_file, stays_ended, text_is_read}
+
+-- the file of a source is among those of all
+file_is_named : (ss : List Source) (number : ℕ) (source : Source) → slice_get ss number ≡ Some source → Contains (files_of ss) source.file
+file_is_named ss number source is =
+    let there : slice_get (files_of ss) number ≡ Some source.file =
+    slice_get-map (λ (s : Source). s.file) ss number ∙ ap (option_map (λ (s : Source). s.file)) is in
+    (number, slice_get_within (files_of ss) number source.file there, get_or_from_slice_get (files_of ss) number source.file source.file there)
 
 -- ---- texts
 -- some texts are read, and then others
@@ -192,7 +201,7 @@ module _ (job : List ℕ) (plan : Option (List ℕ)) (options : RunOptions) (p :
       → WhereTold a b (IsBegun job plan p) → ((n : List ℕ) → k n ≤ l n) → (refusal : Refusal)
       → IsOpeningRefusal options.resume p b d l m refusal → IsRefusal (Run job plan options) a d k m refusal
   opening_refuses d k l m accepted apart begun rise (refusals.BadWords bad) is = is
-  opening_refuses d k l m accepted apart begun rise (refusals.JobFault fault) is = absurd is
+  opening_refuses d k l m accepted apart begun rise (refusals.JobFault fault text) is = absurd is
   opening_refuses d k l m accepted apart begun rise (refusals.Conflict fault) is = absurd is
   opening_refuses d k l m accepted apart begun rise (refusals.PlanDefect defect) is = absurd is
   opening_refuses d k l m accepted apart begun rise (refusals.SourceFault job_read fault) is = absurd is
@@ -506,7 +515,7 @@ module _ (job : List ℕ) (plan : Option (List ℕ)) (options : RunOptions) (p :
   refused_in_rounds : (refusal : Refusal) → IsRoundsRefusal p o options.save (call b d l m t u had has x z) refusal
       → IsStopped (call a d k m s u had has x z) (Run job plan options) refusal
   refused_in_rounds (refusals.BadWords bad) is = is
-  refused_in_rounds (refusals.JobFault fault) is = absurd is
+  refused_in_rounds (refusals.JobFault fault text) is = absurd is
   refused_in_rounds (refusals.Conflict fault) is = absurd is
   refused_in_rounds (refusals.PlanDefect defect) is = absurd is
   refused_in_rounds (refusals.SourceFault job_read fault) is = met job_read fault is.0 is.1
@@ -551,10 +560,10 @@ module _ (job : List ℕ) (plan : Option (List ℕ)) (options : RunOptions) (p :
 
   -- ---- the names that it reads and puts
   may_put : (result : Result (Option Said) Refusal) → EndsRun options.adapt p o options.save (call b d l m t u had has x z) result
-      → Contains (0 ∷ 6 ∷ 7 ∷ 8 ∷ 9 ∷ 12 ∷ []) (status_after result)
+      → Contains (0 ∷ 6 ∷ 7 ∷ 8 ∷ 9 ∷ 12 ∷ []) (code_after result)
   may_put (Ok said) is = (0, omega arith, refl)
   may_put (Err (refusals.BadWords bad)) is = absurd is
-  may_put (Err (refusals.JobFault fault)) is = absurd is
+  may_put (Err (refusals.JobFault fault text)) is = absurd is
   may_put (Err (refusals.Conflict fault)) is = absurd is
   may_put (Err (refusals.PlanDefect defect)) is = absurd is
   may_put (Err (refusals.SourceFault job_read fault)) is = (1, omega arith, refl)
@@ -566,18 +575,18 @@ module _ (job : List ℕ) (plan : Option (List ℕ)) (options : RunOptions) (p :
   may_put (Err (refusals.TraceFault fault)) is = absurd is
 
   pub run_fronts : (result : Result (Option Said) Refusal) → EndsRun options.adapt p o options.save (call b d l m t u had has x z) result
-      → WhereTold a d (TookFrontsBut (IsPutAt (Run job plan options) (status_after result)))
+      → WhereTold a d (TookFrontsBut (IsPutAt (Run job plan options) (code_after result)))
   run_fronts result is = told_then (IsStarted job plan options p o) (TookFrontsBut (IsSavedTo options.save))
-      (TookFrontsBut (IsPutAt (Run job plan options) (status_after result))) a b d
+      (TookFrontsBut (IsPutAt (Run job plan options) (code_after result))) a b d
       (λ v w r first second name rest other left.
       let later = second name rest (λ saved. other (saved, may_put result is)) left in
       let early = first.fronts name (later.0 ++ rest) later.1 in
       (early.0 ++ later.0, early.1 ∙ ap Some (sym (append_assoc early.0 later.0 rest)))) started within.fronts
 
   pub run_only : (result : Result (Option Said) Refusal) → EndsRun options.adapt p o options.save (call b d l m t u had has x z) result
-      → WhereTold a d (TookOnly (λ name. IsReadName a (Run job plan options) name ⊎ IsPutAt (Run job plan options) (status_after result) name))
+      → WhereTold a d (TookOnly (λ name. IsReadName a (Run job plan options) name ⊎ IsPutAt (Run job plan options) (code_after result) name))
   run_only result is = told_then (IsStarted job plan options p o) (TookOnly (λ name. Contains (files_of p.sources) name ⊎ IsSavedTo options.save name))
-      (TookOnly (λ name. IsReadName a (Run job plan options) name ⊎ IsPutAt (Run job plan options) (status_after result) name)) a b d
+      (TookOnly (λ name. IsReadName a (Run job plan options) name ⊎ IsPutAt (Run job plan options) (code_after result) name)) a b d
       (λ v w r first second name unread.
       second name (λ either. elim either [ inl source ↦ unread (inl (inr (inr (inr (inl (source_file name source)))))) | inr saved ↦ unread (inr (saved, may_put result is)) ])
       ∙ first.ready.texts.others name (λ found. unread (inl (text_is_read (Run job plan options) p a b (λ asked. accepted) apart is_ready name found))))

@@ -23,25 +23,25 @@ use Rattle.flu_rows.specs.Reading.{ahead}
 use Rattle.flu_streams.specs.Faults.{StopsWithout}
 use Rattle.flu_streams.specs.Files.{files_of, LeavesOthers, AreReadOut}
 use Rattle.flu_streams.specs.Good.{first_fault, lists_of, AreGood}
-use Rattle.flu_top.specs.declared.refusals.Refusal.{Refusal}
-use Rattle.flu_top.specs.declared.refusals.Refusal.TheVariants as refusals
+use Rattle.flu_lines.specs.declared.refusals.Refusal.{Refusal}
+use Rattle.flu_lines.specs.declared.refusals.Refusal.TheVariants as refusals
 use Rattle.flu_model.specs.Modes.{IsAccepted}
 use Rattle.flu_words.specs.Words.{Command}
-use Rattle.flu_top.specs.Taking.{TookOnly}
-use Rattle.flu_top.specs.Behind.{WantedJob, Named, Fixed, HasJob, job_files, fault_behind, report_behind}
-use Rattle.flu_top.specs.Emptied.{emptied, emptied_each}
-use Rattle.flu_top.specs.Openings.{Opens, fresh}
-use Rattle.flu_top.specs.Reading.{Reading, Whole, is_read, AreSourcesGood, rows_in_round}
-use Rattle.flu_top.specs.Wants.{job_wanted, plan_named, save_named, resume_named, rows_named, trace_named, asks_accepted, how_read, reads_sources, if_named}
-use Rattle.flu_top.specs.Wants.{job_and_plan_named, texts_named, sources_read, Writes}
-use Rattle.flu_top.specs.Starting.{AreNoSources, CanStart}
-use Rattle.flu_top.specs.Done.{HasPlanAsked, IsGood, IsTraceRead, HasSaved, IsRead, Says, MayHaveJob, MayBeJob, IsReadName, IsSourceFile, IsWritten}
-use Rattle.flu_top.specs.Ready.{AreTextsRead, IsReady}
+use Rattle.flu_command.specs.Taking.{TookOnly}
+use Rattle.flu_command.specs.Behind.{WantedJob, Named, Fixed, HasJob, job_files, fault_behind, report_behind}
+use Rattle.flu_command.specs.Emptied.{emptied, emptied_each}
+use Rattle.flu_command.specs.Openings.{Opens, fresh}
+use Rattle.flu_command.specs.Reading.{Reading, Whole, is_read, AreSourcesGood, rows_in_round}
+use Rattle.flu_command.specs.Wants.{job_wanted, plan_named, save_named, resume_named, rows_named, trace_named, asks_accepted, how_read, reads_sources, if_named}
+use Rattle.flu_command.specs.Wants.{job_and_plan_named, texts_named, sources_read, Writes}
+use Rattle.flu_command.specs.Starting.{AreNoSources, CanStart}
+use Rattle.flu_command.specs.Done.{HasPlanAsked, IsGood, IsTraceRead, HasSaved, IsRead, Says, MayHaveJob, MayBeJob, IsReadName, IsSourceFile, IsWritten}
+use Rattle.flu_command.specs.Ready.{AreTextsRead, IsReady}
 use Rattle.flu_top.specs.Jobs.{IsJobRefusal}
-use Rattle.flu_top.specs.Causes.{IsJobRead, HasJobFault, IsMet, HasSourceFault}
+use Rattle.flu_command.specs.Causes.{IsJobRead, HasJobFault, IsMet, HasSourceFault}
 use Rattle.flu_top.specs.Folding.{AreSourcesRead, IsReported, IsReportRefusal}
 use Rattle.flu_top.specs.Replays.{StaysEnded}
-use Rattle.flu_top.specs.ReadFaults.{InJob, InSources}
+use Rattle.flu_command.specs.ReadFaults.{InJob, InSources}
 use Rattle.flu_top.specs.Refusing.{IsRefusal}
 use Rattle.flu_top.proofs.OneCommand.{not_named}
 
@@ -348,7 +348,7 @@ is_reported_behind command p report a b c whole accepted untraced none writes re
 pub job_refusal : (command : Command) (job : List ℕ) (a b : Option Contents) (before now : List ℕ → ℕ) (refusal : Refusal) → job_wanted command ≡ Named job
     → IsJobRefusal job a b before now refusal → IsRefusal command a b before now refusal
 job_refusal command job a b before now (refusals.BadWords bad) named is = is
-job_refusal command job a b before now (refusals.JobFault fault) named is = subst (λ (wanted : WantedJob). HasJobFault wanted a b fault) (sym named) is
+job_refusal command job a b before now (refusals.JobFault fault text) named is = subst (λ (wanted : WantedJob). HasJobFault wanted a b fault) (sym named) is
 job_refusal command job a b before now (refusals.Conflict fault) named is = absurd is
 job_refusal command job a b before now (refusals.PlanDefect defect) named is = absurd is
 job_refusal command job a b before now (refusals.SourceFault p fault) named is = absurd is
@@ -370,7 +370,7 @@ pub report_refusal : (command : Command) (p : Program) (a b c : Option Contents)
     → (IsTrue (asks_accepted command) → IsAccepted p) → NamesNoCheckpoint command → WhereTold a b (IsReady command p) → ((n : List ℕ) → k n ≤ l n)
     → IsReportRefusal p b c l m refusal → IsRefusal command a c k m refusal
 report_refusal command p a b c k l m (refusals.BadWords bad) reads accepted none ready rise is = is
-report_refusal command p a b c k l m (refusals.JobFault fault) reads accepted none ready rise is = absurd is
+report_refusal command p a b c k l m (refusals.JobFault fault text) reads accepted none ready rise is = absurd is
 report_refusal command p a b c k l m (refusals.Conflict fault) reads accepted none ready rise is = absurd is
 report_refusal command p a b c k l m (refusals.PlanDefect defect) reads accepted none ready rise is = absurd is
 report_refusal command p a b c k l m (refusals.SourceFault q fault) whole accepted none ready rise is =

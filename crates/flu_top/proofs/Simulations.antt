@@ -21,14 +21,14 @@ use Rattle.flu_lemmas.proofs.Told.{told_both, told_then}
 use Rattle.flu_streams.specs.Files.{files_of, LeavesOthers}
 use Rattle.flu_streams.specs.Good.{lists_of}
 use Rattle.flu_words.specs.Words.{Simulate}
-use Rattle.flu_top.specs.declared.products.DrawnSteps.{DrawnSteps}
-use Rattle.flu_top.specs.Behind.{emptied_each, lists_behind, report_behind}
-use Rattle.flu_top.specs.Done.{IsWritten}
+use Rattle.flu_lines.specs.declared.products.DrawnSteps.{DrawnSteps}
+use Rattle.flu_command.specs.Behind.{emptied_each, lists_behind, report_behind}
+use Rattle.flu_command.specs.Done.{IsWritten}
 use Rattle.flu_top.specs.Folding.{AreSourcesRead}
-use Rattle.flu_top.specs.Lines.{step_line}
-use Rattle.flu_top.specs.Ready.{HasNodes, IsReady}
-use Rattle.flu_top.specs.Simulating.{from_nothing, AreDrawn, IsLineOfRun, IsTextOn, IsTraceText}
-use Rattle.flu_top.specs.Wants.{IsTextOfRun}
+use Rattle.flu_lines.specs.Lines.{step_line}
+use Rattle.flu_command.specs.Ready.{HasNodes, IsReady}
+use Rattle.flu_command.specs.Simulating.{from_nothing, AreDrawn, IsLineOfRun, IsTextOn, IsTraceText}
+use Rattle.flu_command.specs.Wants.{IsTextOfRun}
 use Rattle.flu_top.proofs.Sequence.{read_at, no_trace_read, stays_ended}
 
 -- ---- the line of the steps

@@ -2,7 +2,6 @@
 use Rattle.std.proofs.Common.{◌≡◌, ◌⊎◌, refl, sym, ap, ◌∙◌, subst, ℕ, List, [], ◌∷◌, Option, Some, Ok, inl, inr}
 use Rattle.std.specs.Prelude.{unwrap_or}
 use Rattle.flu_lemmas.proofs.Told.{of_told, told_weaker}
-use Rattle.flu_grammar.specs.Laws.{JobsAreGrammar, NormalFormIsShort, NormalFormIsUtf8}
 use Rattle.flu_outside.specs.Outside.{WhereTold, Contents}
 use Rattle.flu_outside.specs.Taking.{bytes_left}
 use Rattle.flu_model.specs.declared.jobs.Program.{Program}
@@ -11,20 +10,20 @@ use Rattle.flu_save.specs.declared.fault.SaveFault.{SaveFault}
 use Rattle.flu_save.specs.Forms.{IsFaultOf}
 use Rattle.flu_save.specs.Laws.{LawOfFaults, LawOfOneMeaning, SavesAreOfJobs}
 use Rattle.flu_words.specs.Words.{Command, Run, command_in}
-use Rattle.flu_top.specs.declared.refusals.SaveDefect.{SaveDefect}
-use Rattle.flu_top.specs.declared.refusals.SaveDefect.TheVariants as saves
-use Rattle.flu_top.specs.Behind.{Named, HasJob, emptied_each}
-use Rattle.flu_top.specs.Causes.{HasSaveDefect}
-use Rattle.flu_top.specs.Done.{HasPlanAsked}
+use Rattle.flu_lines.specs.declared.refusals.SaveDefect.{SaveDefect}
+use Rattle.flu_lines.specs.declared.refusals.SaveDefect.TheVariants as saves
+use Rattle.flu_command.specs.Behind.{Named, HasJob, emptied_each}
+use Rattle.flu_command.specs.Causes.{HasSaveDefect}
+use Rattle.flu_command.specs.Done.{HasPlanAsked}
 use Rattle.flu_deps.specs.Checking.{program_of}
 use Rattle.flu_top.specs.Outcome.{Outside, Outcome}
-use Rattle.flu_top.specs.Outcome as cases
 use Rattle.flu_top.specs.Resuming.{HasLeft, AreInTurn, IsRefusedForName, ResumedRunsTakeCheckpoints}
-use Rattle.flu_top.specs.Starting.{IsAsBefore, IsSameName, HasBadCheckpoint}
-use Rattle.flu_top.specs.Wants.{if_named, job_wanted, texts_named}
-use Rattle.flu_top.proofs.OneCommand.{same_command}
-use Rattle.flu_top.proofs.OneRuns.{same_job}
-use Rattle.flu_top.proofs.ResumedRuns.{LawsOfRests, checkpoints_open}
+use Rattle.flu_command.specs.Starting.{IsAsBefore, IsSameName, HasBadCheckpoint}
+use Rattle.flu_command.specs.Wants.{if_named, job_wanted, texts_named}
+use Rattle.flu_command.specs.OneText.{TextsHaveOneJob}
+use Rattle.flu_command.specs.Resting.{CheckpointsOpen}
+use Rattle.flu_lines.specs.declared.statuses.Status.TheVariants as statuses
+use Rattle.flu_top.proofs.Statuses.{ended_at}
 use Rattle.flu_top.proofs.TwoRuns.{is_opening, opens_same, first_left}
 
 -- ---- what refuses with status 11
@@ -44,25 +43,13 @@ by_defect command a b (saves.Checkpoint fault) is =
     told_weaker (λ left now. HasJob (job_wanted command) left is.0 × HasPlanAsked command left is.0 × HasBadCheckpoint command left is.0 fault)
     (IsRefused command) a b (λ x y h. inr (is.0, h.0, (fault, h.2))) is.1.first
 
-by_case : (words : List (List ℕ)) (command : Command) (old new : Outside) (status : ℕ) → Outcome words old new status → status ≡ 11
+refused_at : (words : List (List ℕ)) (command : Command) (old new : Outside) (status : ℕ) → Outcome words old new status → status ≡ 11
     → command_in words ≡ Ok command → WhereTold old.left new.left (IsRefused command)
-by_case words command old new status (cases.Done is other also line done heard) at word = absurd (let e : 0 ≡ 11 = sym is ∙ at in cc)
-by_case words command old new status (cases.BadWords is bad also files refused) at word = absurd (let e : 2 ≡ 11 = sym is ∙ at in cc)
-by_case words command old new status (cases.BadJob is other also fault has refused) at word = absurd (let e : 3 ≡ 11 = sym is ∙ at in cc)
-by_case words command old new status (cases.Conflicts is other also fault has refused) at word = absurd (let e : 4 ≡ 11 = sym is ∙ at in cc)
-by_case words command old new status (cases.BadPlan is other also defect has refused) at word = absurd (let e : 5 ≡ 11 = sym is ∙ at in cc)
-by_case words command old new status (cases.BadSource is other also q fault text has wrote said) at word = absurd (let e : 6 ≡ 11 = sym is ∙ at in cc)
-by_case words command old new status (cases.ReadFailed is other also some said) at word = absurd (let e : 7 ≡ 11 = sym is ∙ at in cc)
-by_case words command old new status (cases.WriteFailed is other also partly said) at word = absurd (let e : 8 ≡ 11 = sym is ∙ at in cc)
-by_case words command old new status (cases.NoMemory is other also some said) at word = absurd (let e : 9 ≡ 11 = sym is ∙ at in cc)
-by_case words command old new status (cases.BadSave is other also defect has refused) at word =
-    by_defect command old.left new.left defect
-    (subst (λ (d : Command). HasSaveDefect d old.left new.left defect) (same_command words other command also word) has)
-by_case words command old new status (cases.PutFailed is other also wrote said) at word = absurd (let e : 12 ≡ 11 = sym is ∙ at in cc)
-by_case words command old new status (cases.BadTrace is other also fault has refused) at word = absurd (let e : 13 ≡ 11 = sym is ∙ at in cc)
+refused_at words command old new status outcome is word =
+    let found = ended_at words old new status outcome statuses.SaveDefect is command word in by_defect command old.left new.left found.0 found.1
 
 -- ---- no fault does
-module _ (laws : LawsOfRests) (jobs : JobsAreGrammar) (short : NormalFormIsShort) (utf8 : NormalFormIsUtf8) (meaning : LawOfOneMeaning)
+module _ (checkpoints : CheckpointsOpen) (one_job : TextsHaveOneJob) (meaning : LawOfOneMeaning)
     (of_jobs : SavesAreOfJobs) (faults : LawOfFaults) where
   no_fault : (words words' : List (List ℕ)) (old new old' : Outside) (runs : AreInTurn words words' old new old')
       → HasLeft (Run runs.job runs.plan runs.options) runs.file old.out new.out runs.left runs.now
@@ -72,8 +59,8 @@ module _ (laws : LawsOfRests) (jobs : JobsAreGrammar) (short : NormalFormIsShort
       let q = refused.0 in
       let fault = refused.2.0 in
       let bad = refused.2.1 in
-      let same : IsSameJob p q = same_job jobs (Named runs.later_job) runs.later_left p q (runs.one_job p stays.job) refused.1 in
-      let opens = (checkpoints_open laws short utf8 p (bytes_left runs.left runs.job) stays.opening (texts_named (Run runs.job runs.plan runs.options))
+      let same : IsSameJob p q = one_job (Named runs.later_job) runs.later_left p q (runs.one_job p stays.job) refused.1 in
+      let opens = (checkpoints p (bytes_left runs.left runs.job) stays.opening (texts_named (Run runs.job runs.plan runs.options))
       runs.left stays.text stays.checkpoint stays.job (runs.sound p stays.job)
       (is_opening runs.options.rows runs.options.resume (runs.job ∷ if_named runs.plan) runs.left p stays.opening stays.starts.opens) stays.put).0 in
       let opens_later = opens_same of_jobs p q same stays.checkpoint opens.0 opens.1 in
@@ -93,7 +80,7 @@ module _ (laws : LawsOfRests) (jobs : JobsAreGrammar) (short : NormalFormIsShort
   take_checkpoints words words' old new old' new' status outcome may outcome' runs =
       let later : Command = Run runs.later_job runs.later_plan runs.later_options in
       let refused = of_told (IsRefused later) runs.later_left old'.left new'.left runs.told_later
-      (by_case words' later old' new' 11 outcome' refl runs.later) in
+      (refused_at words' later old' new' 11 outcome' refl runs.later) in
       by (first_left meaning words words' old new old' status outcome may runs) refused.1
     where
       by : IsAsBefore (texts_named (Run runs.job runs.plan runs.options)) runs.file runs.left runs.now

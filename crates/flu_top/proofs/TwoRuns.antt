@@ -2,7 +2,8 @@
 use Rattle.std.proofs.Common.{◌≡◌, ◌⊎◌, ◌≤◌, ap, sym, ◌∙◌, subst, ℕ, List, [], ◌∷◌, Option, Some, None, inl, inr}
 use Rattle.std.specs.Prelude.{unwrap_or}
 use Rattle.flu_lemmas.proofs.Told.{of_told}
-use Rattle.flu_grammar.specs.Laws.{JobsAreGrammar}
+use Rattle.flu_command.specs.OneText.{TextsHaveOneJob, JobsHaveOneRest}
+use Rattle.flu_command.specs.Resting.{IsOpeningOf, AreSameSources, CheckpointsOpenTheRest, SourcesDecide}
 use Rattle.flu_outside.specs.Outside.{WhereTold, Contents}
 use Rattle.flu_outside.specs.Taking.{bytes_left}
 use Rattle.flu_outside.specs.Writing.{AppendsAll}
@@ -14,18 +15,15 @@ use Rattle.flu_model.specs.Reports.{report}
 use Rattle.flu_rounds.specs.Written.{AreSound, lists_above}
 use Rattle.flu_save.specs.Laws.{LawOfOneMeaning, SavesAreOfJobs}
 use Rattle.flu_words.specs.Words.{Run, RunOptions}
-use Rattle.flu_top.specs.Behind.{Named, HasJob, emptied_each}
-use Rattle.flu_top.specs.Openings.{Opening, Opens, OpensAt, fresh, report_from}
+use Rattle.flu_command.specs.Behind.{Named, HasJob, emptied_each}
+use Rattle.flu_command.specs.Openings.{Opening, Opens, OpensAt, fresh, report_from}
 use Rattle.flu_top.specs.Outcome.{Outside, Outcome}
-use Rattle.flu_top.specs.Reading.{lines_behind}
-use Rattle.flu_top.specs.Resuming.{IsOpeningOf, HasLeft, MayHaveSaved, AreInTurn, AreSameSources, AreOfOneJob, WroteTheWhole}
+use Rattle.flu_command.specs.Reading.{lines_behind}
+use Rattle.flu_top.specs.Resuming.{HasLeft, MayHaveSaved, AreInTurn, AreOfOneJob, WroteTheWhole}
 use Rattle.flu_top.specs.Resuming.{ResumedRunsCompleteReports}
-use Rattle.flu_top.specs.Starting.{IsAsBefore}
-use Rattle.flu_top.specs.Wants.{if_named, texts_named}
-use Rattle.flu_top.proofs.OneRuns.{same_job}
+use Rattle.flu_command.specs.Starting.{IsAsBefore}
+use Rattle.flu_command.specs.Wants.{if_named, texts_named}
 use Rattle.flu_top.proofs.Leaving.{runs_leave, resumed_write}
-use Rattle.flu_top.proofs.ResumedRuns.{LawsOfRests, opens_the_rest, sources_decide}
-use Rattle.flu_top.proofs.SameFold.{same_report_from}
 
 -- what is told of both
 told_at : {A : Type 0} (P : A → A → Type 0) (x y : A) (a b : Option A) → a ≡ Some x → b ≡ Some y → WhereTold a b P → P x y
@@ -49,10 +47,10 @@ opens_same saves p q same bytes o opens = record {
 }
 
 -- the report over other sources that have the same
-same_sources_report : (p : Program) (o : Opening) (texts texts' : List (List ℕ)) (left left' : Contents) → AreSameSources p texts left texts' left'
+same_sources_report : SourcesDecide → (p : Program) (o : Opening) (texts texts' : List (List ℕ)) (left left' : Contents) → AreSameSources p texts left texts' left'
     → report_from o texts' left' p ≡ report_from o texts left p
-same_sources_report p o texts texts' left left' same =
-    ap (λ (lists : List (List Item)). report p (final_outputs p o.cells (lists_above o.border lists))) (sources_decide p texts texts' left left' same).1
+same_sources_report decide p o texts texts' left left' same =
+    ap (λ (lists : List (List Item)). report p (final_outputs p o.cells (lists_above o.border lists))) (decide p texts texts' left left' same).1
 
 -- what the first one left
 pub first_left : LawOfOneMeaning → (words words' : List (List ℕ)) (old new old' : Outside) (status : ℕ) → Outcome words old new status → MayHaveSaved status
@@ -64,7 +62,8 @@ first_left meaning words words' old new old' status outcome may runs =
     ⊎ HasLeft (Run runs.job runs.plan runs.options) runs.file old.out new.out x y) runs.left runs.now old.left new.left runs.told_left runs.told_now
     (runs_leave meaning words old new status outcome may runs.job runs.plan runs.options runs.file runs.first runs.saves)
 
-module _ (laws : LawsOfRests) (jobs : JobsAreGrammar) (meaning : LawOfOneMeaning) (saves : SavesAreOfJobs) where
+module _ (rests : CheckpointsOpenTheRest) (decide : SourcesDecide) (one_job : TextsHaveOneJob) (one_rest : JobsHaveOneRest)
+    (meaning : LawOfOneMeaning) (saves : SavesAreOfJobs) where
   both_wrote : (job job' : List ℕ) (plan plan' : Option (List ℕ)) (options options' : RunOptions) (file file' : List ℕ)
       (had has had' has' : Option (List ℕ)) (left now left' : Contents)
       → bytes_left (emptied_each (job' ∷ if_named plan') left') file' ≡ bytes_left now file
@@ -83,15 +82,15 @@ module _ (laws : LawsOfRests) (jobs : JobsAreGrammar) (meaning : LawOfOneMeaning
       let rest = second.2.0 in
       let texts = texts_named (Run job plan options) in
       let texts' = texts_named (Run job' plan' options') in
-      let same : IsSameJob q p = same_job jobs (Named job') left' q p second.1 (one p stays.job) in
+      let same : IsSameJob q p = one_job (Named job') left' q p second.1 (one p stays.job) in
       let there : bytes_left (emptied_each (job' ∷ if_named plan') left') file' ≡ stays.checkpoint =
       bytes ∙ ap (λ (found : Option (List ℕ)). unwrap_or found []) stays.stands in
       let opens : OpensAt p stays.checkpoint rest =
       opens_same saves q p same stays.checkpoint rest (subst (λ (text : List ℕ). OpensAt q text rest) there second.2.1) in
-      let goes = opens_the_rest laws p o rest texts left stays.text stays.checkpoint (good p stays.job).0
+      let goes = rests p o rest texts left stays.text stays.checkpoint (good p stays.job).0
       (is_opening options.rows options.resume (job ∷ if_named plan) left p o stays.starts.opens) stays.put opens in
       let wrote : report_from rest texts' left' q ≡ report_from rest texts left p =
-      same_report_from q p same rest texts' left' ∙ same_sources_report p rest texts texts' left left' (good p stays.job).1 in
+      one_rest q p same rest texts' left' ∙ same_sources_report decide p rest texts texts' left left' (good p stays.job).1 in
       record {
         p = p;
         job = stays.job;

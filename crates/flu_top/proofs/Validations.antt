@@ -13,17 +13,17 @@ use Rattle.flu_lemmas.proofs.Told.{told_both, told_then, told_weaker}
 use Rattle.flu_plan.specs.Reading.{plan_in}
 use Rattle.flu_plan.specs.Printing.{printed}
 use Rattle.flu_grammar.specs.Plans.{IsPlanText}
-use Rattle.flu_top.specs.declared.refusals.PlanDefect.TheVariants as defects
-use Rattle.flu_top.specs.declared.refusals.Refusal.{Refusal}
-use Rattle.flu_top.specs.declared.refusals.Refusal.TheVariants as refusals
+use Rattle.flu_lines.specs.declared.refusals.PlanDefect.TheVariants as defects
+use Rattle.flu_lines.specs.declared.refusals.Refusal.{Refusal}
+use Rattle.flu_lines.specs.declared.refusals.Refusal.TheVariants as refusals
 use Rattle.flu_words.specs.Words.{Valid}
-use Rattle.flu_top.specs.Taking.{TookOnly}
-use Rattle.flu_top.specs.Behind.{Named, HasJob, HasPlan, emptied_each, plan_behind}
-use Rattle.flu_top.specs.Done.{IsReadName, IsPlanName, IsWritten}
-use Rattle.flu_top.specs.Causes.{IsJobRead, HasInvalidPlan}
-use Rattle.flu_top.specs.Ready.{HasNodes, IsReady}
+use Rattle.flu_command.specs.Taking.{TookOnly}
+use Rattle.flu_command.specs.Behind.{Named, HasJob, HasPlan, emptied_each, plan_behind}
+use Rattle.flu_command.specs.Done.{IsReadName, IsPlanName, IsWritten}
+use Rattle.flu_command.specs.Causes.{IsJobRead, HasInvalidPlan}
+use Rattle.flu_command.specs.Ready.{HasNodes, IsReady}
 use Rattle.flu_top.specs.Plans.{IsPlanRead, IsTextRefusal, IsValidRefusal}
-use Rattle.flu_top.specs.ReadFaults.{InPlan}
+use Rattle.flu_command.specs.ReadFaults.{InPlan}
 use Rattle.flu_top.specs.Refusing.{IsRefusal}
 use Rattle.flu_top.proofs.Sequence.{may_have, emptied_is, one_text, two_texts, can_start, has_saved}
 
@@ -111,9 +111,9 @@ pub text_refusal : (job plan : List ℕ) (p : Program) (a b c : Option Contents)
     → WhereTold a b (TakesFrom job) → ((n : List ℕ) → k n ≤ l n) → IsAccepted p → IsTextRefusal p plan b c l m refusal
     → IsRefusal (Valid job plan) a c k m refusal
 text_refusal job plan p a b c k l m (refusals.BadWords bad) read taken rise accepted is = is
-text_refusal job plan p a b c k l m (refusals.JobFault fault) read taken rise accepted is = absurd is
+text_refusal job plan p a b c k l m (refusals.JobFault fault text) read taken rise accepted is = absurd is
 text_refusal job plan p a b c k l m (refusals.Conflict fault) read taken rise accepted is = absurd is
-text_refusal job plan p a b c k l m (refusals.PlanDefect (defects.Text fault)) read taken rise accepted is = record {
+text_refusal job plan p a b c k l m (refusals.PlanDefect (defects.Text fault text)) read taken rise accepted is = record {
   plan = plan;
   program = p;
   asked = refl;
@@ -141,9 +141,9 @@ pub valid_refusal : (job plan : List ℕ) (checked : Checked) (nodes : List Node
     → WhereTold a b (IsJobRead job (program_of checked)) → WhereTold a b (TakesFrom job) → IsAccepted (program_of checked)
     → WhereTold b c (IsPlanRead (program_of checked) plan nodes) → IsValidRefusal checked nodes refusal → IsRefusal (Valid job plan) a c k m refusal
 valid_refusal job plan checked nodes a b c k m (refusals.BadWords bad) read taken accepted found is = is
-valid_refusal job plan checked nodes a b c k m (refusals.JobFault fault) read taken accepted found is = absurd is
+valid_refusal job plan checked nodes a b c k m (refusals.JobFault fault text) read taken accepted found is = absurd is
 valid_refusal job plan checked nodes a b c k m (refusals.Conflict fault) read taken accepted found is = absurd is
-valid_refusal job plan checked nodes a b c k m (refusals.PlanDefect (defects.Text fault)) read taken accepted found is = absurd is
+valid_refusal job plan checked nodes a b c k m (refusals.PlanDefect (defects.Text fault text)) read taken accepted found is = absurd is
 valid_refusal job plan checked nodes a b c k m (refusals.PlanDefect (defects.Invalid other fault)) read taken accepted found is =
     subst (λ (x : Checked). HasInvalidPlan (Valid job plan) a c (program_of x) fault.plan.nodes fault.why) (sym is.0)
     (subst (λ (ns : List Node). HasInvalidPlan (Valid job plan) a c (program_of checked) ns fault.why) (sym is.1)

@@ -2,17 +2,18 @@
 use Rattle.std.specs.Prelude.{◌≡◌, ℕ, List, Option, Some, Result, Ok, Err, ◌⊎◌}
 use Rattle.flu_outside.specs.Outside.{Contents, Rose}
 use Rattle.flu_streams.specs.declared.faults.SourceFault.{SourceFault}
-use Rattle.flu_top.specs.declared.refusals.JobRead.{JobRead}
-use Rattle.flu_top.specs.declared.refusals.Refusal.{Refusal}
-use Rattle.flu_top.specs.declared.refusals.Refusal.TheVariants as refusals
+use Rattle.flu_lines.specs.declared.refusals.JobRead.{JobRead}
+use Rattle.flu_lines.specs.declared.refusals.Refusal.{Refusal}
+use Rattle.flu_lines.specs.declared.refusals.Refusal.TheVariants as refusals
 use Rattle.flu_words.specs.Words.{Command, command_in}
-use Rattle.flu_top.specs.declared.products.Said.{Said}
-use Rattle.flu_top.specs.Wants.{want, job_wanted, how_read, save_named}
-use Rattle.flu_top.specs.Products.{line_said, MaySay}
-use Rattle.flu_top.specs.Causes.{HasJobFault, HasConflict, HasPlanDefect, HasSaveDefect, HasSourceFault, HasTraceFault}
-use Rattle.flu_top.specs.Done.{IsDone, WhereKnown, Wrote, WroteSome, WroteForMemory, WroteForPut, WrotePart}
-use Rattle.flu_top.specs.Jobs.{program_read}
-use Rattle.flu_top.specs.ReadFaults.{HasReadFault}
+use Rattle.flu_lines.specs.declared.products.Said.{Said}
+use Rattle.flu_command.specs.Wants.{want, job_wanted, how_read, save_named}
+use Rattle.flu_lines.specs.Products.{line_said}
+use Rattle.flu_top.specs.Products.{MaySay}
+use Rattle.flu_command.specs.Causes.{HasJobFault, HasConflict, HasPlanDefect, HasSaveDefect, HasSourceFault, HasTraceFault}
+use Rattle.flu_command.specs.Done.{IsDone, WhereKnown, Wrote, WroteSome, WroteForMemory, WroteForPut, WrotePart}
+use Rattle.flu_lines.specs.Jobs.{program_read}
+use Rattle.flu_command.specs.ReadFaults.{HasReadFault}
 
 -- what a call finds, and what it leaves: the files with their counts of takes and of puts, and out with its count
 pub record Call : Type 0 where
@@ -79,7 +80,7 @@ pub record HasAll (c : Call) (command : Command) (said : Option Said) : Type 0 w
 -- what is true of a call of a command that was refused
 abbrev pub IsStopped : Call → Command → Refusal → Type 0
 IsStopped c command (refusals.BadWords bad) = ⊥
-IsStopped c command (refusals.JobFault fault) = HasJobFault (job_wanted command) c.left c.left_after fault × WroteNothing c
+IsStopped c command (refusals.JobFault fault text) = HasJobFault (job_wanted command) c.left c.left_after fault × WroteNothing c
 IsStopped c command (refusals.Conflict fault) = HasConflict command c.left c.left_after fault × WroteNothing c
 IsStopped c command (refusals.PlanDefect defect) = HasPlanDefect command c.left c.left_after defect × WroteNothing c
 IsStopped c command (refusals.SourceFault job fault) = HasDefectMet c command job fault

@@ -9,9 +9,9 @@ use Rattle.flu_streams.specs.declared.faults.SourceFault.{SourceFault}
 use Rattle.flu_streams.specs.Faults.{HidesNothing}
 use Rattle.flu_streams.specs.Files.{files_of}
 use Rattle.flu_streams.specs.Good.{first_fault, lists_of}
-use Rattle.flu_top.specs.declared.refusals.Refusal.{Refusal}
-use Rattle.flu_top.specs.declared.refusals.Refusal.TheVariants as refusals
-use Rattle.flu_top.specs.Jobs.{program_read}
+use Rattle.flu_lines.specs.declared.refusals.Refusal.{Refusal}
+use Rattle.flu_lines.specs.declared.refusals.Refusal.TheVariants as refusals
+use Rattle.flu_lines.specs.Jobs.{program_read}
 
 -- the program's sources have no defect, and they were read to their end
 pub record AreSourcesRead (p : Program) (old new : Contents) : Type 0 where
@@ -32,7 +32,7 @@ pub record IsFaulty (p : Program) (old new : Option Contents) (q : Program) (fau
 -- why there is no report of a program
 abbrev pub IsReportRefusal : Program → Option Contents → Option Contents → (List ℕ → ℕ) → (List ℕ → ℕ) → Refusal → Type 0
 IsReportRefusal p old new before now (refusals.BadWords bad) = ⊥
-IsReportRefusal p old new before now (refusals.JobFault fault) = ⊥
+IsReportRefusal p old new before now (refusals.JobFault fault text) = ⊥
 IsReportRefusal p old new before now (refusals.Conflict fault) = ⊥
 IsReportRefusal p old new before now (refusals.PlanDefect defect) = ⊥
 IsReportRefusal p old new before now (refusals.SourceFault job fault) = IsFaulty p old new (program_read job) fault

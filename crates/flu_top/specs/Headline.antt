@@ -21,10 +21,10 @@ use Rattle.flu_streams.specs.Files.{files_of}
 use Rattle.flu_streams.specs.Good.{first_fault, lists_of}
 use Rattle.flu_streams.specs.Rounds.{defect_in}
 use Rattle.flu_words.specs.Words.{Fold, Run, Simulate, Replay, command_in}
-use Rattle.flu_top.specs.Emptied.{emptied, emptied_each, if_named}
-use Rattle.flu_top.specs.Outside.{Outside, Faults}
+use Rattle.flu_command.specs.Emptied.{emptied, emptied_each, if_named}
+use Rattle.flu_command.specs.Outside.{Outside, Faults}
 use Rattle.flu_top.specs.Outcome.{Outcome, Completes}
-use Rattle.flu_top.specs.Replaying.{HasCompleteTrace}
+use Rattle.flu_command.specs.Replaying.{HasCompleteTrace}
 
 -- ---- what is written
 -- THE REPORT OF THE FOLD: the events of a job's sources are merged in order and folded from the empty state, and these are the lines of

@@ -1,25 +1,16 @@
--- A job that was read, and what refuses the reading of one.
+-- What refuses the reading of a job.
 use Rattle.std.specs.Prelude.{ℕ, List, Option, ⊤}
 use Rattle.flu_outside.specs.Outside.{Contents, Rose, WhereTold}
 use Rattle.flu_outside.specs.Taking.{TookAtMost}
-use Rattle.flu_model.specs.declared.jobs.Program.{Program}
-use Rattle.flu_deps.specs.Checking.{program_of}
-use Rattle.flu_top.specs.declared.refusals.JobRead.{JobRead}
-use Rattle.flu_top.specs.declared.refusals.JobRead.TheVariants as read
-use Rattle.flu_top.specs.declared.refusals.Refusal.{Refusal}
-use Rattle.flu_top.specs.declared.refusals.Refusal.TheVariants as refusals
-use Rattle.flu_top.specs.Behind.{Named}
-use Rattle.flu_top.specs.Causes.{HasJobFault}
-
--- the program of a job that was read
-abbrev pub program_read : JobRead → Program
-program_read (read.Unchecked p) = p
-program_read (read.Accepted checked) = program_of checked
+use Rattle.flu_lines.specs.declared.refusals.Refusal.{Refusal}
+use Rattle.flu_lines.specs.declared.refusals.Refusal.TheVariants as refusals
+use Rattle.flu_command.specs.Behind.{Named}
+use Rattle.flu_command.specs.Causes.{HasJobFault}
 
 -- why a job was not read
 abbrev pub IsJobRefusal : List ℕ → Option Contents → Option Contents → (List ℕ → ℕ) → (List ℕ → ℕ) → Refusal → Type 0
 IsJobRefusal job old new before now (refusals.BadWords bad) = ⊥
-IsJobRefusal job old new before now (refusals.JobFault fault) = HasJobFault (Named job) old new fault
+IsJobRefusal job old new before now (refusals.JobFault fault text) = HasJobFault (Named job) old new fault
 IsJobRefusal job old new before now (refusals.Conflict fault) = ⊥
 IsJobRefusal job old new before now (refusals.PlanDefect defect) = ⊥
 IsJobRefusal job old new before now (refusals.SourceFault other fault) = ⊥

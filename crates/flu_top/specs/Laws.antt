@@ -15,28 +15,29 @@ use Rattle.flu_model.specs.Modes.{IsAccepted}
 use Rattle.flu_parse.specs.declared.faults.JobFault.{JobFault}
 use Rattle.flu_check.specs.declared.CheckFault.{CheckFault}
 use Rattle.flu_streams.specs.declared.faults.SourceFault.{SourceFault}
-use Rattle.flu_top.specs.declared.refusals.PlanDefect.{PlanDefect}
-use Rattle.flu_top.specs.declared.refusals.SaveDefect.{SaveDefect}
+use Rattle.flu_lines.specs.declared.refusals.PlanDefect.{PlanDefect}
+use Rattle.flu_lines.specs.declared.refusals.SaveDefect.{SaveDefect}
 use Rattle.flu_trace.specs.declared.faults.ReplayFault.{ReplayFault}
 use Rattle.flu_words.specs.Words.{Command, Run, RunOptions, Simulate, Demo, command_in}
-use Rattle.flu_top.specs.Taking.{TookOnly}
-use Rattle.flu_top.specs.Behind.{Named, HasJob, report_behind}
-use Rattle.flu_top.specs.Openings.{Opening, report_from}
-use Rattle.flu_top.specs.Reading.{InRounds, HasDefect}
-use Rattle.flu_top.specs.Replaying.{HasCompleteTrace}
-use Rattle.flu_top.specs.TextFaults.{IsFirstJobFault}
-use Rattle.flu_top.specs.Starting.{StartsFrom, CanStart}
-use Rattle.flu_top.specs.Wants.{want, job_wanted, plan_named, if_named, asks_accepted, how_read, says_nothing, texts_named, Writes, IsObservedText}
-use Rattle.flu_top.specs.Wants.{IsSomePlanText}
-use Rattle.flu_top.specs.Done.{HasValidPlan, HasPlanAsked, IsGood, IsDone, WhereKnown, Wrote, WroteSome, WroteForMemory, WroteForPut, WrotePart, IsReadBy}
-use Rattle.flu_top.specs.Done.{IsSavedBy, MayBePut}
-use Rattle.flu_top.specs.Causes.{HasJobFault, HasConflict, HasPlanDefect, HasSaveDefect, HasSourceFault, HasTraceFault}
-use Rattle.flu_top.specs.Names.{source_name}
-use Rattle.flu_top.specs.Simulating.{IsLineOfRun, IsStepLine}
-use Rattle.flu_top.specs.Demos.{demo_job, demo_summary}
-use Rattle.flu_top.specs.Lines.{bad_words_line, job_fault_line, conflict_line, plan_defect_line, source_fault_line, read_fault_line, write_fault_line}
-use Rattle.flu_top.specs.Lines.{no_memory_line, save_defect_line, put_fault_line, trace_fault_line}
-use Rattle.flu_top.specs.Outcome.{Outside, Said, Hears, Outcome, ReadOnly, Faults, FaultsFirst, HasFaultyTrace, CallsFor, NothingFailed, Completes}
+use Rattle.flu_command.specs.Taking.{TookOnly}
+use Rattle.flu_command.specs.Behind.{Named, HasJob, report_behind}
+use Rattle.flu_command.specs.Openings.{Opening, report_from}
+use Rattle.flu_command.specs.Reading.{InRounds, HasDefect}
+use Rattle.flu_command.specs.Replaying.{HasCompleteTrace}
+use Rattle.flu_command.specs.TextFaults.{IsFirstJobFault}
+use Rattle.flu_command.specs.Starting.{StartsFrom, CanStart}
+use Rattle.flu_command.specs.Wants.{want, job_wanted, plan_named, if_named, asks_accepted, how_read, says_nothing, texts_named, Writes, IsObservedText}
+use Rattle.flu_command.specs.Wants.{IsSomePlanText}
+use Rattle.flu_command.specs.Done.{HasValidPlan, HasPlanAsked, IsGood, IsDone, WhereKnown, Wrote, WroteSome, WroteForMemory, WroteForPut, WrotePart, IsReadBy}
+use Rattle.flu_command.specs.Done.{IsSavedBy, MayBePut}
+use Rattle.flu_command.specs.Causes.{HasJobFault, HasConflict, HasPlanDefect, HasSaveDefect, HasSourceFault, HasTraceFault}
+use Rattle.flu_lines.specs.Names.{source_name}
+use Rattle.flu_command.specs.Simulating.{IsLineOfRun, IsStepLine}
+use Rattle.flu_command.specs.Demos.{demo_job, demo_summary}
+use Rattle.flu_lines.specs.Lines.{bad_words_line, job_fault_line, conflict_line, plan_defect_line, source_fault_line, read_fault_line, write_fault_line}
+use Rattle.flu_lines.specs.Lines.{no_memory_line, save_defect_line, put_fault_line, trace_fault_line}
+use Rattle.flu_top.specs.Outcome.{Outside, Said, Hears, Outcome, ReadOnly, Faults, FaultsFirst, NothingFailed, Completes}
+use Rattle.flu_command.specs.Calling.{HasFaultyTrace}
 
 -- ---- the statuses
 -- the status is one of these
@@ -362,7 +363,3 @@ CompletesByFaults =
     (words : List (List ℕ)) (old new : Outside) (status : ℕ) (before now : Faults)
     → Outcome words old new status → FaultsFirst words old.left before now status
     → Completes words old.left before now status
-
--- a command and the files call for one status at most: what refuses a command comes in an order, and the first decides
-abbrev pub CallsForOneStatus : Type 0
-CallsForOneStatus = (command : Command) (left : Contents) (a b : ℕ) → CallsFor command left a → CallsFor command left b → a ≡ b

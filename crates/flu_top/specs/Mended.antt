@@ -1,33 +1,19 @@
 -- Sources whose defects are mended: what a run writes before it meets a defect, whatever is in place of it.
-use Rattle.std.specs.Prelude.{◌≡◌, ℕ, List, ◌++◌, Option, Some, None, Ok}
-use Rattle.flu_lemmas.specs.Elements.{AtEach}
+use Rattle.std.specs.Prelude.{◌≡◌, ℕ, List, ◌++◌, Option, Some, Ok}
 use Rattle.flu_outside.specs.Outside.{Contents, WhereTold, Appends}
-use Rattle.flu_model.specs.declared.jobs.Kind.{Kind}
-use Rattle.flu_model.specs.declared.jobs.Source.{Source}
 use Rattle.flu_model.specs.declared.jobs.Program.{Program}
 use Rattle.flu_model.specs.Folding.{final_outputs}
 use Rattle.flu_model.specs.Reports.{report}
-use Rattle.flu_rows.specs.declared.rows.Next.{Next}
 use Rattle.flu_streams.specs.Good.{lists_of}
-use Rattle.flu_streams.specs.Rounds.{defect_in}
-use Rattle.flu_rounds.specs.Written.{AreSound, lines_in, lists_above}
+use Rattle.flu_rounds.specs.Written.{lists_above}
 use Rattle.flu_words.specs.Words.{Run, RunOptions, command_in}
-use Rattle.flu_top.specs.Behind.{Named, HasJob, emptied_each}
-use Rattle.flu_top.specs.Openings.{Opening}
+use Rattle.flu_command.specs.Mending.{AreMended}
+use Rattle.flu_command.specs.Behind.{Named, HasJob, emptied_each}
+use Rattle.flu_command.specs.Openings.{Opening}
 use Rattle.flu_top.specs.Outcome.{Outside, Outcome}
-use Rattle.flu_top.specs.Reading.{InRounds, HasDefect}
-use Rattle.flu_top.specs.Starting.{StartsFrom, CanStart}
-use Rattle.flu_top.specs.Wants.{texts_named}
-
--- THE LINES OF A SOURCE ARE MENDED: those before its first defect stay, whatever comes after them; and if it has none, all stay
-pub record IsMended (kinds : List Kind) (s : Source) (whole mended : List Next) : Type 0 where
-  pub fronts : (front rest : List Next) → whole ≡ front ++ rest → defect_in kinds s front ≡ None → (others : List Next) × (mended ≡ front ++ others)
-  pub good : defect_in kinds s whole ≡ None → mended ≡ whole
-
--- THE SOURCES OF A JOB ARE MENDED: the lines of each are, and now none has a defect
-pub record AreMended (p : Program) (left mended : Contents) : Type 0 where
-  pub each : AtEach (λ i s. IsMended p.kinds s (lines_in p left i) (lines_in p mended i)) p.sources
-  pub sound : AreSound p (lines_in p mended)
+use Rattle.flu_command.specs.Reading.{InRounds, HasDefect}
+use Rattle.flu_command.specs.Starting.{StartsFrom, CanStart}
+use Rattle.flu_command.specs.Wants.{texts_named}
 
 -- what a run wrote whose sources have a defect is a prefix of the report of any sources that mend it, whatever the run's status: also of
 -- those that end before the defect, so that it says nothing about what comes after one

@@ -1,33 +1,29 @@
 -- THE OUTCOME of a call of `flumina`: what its status says about the words, about what the files held and hold, and about what out and
 -- err got.
-use Rattle.std.specs.Prelude.{◌≡◌, ◌≢◌, ℕ, List, Option, Some, Ok, Err, IsTrue, ◌⊎◌}
+use Rattle.std.specs.Prelude.{◌≡◌, ◌≢◌, ℕ, List, Option, Some, Ok, Err, ◌⊎◌}
 use Rattle.flu_outside.specs.Outside.{Contents, WhereTold, Rose, SameCounts}
-use Rattle.flu_outside.specs.Taking.{bytes_left}
 use Rattle.flu_model.specs.declared.jobs.Program.{Program}
-use Rattle.flu_model.specs.Modes.{IsAccepted}
 use Rattle.flu_parse.specs.declared.faults.JobFault.{JobFault}
 use Rattle.flu_check.specs.declared.CheckFault.{CheckFault}
 use Rattle.flu_streams.specs.declared.faults.SourceFault.{SourceFault}
-use Rattle.flu_top.specs.declared.refusals.PlanDefect.{PlanDefect}
-use Rattle.flu_top.specs.declared.refusals.SaveDefect.{SaveDefect}
+use Rattle.flu_lines.specs.declared.statuses.Status.{Status}
+use Rattle.flu_lines.specs.declared.statuses.Status.TheVariants as statuses
+use Rattle.flu_lines.specs.Statuses.{code}
+use Rattle.flu_lines.specs.declared.refusals.PlanDefect.{PlanDefect}
+use Rattle.flu_lines.specs.declared.refusals.SaveDefect.{SaveDefect}
 use Rattle.flu_trace.specs.declared.faults.ReplayFault.{ReplayFault}
-use Rattle.flu_trace.specs.Replaying.{Ending, Complete}
 use Rattle.flu_words.specs.Words.{Command, command_in}
-pub use Rattle.flu_top.specs.Outside.{Outside, outside, Faults, faults}
-use Rattle.flu_top.specs.Taking.{TookOnly, TookFrontsBut}
-use Rattle.flu_top.specs.Behind.{Named, HasJob}
-use Rattle.flu_top.specs.Reading.{HasDefect}
-use Rattle.flu_top.specs.TextFaults.{IsFirstJobFault}
-use Rattle.flu_top.specs.Wants.{Saying, Nothing, Line, want, save_named, texts_named}
-use Rattle.flu_top.specs.Starting.{CanStart}
-use Rattle.flu_top.specs.Replaying.{ReplaysTo, HasCompleteTrace}
-use Rattle.flu_top.specs.Done.{HasValidPlan, HasPlanAsked, IsGood, IsDone, WhereKnown, Wrote, WroteSome, WroteForMemory, WroteForPut, WrotePart, IsReadName}
-use Rattle.flu_top.specs.Done.{IsReadBy, IsSavedBy, MayBePut}
-use Rattle.flu_top.specs.Causes.{HasJobFault, HasConflict, HasPlanDefect, HasSaveDefect, HasSourceFault, HasTraceFault}
-use Rattle.flu_top.specs.ReadFaults.{HasReadFault}
-use Rattle.flu_top.specs.Names.{source_name}
-use Rattle.flu_top.specs.Lines.{IsSaid, bad_words_line, job_fault_line, conflict_line, plan_defect_line, source_fault_line}
-use Rattle.flu_top.specs.Lines.{read_fault_line, write_fault_line, no_memory_line, save_defect_line, put_fault_line, trace_fault_line}
+use Rattle.flu_command.specs.Calling.{CallsFor}
+pub use Rattle.flu_command.specs.Outside.{Outside, outside, Faults, faults}
+use Rattle.flu_command.specs.Taking.{TookOnly, TookFrontsBut}
+use Rattle.flu_command.specs.Wants.{Saying, Nothing, Line, want, save_named}
+use Rattle.flu_command.specs.Done.{IsDone, WhereKnown, Wrote, WroteSome, WroteForMemory, WroteForPut, WrotePart, IsReadName}
+use Rattle.flu_command.specs.Done.{IsReadBy, IsSavedBy, MayBePut}
+use Rattle.flu_command.specs.Causes.{HasJobFault, HasConflict, HasPlanDefect, HasSaveDefect, HasSourceFault, HasTraceFault}
+use Rattle.flu_command.specs.ReadFaults.{HasReadFault}
+use Rattle.flu_lines.specs.Names.{source_name}
+use Rattle.flu_lines.specs.Lines.{IsSaid, bad_words_line, job_fault_line, conflict_line, plan_defect_line, source_fault_line}
+use Rattle.flu_lines.specs.Lines.{read_fault_line, write_fault_line, no_memory_line, save_defect_line, put_fault_line, trace_fault_line}
 
 -- err got this line, or failed and has a prefix of it
 abbrev pub Said : Outside → Outside → List ℕ → Type 0
@@ -44,59 +40,48 @@ pub record Refused (old new : Outside) (line : List ℕ) : Type 0 where
   pub said : Said old new line
 
 -- ---- the cases, one for each status: `old` is the outside before the call, and `new` after it
-pub data Outcome (words : List (List ℕ)) (old new : Outside) (status : ℕ) : Type 0 where
-  -- nothing refuses the command, all that it reads was read to its end, out got all that it writes, err what it says, and the last
-  -- checkpoint is in its place, if it saves any
-  Done : status ≡ 0 → (command : Command) → command_in words ≡ Ok command → (line : List ℕ)
-      → WhereKnown (want command).job old.left new.left (IsDone command old.out new.out line)
-      → Hears (want command).says old new line → Outcome words old new status
-  -- the words are not a command: the one at this place does not fit; no file was read
-  BadWords : status ≡ 2 → (at : ℕ) → command_in words ≡ Err at
-      → new.left ≡ old.left → Refused old new (bad_words_line at) → Outcome words old new status
-  -- the bytes of the command's job have this first fault
-  BadJob : status ≡ 3 → (command : Command) → command_in words ≡ Ok command → (fault : JobFault)
-      → HasJobFault (want command).job old.left new.left fault
-      → Refused old new (job_fault_line fault) → Outcome words old new status
-  -- the command wants an accepted job, and its job has this first conflict
-  Conflicts : status ≡ 4 → (command : Command) → command_in words ≡ Ok command → (fault : CheckFault)
-      → HasConflict command old.left new.left fault
-      → Refused old new (conflict_line fault) → Outcome words old new status
-  -- the command's plan has this first defect for its job, which is accepted
-  BadPlan : status ≡ 5 → (command : Command) → command_in words ≡ Ok command → (defect : PlanDefect)
-      → HasPlanDefect command old.left new.left defect
-      → Refused old new (plan_defect_line defect) → Outcome words old new status
-  -- the command reads the sources of its job, and this is the first defect of the first one that has any; if it reads them in
-  -- rounds, it is the defect of the earliest round that meets one, and out got what the rounds before that one wrote, as the name
-  -- that it saves to has what they put
-  BadSource : status ≡ 6 → (command : Command) → command_in words ≡ Ok command → (p : Program) (fault : SourceFault) (text : List ℕ)
-      → HasSourceFault command old.left new.left p fault text → Wrote (want command).sources text old.out new.out
-      → Said old new (source_fault_line (source_name p fault.source) fault.row fault.why)
-      → Outcome words old new status
-  -- a file that the command reads failed; if it reads in rounds, out may have what the rounds up to some round wrote
-  ReadFailed : status ≡ 7 → (command : Command) → command_in words ≡ Ok command
-      → WroteSome (want command).sources command old.left new.left old.out new.out
-      → Said old new read_fault_line → Outcome words old new status
-  -- nothing refuses the command, and all that it reads was read; out failed, and got a proper prefix of what the command writes;
-  -- if it reads in rounds, it has what the rounds up to some round wrote, and a prefix of the next round's report
-  WriteFailed : status ≡ 8 → (command : Command) → command_in words ≡ Ok command
-      → WrotePart (want command).sources command old.left new.left old.out new.out
-      → Said old new write_fault_line → Outcome words old new status
-  -- memory ran out; if the command reads in rounds, out may have what the rounds up to some round wrote
-  NoMemory : status ≡ 9 → (command : Command) → command_in words ≡ Ok command
-      → WroteForMemory (want command).sources command old.left new.left old.out new.out
-      → Said old new no_memory_line → Outcome words old new status
-  -- a run can't start: a name that it saves to or is resumed from is the name of a source's file, or its checkpoint has this first fault
-  BadSave : status ≡ 11 → (command : Command) → command_in words ≡ Ok command → (defect : SaveDefect)
-      → HasSaveDefect command old.left new.left defect
-      → Refused old new (save_defect_line defect) → Outcome words old new status
-  -- a checkpoint could not be put; out has the report of its round and of the rounds before it
-  PutFailed : status ≡ 12 → (command : Command) → command_in words ≡ Ok command
-      → WroteForPut command old.left new.left old.out new.out
-      → Said old new put_fault_line → Outcome words old new status
-  -- the command reads a trace, nothing refuses the command before that, and this stops the replay of the trace
-  BadTrace : status ≡ 13 → (command : Command) → command_in words ≡ Ok command → (fault : ReplayFault)
-      → HasTraceFault command old.left new.left fault
-      → Refused old new (trace_fault_line fault) → Outcome words old new status
+abbrev pub Ended : Command → Outside → Outside → Status → Type 0
+-- nothing refuses the command, all that it reads was read to its end, out got all that it writes, err what it says, and the last
+-- checkpoint is in its place, if it saves any
+Ended command old new statuses.Done = (line : List ℕ) × WhereKnown (want command).job old.left new.left (IsDone command old.out new.out line)
+    × Hears (want command).says old new line
+-- no command is refused for its words
+Ended command old new statuses.BadWords = ⊥
+-- the bytes of the command's job have this first fault
+Ended command old new statuses.JobFault = (fault : JobFault) × HasJobFault (want command).job old.left new.left fault
+    × Refused old new (job_fault_line fault)
+-- the command wants an accepted job, and its job has this first conflict
+Ended command old new statuses.Conflict = (fault : CheckFault) × HasConflict command old.left new.left fault × Refused old new (conflict_line fault)
+-- the command's plan has this first defect for its job, which is accepted
+Ended command old new statuses.PlanDefect = (defect : PlanDefect) × HasPlanDefect command old.left new.left defect
+    × Refused old new (plan_defect_line defect)
+-- the command reads the sources of its job, and this is the first defect of the first one that has any; if it reads them in
+-- rounds, it is the defect of the earliest round that meets one, and out got what the rounds before that one wrote, as the name
+-- that it saves to has what they put
+Ended command old new statuses.SourceFault = (p : Program) × (fault : SourceFault) × (text : List ℕ)
+    × HasSourceFault command old.left new.left p fault text × Wrote (want command).sources text old.out new.out
+    × Said old new (source_fault_line (source_name p fault.source) fault.row fault.why)
+-- a file that the command reads failed; if it reads in rounds, out may have what the rounds up to some round wrote
+Ended command old new statuses.ReadFault = WroteSome (want command).sources command old.left new.left old.out new.out × Said old new read_fault_line
+-- nothing refuses the command, and all that it reads was read; out failed, and got a proper prefix of what the command writes;
+-- if it reads in rounds, it has what the rounds up to some round wrote, and a prefix of the next round's report
+Ended command old new statuses.WriteFault = WrotePart (want command).sources command old.left new.left old.out new.out × Said old new write_fault_line
+-- memory ran out; if the command reads in rounds, out may have what the rounds up to some round wrote
+Ended command old new statuses.NoMemory = WroteForMemory (want command).sources command old.left new.left old.out new.out × Said old new no_memory_line
+-- a run can't start: a name that it saves to or is resumed from is the name of a source's file, or its checkpoint has this first fault
+Ended command old new statuses.SaveDefect = (defect : SaveDefect) × HasSaveDefect command old.left new.left defect
+    × Refused old new (save_defect_line defect)
+-- a checkpoint could not be put; out has the report of its round and of the rounds before it
+Ended command old new statuses.PutFault = WroteForPut command old.left new.left old.out new.out × Said old new put_fault_line
+-- the command reads a trace, nothing refuses the command before that, and this stops the replay of the trace
+Ended command old new statuses.TraceFault = (fault : ReplayFault) × HasTraceFault command old.left new.left fault × Refused old new (trace_fault_line fault)
+
+-- the words are a command, which ended as its status says; or they are none: the one at this place does not fit, and no file was read
+pub data Outcome (words : List (List ℕ)) (old new : Outside) (number : ℕ) : Type 0 where
+  OfCommand : (status : Status) → number ≡ code status → (command : Command) → command_in words ≡ Ok command → Ended command old new status
+      → Outcome words old new number
+  OfNone : number ≡ code statuses.BadWords → (at : ℕ) → command_in words ≡ Err at → new.left ≡ old.left → Refused old new (bad_words_line at)
+      → Outcome words old new number
 
 -- ---- what was read
 -- bytes were taken from the front of names, and of no name that the call does not read, except for one that it put
@@ -121,32 +106,6 @@ pub record HidesNothing (words : List (List ℕ)) (old new : Option Contents) (b
   pub failed : status ≡ 7 → (command : Command) × (command_in words ≡ Ok command) × HasReadFault command old new before.takes now.takes
 
 -- ---- completeness
--- the command reads a trace, nothing refuses the command before that, and the trace is not complete
-pub record HasFaultyTrace (command : Command) (left : Contents) : Type 0 where
-  pub p : Program
-  pub good : IsGood command left p
-  pub trace : List ℕ
-  pub named : (want command).trace ≡ Some trace
-  pub ending : Ending
-  pub ends : ReplaysTo command trace left p ending
-  pub faulty : ending ≢ Complete
-
--- the status that a command and the files call for if nothing fails
-pub data CallsFor (command : Command) (left : Contents) (status : ℕ) : Type 0 where
-  Good : status ≡ 0 → (p : Program) → IsGood command left p → HasCompleteTrace command left p → CallsFor command left status
-  FaultyJob : status ≡ 3 → (name : List ℕ) (fault : JobFault) → (want command).job ≡ Named name
-      → IsFirstJobFault (bytes_left left name) fault → CallsFor command left status
-  NotAccepted : status ≡ 4 → (p : Program) → IsTrue (want command).accepted → HasJob (want command).job left p
-      → ¬ IsAccepted p → CallsFor command left status
-  NoValidPlan : status ≡ 5 → (p : Program) (plan : List ℕ) → (want command).plan ≡ Some plan
-      → HasJob (want command).job left p → IsAccepted p
-      → ¬ HasValidPlan (want command).job plan left p → CallsFor command left status
-  FaultyStart : status ≡ 11 → (p : Program) → HasJob (want command).job left p → (IsTrue (want command).accepted → IsAccepted p)
-      → HasPlanAsked command left p → ¬ CanStart command left p → CallsFor command left status
-  FaultySource : status ≡ 6 → (p : Program) → HasJob (want command).job left p → (IsTrue (want command).accepted → IsAccepted p)
-      → HasPlanAsked command left p → CanStart command left p → HasDefect (want command).sources (texts_named command) left p → CallsFor command left status
-  FaultyTrace : status ≡ 13 → HasFaultyTrace command left → CallsFor command left status
-
 -- no name that the command reads failed, none that it saves to, nor did out
 pub record NothingFailed (command : Command) (left : Option Contents) (before now : Faults) : Type 0 where
   pub files : (name : List ℕ) → IsReadName left command name → ¬ Rose (before.takes name) (now.takes name)

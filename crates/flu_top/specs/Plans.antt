@@ -9,11 +9,11 @@ use Rattle.flu_outside.specs.Taking.{bytes_left, TookAtMost}
 use Rattle.flu_plan.specs.declared.fault.PlanFault.{PlanFault}
 use Rattle.flu_plan.specs.declared.fault.PlanFault.TheVariants as faults
 use Rattle.flu_grammar.specs.Plans.{IsPlanText}
-use Rattle.flu_top.specs.TextFaults.{IsFirstTextFault}
-use Rattle.flu_top.specs.declared.refusals.PlanDefect.TheVariants as defects
-use Rattle.flu_top.specs.declared.refusals.Refusal.{Refusal}
-use Rattle.flu_top.specs.declared.refusals.Refusal.TheVariants as refusals
-use Rattle.flu_top.specs.Causes.{IsInvalid}
+use Rattle.flu_command.specs.TextFaults.{IsFirstTextFault}
+use Rattle.flu_lines.specs.declared.refusals.PlanDefect.TheVariants as defects
+use Rattle.flu_lines.specs.declared.refusals.Refusal.{Refusal}
+use Rattle.flu_lines.specs.declared.refusals.Refusal.TheVariants as refusals
+use Rattle.flu_command.specs.Causes.{IsInvalid}
 
 -- the bytes under a name are the text of this plan of the job, and were read to their end
 pub record IsPlanRead (p : Program) (plan : List ℕ) (nodes : List Node) (old new : Contents) : Type 0 where
@@ -28,9 +28,9 @@ pub record HasTextFault (p : Program) (plan : List ℕ) (old new : Option Conten
 -- why a plan was not read
 abbrev pub IsTextRefusal : Program → List ℕ → Option Contents → Option Contents → (List ℕ → ℕ) → (List ℕ → ℕ) → Refusal → Type 0
 IsTextRefusal p plan old new before now (refusals.BadWords bad) = ⊥
-IsTextRefusal p plan old new before now (refusals.JobFault fault) = ⊥
+IsTextRefusal p plan old new before now (refusals.JobFault fault text) = ⊥
 IsTextRefusal p plan old new before now (refusals.Conflict fault) = ⊥
-IsTextRefusal p plan old new before now (refusals.PlanDefect (defects.Text fault)) = HasTextFault p plan old new fault
+IsTextRefusal p plan old new before now (refusals.PlanDefect (defects.Text fault text)) = HasTextFault p plan old new fault
 IsTextRefusal p plan old new before now (refusals.PlanDefect (defects.Invalid checked fault)) = ⊥
 IsTextRefusal p plan old new before now (refusals.SourceFault q fault) = ⊥
 IsTextRefusal p plan old new before now refusals.ReadFault = Rose (before plan) (now plan) × WhereTold old new (TookAtMost plan 1048576)
@@ -43,9 +43,9 @@ IsTextRefusal p plan old new before now (refusals.TraceFault fault) = ⊥
 -- why a plan that was read is refused
 abbrev pub IsValidRefusal : Checked → List Node → Refusal → Type 0
 IsValidRefusal checked nodes (refusals.BadWords bad) = ⊥
-IsValidRefusal checked nodes (refusals.JobFault fault) = ⊥
+IsValidRefusal checked nodes (refusals.JobFault fault text) = ⊥
 IsValidRefusal checked nodes (refusals.Conflict fault) = ⊥
-IsValidRefusal checked nodes (refusals.PlanDefect (defects.Text fault)) = ⊥
+IsValidRefusal checked nodes (refusals.PlanDefect (defects.Text fault text)) = ⊥
 IsValidRefusal checked nodes (refusals.PlanDefect (defects.Invalid other fault)) =
     (other ≡ checked) × (fault.plan.nodes ≡ nodes) × IsInvalid (program_of checked) nodes fault.why
 IsValidRefusal checked nodes (refusals.SourceFault q fault) = ⊥

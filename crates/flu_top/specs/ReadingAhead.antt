@@ -19,7 +19,7 @@ use Rattle.flu_rounds.specs.Halves.{Begins}
 use Rattle.flu_rounds.specs.Standing.{Standing, IsSourceFault, StandsBehind}
 use Rattle.flu_top.specs.declared.running.RunFault.{RunFault}
 use Rattle.flu_top.specs.Ending.{Call, call}
-use Rattle.flu_top.specs.Openings.{Opening}
+use Rattle.flu_command.specs.Openings.{Opening}
 use Rattle.flu_top.specs.Running.{EndsRounds, GoesOn, IsWithin, StaysWithin}
 
 -- how many later borders there may be after a round's end

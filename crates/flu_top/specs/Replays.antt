@@ -10,11 +10,11 @@ use Rattle.flu_streams.specs.Files.{files_of}
 use Rattle.flu_streams.specs.Good.{first_fault}
 use Rattle.flu_trace.specs.declared.faults.ReplayFault.{ReplayFault}
 use Rattle.flu_trace.specs.Replaying.{Ending, Complete, ending_of}
-use Rattle.flu_top.specs.declared.refusals.Refusal.{Refusal}
-use Rattle.flu_top.specs.declared.refusals.Refusal.TheVariants as refusals
+use Rattle.flu_lines.specs.declared.refusals.Refusal.{Refusal}
+use Rattle.flu_lines.specs.declared.refusals.Refusal.TheVariants as refusals
 use Rattle.flu_top.specs.Folding.{IsFaulty, IsReported}
-use Rattle.flu_top.specs.Jobs.{program_read}
-use Rattle.flu_top.specs.Replaying.{EndsOnNet, EndsBehind}
+use Rattle.flu_lines.specs.Jobs.{program_read}
+use Rattle.flu_command.specs.Replaying.{EndsOnNet, EndsBehind}
 
 -- a fault states an ending, of which this holds
 abbrev pub Tells : ReplayFault → (Ending → Type 0) → Type 0
@@ -24,7 +24,7 @@ Tells fault Holds = (ending : Ending) × (ending_of fault ≡ Some ending) × Ho
 -- why a trace was not replayed on the net of a plan over some items
 abbrev pub IsNetRefusal : Program → List Node → List (List Item) → List ℕ → Option Contents → Option Contents → (List ℕ → ℕ) → (List ℕ → ℕ) → Refusal → Type 0
 IsNetRefusal p nodes lists trace old new before now (refusals.BadWords bad) = ⊥
-IsNetRefusal p nodes lists trace old new before now (refusals.JobFault fault) = ⊥
+IsNetRefusal p nodes lists trace old new before now (refusals.JobFault fault text) = ⊥
 IsNetRefusal p nodes lists trace old new before now (refusals.Conflict fault) = ⊥
 IsNetRefusal p nodes lists trace old new before now (refusals.PlanDefect defect) = ⊥
 IsNetRefusal p nodes lists trace old new before now (refusals.SourceFault job fault) = ⊥
@@ -61,7 +61,7 @@ IsReadRise p trace old new before now =
 -- why the trace after the sources was not replayed
 abbrev pub IsReplayRefusal : Program → List Node → List ℕ → Option Contents → Option Contents → (List ℕ → ℕ) → (List ℕ → ℕ) → Refusal → Type 0
 IsReplayRefusal p nodes trace old new before now (refusals.BadWords bad) = ⊥
-IsReplayRefusal p nodes trace old new before now (refusals.JobFault fault) = ⊥
+IsReplayRefusal p nodes trace old new before now (refusals.JobFault fault text) = ⊥
 IsReplayRefusal p nodes trace old new before now (refusals.Conflict fault) = ⊥
 IsReplayRefusal p nodes trace old new before now (refusals.PlanDefect defect) = ⊥
 IsReplayRefusal p nodes trace old new before now (refusals.SourceFault job fault) = IsFaulty p old new (program_read job) fault

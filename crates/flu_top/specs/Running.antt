@@ -33,24 +33,24 @@ use Rattle.flu_save.specs.declared.fault.SaveFault.TheVariants as saves
 use Rattle.flu_save.specs.Checkpoint.{save}
 use Rattle.flu_save.specs.Forms.{IsFaultOf}
 use Rattle.flu_top.specs.declared.openings.Opening.{Opening as NamedOpening}
-use Rattle.flu_top.specs.declared.products.Said.{Said}
+use Rattle.flu_lines.specs.declared.products.Said.{Said}
 use Rattle.flu_top.specs.declared.running.RunFault.{RunFault}
 use Rattle.flu_top.specs.declared.running.RunFault.TheVariants.{Round, Unsaved}
-use Rattle.flu_top.specs.declared.refusals.Refusal.{Refusal}
-use Rattle.flu_top.specs.declared.refusals.Refusal.TheVariants as refusals
-use Rattle.flu_top.specs.declared.refusals.SaveDefect.TheVariants as defects
-use Rattle.flu_top.specs.Behind.{Named, HasJob}
-use Rattle.flu_top.specs.Done.{AppendsInto, HasValidPlan}
+use Rattle.flu_lines.specs.declared.refusals.Refusal.{Refusal}
+use Rattle.flu_lines.specs.declared.refusals.Refusal.TheVariants as refusals
+use Rattle.flu_lines.specs.declared.refusals.SaveDefect.TheVariants as defects
+use Rattle.flu_command.specs.Behind.{Named, HasJob}
+use Rattle.flu_command.specs.Done.{AppendsInto, HasValidPlan}
 use Rattle.flu_top.specs.Ending.{Call}
-use Rattle.flu_top.specs.Jobs.{program_read}
-use Rattle.flu_top.specs.Openings.{Opening, Opens}
-use Rattle.flu_top.specs.Products.{line_of_said, line_said}
-use Rattle.flu_top.specs.Reading.{HaveWritten, MeetsDefect, ReportsNext, greatest_border}
-use Rattle.flu_top.specs.Ready.{AreTextsRead}
-use Rattle.flu_top.specs.Starting.{LeavesPut, LeavesAnything}
-use Rattle.flu_top.specs.Taking.{TookOnly, TookFrontsBut}
-use Rattle.flu_top.specs.Unfinished.{Unfinished, IsUnfinished}
-use Rattle.flu_top.specs.Wants.{if_named, IsSomePlanText}
+use Rattle.flu_lines.specs.Jobs.{program_read}
+use Rattle.flu_command.specs.Openings.{Opening, Opens}
+use Rattle.flu_lines.specs.Products.{line_of_said, line_said}
+use Rattle.flu_command.specs.Reading.{HaveWritten, MeetsDefect, ReportsNext, greatest_border}
+use Rattle.flu_command.specs.Ready.{AreTextsRead}
+use Rattle.flu_command.specs.Starting.{LeavesPut, LeavesAnything}
+use Rattle.flu_command.specs.Taking.{TookOnly, TookFrontsBut}
+use Rattle.flu_command.specs.Unfinished.{Unfinished, IsUnfinished}
+use Rattle.flu_command.specs.Wants.{if_named, IsSomePlanText}
 
 -- ---- before the rounds
 -- the bytes under the job's name are the text of this program, those under the plan's, if one is named, are a plan that is valid
@@ -81,7 +81,7 @@ pub record IsOpened (rows : ℕ) (resume : Option (List ℕ)) (p : Program) (o :
 -- why a run has no opening
 abbrev pub IsOpeningRefusal : Option (List ℕ) → Program → Option Files → Option Files → (List ℕ → ℕ) → (List ℕ → ℕ) → Refusal → Type 0
 IsOpeningRefusal resume p old new before now (refusals.BadWords bad) = ⊥
-IsOpeningRefusal resume p old new before now (refusals.JobFault fault) = ⊥
+IsOpeningRefusal resume p old new before now (refusals.JobFault fault text) = ⊥
 IsOpeningRefusal resume p old new before now (refusals.Conflict fault) = ⊥
 IsOpeningRefusal resume p old new before now (refusals.PlanDefect defect) = ⊥
 IsOpeningRefusal resume p old new before now (refusals.SourceFault job fault) = ⊥
@@ -254,7 +254,7 @@ Steps adapts p e o named c new said (Err fault) = EndsRounds adapts p o named c 
 -- the same, stated as the end of a command
 abbrev pub IsRoundsRefusal : Program → Opening → Option (List ℕ) → Call → Refusal → Type 0
 IsRoundsRefusal p o named c (refusals.BadWords bad) = ⊥
-IsRoundsRefusal p o named c (refusals.JobFault fault) = ⊥
+IsRoundsRefusal p o named c (refusals.JobFault fault text) = ⊥
 IsRoundsRefusal p o named c (refusals.Conflict fault) = ⊥
 IsRoundsRefusal p o named c (refusals.PlanDefect defect) = ⊥
 IsRoundsRefusal p o named c (refusals.SourceFault job fault) = (program_read job ≡ p) × RanToDefect p o named c fault

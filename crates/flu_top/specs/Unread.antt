@@ -3,10 +3,10 @@ use Rattle.std.specs.Prelude.{◌≡◌, ◌≢◌, ℕ, List, Some, Ok}
 use Rattle.flu_outside.specs.Outside.{Contents}
 use Rattle.flu_model.specs.declared.jobs.Program.{Program}
 use Rattle.flu_words.specs.Words.{Command, command_in}
-use Rattle.flu_top.specs.Behind.{Named, HasJob}
-use Rattle.flu_top.specs.Done.{HasValidPlan, MayBePut}
+use Rattle.flu_command.specs.Behind.{Named, HasJob}
+use Rattle.flu_command.specs.Done.{HasValidPlan, MayBePut}
 use Rattle.flu_top.specs.Outcome.{ReadOnly}
-use Rattle.flu_top.specs.Wants.{job_wanted, plan_named}
+use Rattle.flu_command.specs.Wants.{job_wanted, plan_named}
 
 -- if the plan that a command asks for is not a plan or is not valid for its job, bytes are taken only of the job's text and of the plan's:
 -- of no source, checkpoint or trace

@@ -17,17 +17,17 @@ ghost use Rattle.flu_streams.specs.Counts.{grown};
 ghost use Rattle.flu_rounds.specs.declared.faults.RoundsFault.{RoundsFault};
 ghost use Rattle.flu_top.specs.declared.running.RunFault.{RunFault};
 ghost use Rattle.flu_top.specs.Ending.{call};
-ghost use Rattle.flu_top.specs.Openings.{Opening as PlainOpening};
+ghost use Rattle.flu_command.specs.Openings.{Opening as PlainOpening};
 ghost use Rattle.flu_top.specs.ReadingAhead.{BeginsAhead, HasBegun, IsFilled, StepsAhead};
 ghost use Rattle.flu_top.specs.Running.{EndsRounds, GoesOn, IsOpening, StaysWithin, plain_opening};
 
 use crate::backup::Backup;
 use crate::openings::Opening;
-use crate::products::Said;
 use crate::running::{RunFault, adaptive_of, first, said_behind};
 use flu_adaptive::{Adaptive, programs_are_shared};
 use flu_cells::State;
 use flu_deps::{Checked, Valid};
+use flu_lines::Said;
 use flu_model::{Outs, Program, Streams};
 use flu_outside::{Files, Sink};
 use flu_rounds::{

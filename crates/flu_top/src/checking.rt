@@ -6,15 +6,15 @@ ghost use Rattle.flu_model.specs.Modes.{IsAccepted};
 ghost use Rattle.flu_deps.specs.Checking.{program_of};
 ghost use Rattle.flu_outside.specs.Taking.{TookFronts};
 ghost use Rattle.flu_words.specs.Words.{Check};
-ghost use Rattle.flu_top.specs.Taking.{TookOnly};
-ghost use Rattle.flu_top.specs.Done.{IsReadName, IsWritten};
+ghost use Rattle.flu_command.specs.Taking.{TookOnly};
+ghost use Rattle.flu_command.specs.Done.{IsReadName, IsWritten};
 ghost use Rattle.flu_top.specs.Checking.{IsChecked, IsCheckRefusal};
 ghost use Rattle.flu_top.specs.Refusing.{IsRefusal};
 
 use crate::programs::program_of;
-use crate::refusals::Refusal;
 use flu_check::check;
 use flu_deps::Checked;
+use flu_lines::Refusal;
 use flu_model::{Program, Text};
 use flu_outside::Files;
 use flu_parse::print_job;

@@ -3,9 +3,9 @@
 ghost use Rattle.std.specs.Prelude.{◌≡◌, ◌≢◌, ◌⊎◌, Err};
 ghost use Rattle.flu_outside.specs.Outside.{WhereTold, SameCounts};
 ghost use Rattle.flu_words.specs.Words.{plain_command};
-ghost use Rattle.flu_top.specs.Taking.{TookOnly, TookFrontsBut};
-ghost use Rattle.flu_top.specs.Answer.{status_after};
-ghost use Rattle.flu_top.specs.Done.{IsReadName, IsPutAt};
+ghost use Rattle.flu_command.specs.Taking.{TookOnly, TookFrontsBut};
+ghost use Rattle.flu_lines.specs.Answer.{code_after};
+ghost use Rattle.flu_command.specs.Done.{IsReadName, IsPutAt};
 ghost use Rattle.flu_top.specs.Ending.{call, IsEnding};
 ghost use Rattle.flu_top.specs.Writing.{IsPut, as_product};
 
@@ -13,12 +13,12 @@ use crate::checking::check_job;
 use crate::demo::demo;
 use crate::folding::fold_job;
 use crate::planning::plan_job;
-use crate::products::{Product, Said};
-use crate::refusals::Refusal;
+use crate::products::Product;
 use crate::replaying::replay_planned;
 use crate::running::run_job;
 use crate::simulating::simulate_planned;
 use crate::validating::valid_plan;
+use flu_lines::{Refusal, Said};
 use flu_model::Text;
 use flu_outside::{Files, Sink};
 use flu_report::write_all;
@@ -39,9 +39,9 @@ pub fn run<F: Files, K: Sink, G: Gate, R: Threads + Wait + Sync>(
 ) -> Result<Option<Said>, Refusal>
     ensures ends { IsEnding (call (F.left files.old) (F.left files.new) (F.faults files.old) (F.faults files.new) (F.put_faults files.old)
         (F.put_faults files.new) (K.taken out.old) (K.taken out.new) (K.faults out.old) (K.faults out.new)) (plain_command command.entry) result }
-    ensures fronts { WhereTold (F.left files.old) (F.left files.new) (TookFrontsBut (IsPutAt (plain_command command.entry) (status_after result))) }
+    ensures fronts { WhereTold (F.left files.old) (F.left files.new) (TookFrontsBut (IsPutAt (plain_command command.entry) (code_after result))) }
     ensures only { WhereTold (F.left files.old) (F.left files.new) (TookOnly
-        (λ name. IsReadName (F.left files.old) (plain_command command.entry) name ⊎ IsPutAt (plain_command command.entry) (status_after result) name)) }
+        (λ name. IsReadName (F.left files.old) (plain_command command.entry) name ⊎ IsPutAt (plain_command command.entry) (code_after result) name)) }
     ensures quiet { result ≢ Err Refusal.ReadFault → SameCounts (F.faults files.old) (F.faults files.new) }
     ensures puts { result ≢ Err Refusal.PutFault → SameCounts (F.put_faults files.old) (F.put_faults files.new) }
     ensures written_quiet { result ≢ Err Refusal.WriteFault → K.faults out.new ≡ K.faults out.old }

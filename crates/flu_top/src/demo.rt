@@ -3,17 +3,19 @@
 ghost use Rattle.std.specs.Prelude.{◌≡◌, ◌==◌, count_by, length, IfOk, IfErr};
 ghost use Rattle.flu_outside.specs.Outside.{Contents};
 ghost use Rattle.flu_words.specs.Words.{Demo};
-ghost use Rattle.flu_top.specs.declared.refusals.Refusal.{Refusal};
-ghost use Rattle.flu_top.specs.Demos.{summary, lines_in};
-ghost use Rattle.flu_top.specs.Wants.{want};
-ghost use Rattle.flu_top.specs.Done.{IsWritten};
-ghost use Rattle.flu_top.specs.Products.{line_said, MaySay};
+ghost use Rattle.flu_lines.specs.declared.refusals.Refusal.{Refusal};
+ghost use Rattle.flu_command.specs.Demos.{summary, lines_in};
+ghost use Rattle.flu_command.specs.Wants.{want};
+ghost use Rattle.flu_command.specs.Done.{IsWritten};
+ghost use Rattle.flu_lines.specs.Products.{line_said};
+ghost use Rattle.flu_top.specs.Products.{MaySay};
 
 use crate::planned::planned_greedily;
 use crate::products::Product;
-use crate::refusals::Refusal;
 use crate::running::tree_report;
+use flu_command::demos::demo_jobs_are_accepted;
 use flu_gen::{demo_job, demo_streams};
+use flu_lines::Refusal;
 use flu_model::Text;
 use flu_seq::Gate;
 use flu_words::{Draws, Seed, USUAL_DEPTH};
@@ -33,6 +35,7 @@ pub fn demo<G: Gate, R: Threads + Wait + Sync>(
     ensures says { IfOk result (λ product. MaySay (want (Demo draws.count seed.number)).says product.says) }
     ensures refused { IfErr result (λ refusal. refusal ≡ Refusal.NoMemory) }
 {
+    demo_jobs_are_accepted();
     let program = demo_job(alloc)?;
     let planned = match planned_greedily(alloc, program, USUAL_DEPTH) {
         Ok(planned) => planned,

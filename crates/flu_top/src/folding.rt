@@ -10,14 +10,14 @@ ghost use Rattle.flu_model.specs.Reports.{report};
 ghost use Rattle.flu_outside.specs.Taking.{TookFronts};
 ghost use Rattle.flu_streams.specs.Files.{files_of, LeavesOthers};
 ghost use Rattle.flu_words.specs.Words.{Fold};
-ghost use Rattle.flu_top.specs.Taking.{TookOnly};
-ghost use Rattle.flu_top.specs.Done.{IsReadName, IsWritten};
+ghost use Rattle.flu_command.specs.Taking.{TookOnly};
+ghost use Rattle.flu_command.specs.Done.{IsReadName, IsWritten};
 ghost use Rattle.flu_top.specs.Folding.{IsReported, IsReportRefusal};
 ghost use Rattle.flu_top.specs.Refusing.{IsRefusal};
 
 use crate::programs::program_of;
-use crate::refusals::{JobRead, Refusal};
 use flu_cells::State;
+use flu_lines::{JobRead, Refusal};
 use flu_model::{Program, Streams, Text};
 use flu_outside::Files;
 use flu_report::report_text;

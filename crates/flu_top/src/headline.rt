@@ -3,6 +3,7 @@
 
 ghost use Rattle.flu_top.specs.Headline.{FoldIsTheReport, RunIsTheFold, SimulationIsTheFold, ReplayIsTheFold, OneTextOneReport};
 
+use flu_command::one_text::{programs_of_a_job_agree, texts_have_one_job};
 use flu_grammar::laws::jobs_are_grammar;
 use flu_words::rounds_have_rows;
 
@@ -12,6 +13,7 @@ pub fn one_text_one_report()
     ensures { OneTextOneReport }
 {
     jobs_are_grammar();
+    programs_of_a_job_agree();
 }
 
 /// `fold JOB` of a job's text with good sources, if nothing failed, writes the report of the fold of all their events, merged in
@@ -19,7 +21,8 @@ pub fn one_text_one_report()
 pub fn fold_is_the_report()
     ensures { FoldIsTheReport }
 {
-    jobs_are_grammar();
+    programs_of_a_job_agree();
+    texts_have_one_job();
 }
 
 /// So do `run`, `simulate` and `replay` of an accepted job and a valid plan, whichever steps the threads took, the seed draws or the
@@ -30,6 +33,7 @@ pub fn runs_are_the_fold()
     ensures simulation { SimulationIsTheFold }
     ensures replay { ReplayIsTheFold }
 {
-    jobs_are_grammar();
+    programs_of_a_job_agree();
     rounds_have_rows();
+    texts_have_one_job();
 }

@@ -7,15 +7,19 @@ ghost use Rattle.flu_top.specs.Laws.{SaveDefectIsFirst, SourceFaultIsFirst, Trac
 ghost use Rattle.flu_top.specs.Laws.{WriteFaultLine, PutFaultRose, PutFaultIsBehindARound, NoMemoryLine, NothingIsWritten, RefusalsWriteNothing, SomeIsWritten};
 ghost use Rattle.flu_top.specs.Laws.{SomeIsWrittenForMemory, RunsWriteFronts, FreshRunsReportTheFold, ResumedRunsGoOn, FrontsAreTaken, NoOtherIsRead};
 ghost use Rattle.flu_top.specs.Laws.{GoodIsDone, JobFaultIsRefused, ConflictIsRefused, PlanDefectIsRefused, SaveDefectIsRefused, SourceFaultIsRefused};
-ghost use Rattle.flu_top.specs.Laws.{TraceFaultIsRefused, CompletesByFaults, CallsForOneStatus, NoFailureIsPassedOver};
+ghost use Rattle.flu_top.specs.Laws.{TraceFaultIsRefused, CompletesByFaults, NoFailureIsPassedOver};
+ghost use Rattle.flu_command.specs.Calling.{CallsForOneStatus};
 ghost use Rattle.flu_top.specs.Mended.{RunsWriteFrontsOfMended};
 ghost use Rattle.flu_top.specs.Unread.{BadPlansReadNoMore};
 
-use flu_grammar::laws::{jobs_are_grammar, plans_are_grammar};
+use flu_command::calling::{files_call_for_one_status, what_ends_a_command_is_called_for};
+use flu_command::mending::mended_rounds_go_on;
+use flu_command::one_text::{
+    good_sources_have_no_defect, plans_fit_each, programs_of_a_job_agree, starts_have_rows,
+    texts_have_one_job,
+};
 use flu_rounds::fronts_of_reports;
-use flu_save::faults_are_no_checkpoints;
-use flu_streams::{borders_cut_a_fold, rounds_meet_what_is_there};
-use flu_trace::laws::a_trace_has_one_ending;
+use flu_streams::borders_cut_a_fold;
 
 /// The statuses, and which of them write to out: 0 and 8; and 6, 7, 9 and 12 of a command that reads in rounds, which may leave there
 /// what the rounds up to some round wrote.
@@ -89,7 +93,9 @@ pub fn of_runs()
 {
     borders_cut_a_fold();
     fronts_of_reports();
-    jobs_are_grammar();
+    programs_of_a_job_agree();
+    starts_have_rows();
+    texts_have_one_job();
 }
 
 /// If a source of a `run` has a defect, what it wrote is a prefix of the report of any sources that mend the defects: that keep the
@@ -98,7 +104,11 @@ pub fn of_mended_runs()
     ensures { RunsWriteFrontsOfMended }
 {
     fronts_of_reports();
-    jobs_are_grammar();
+    good_sources_have_no_defect();
+    mended_rounds_go_on();
+    programs_of_a_job_agree();
+    starts_have_rows();
+    texts_have_one_job();
 }
 
 /// Bytes are taken from the front of names, and of no name that the call does not read, except for one that it puts.
@@ -111,11 +121,7 @@ pub fn of_reading()
 pub fn bad_plans_read_no_more()
     ensures { BadPlansReadNoMore }
 {
-    a_trace_has_one_ending();
-    faults_are_no_checkpoints();
-    jobs_are_grammar();
-    plans_are_grammar();
-    rounds_meet_what_is_there();
+    plans_fit_each();
 }
 
 /// If no count rose, the status is the one that the command, its job's text, its plan, its sources and its trace call for, or 9.
@@ -133,20 +139,13 @@ pub fn of_completeness()
 pub fn completes_by_faults()
     ensures { CompletesByFaults }
 {
-    a_trace_has_one_ending();
-    faults_are_no_checkpoints();
-    jobs_are_grammar();
-    plans_are_grammar();
-    rounds_meet_what_is_there();
+    files_call_for_one_status();
+    what_ends_a_command_is_called_for();
 }
 
 /// A command and its files call for one status at most, so that the refusals come in an order.
 pub fn calls_for_one_status()
     ensures { CallsForOneStatus }
 {
-    a_trace_has_one_ending();
-    faults_are_no_checkpoints();
-    jobs_are_grammar();
-    plans_are_grammar();
-    rounds_meet_what_is_there();
+    files_call_for_one_status();
 }

@@ -6,11 +6,11 @@ ghost use Rattle.flu_outside.specs.Taking.{TookFronts};
 ghost use Rattle.flu_streams.specs.Files.{LeavesOthers};
 ghost use Rattle.flu_words.specs.Words.{Run, plain_options};
 ghost use Rattle.flu_top.specs.Running.{IsOpening, IsOpened, IsOpeningRefusal, plain_opening};
-ghost use Rattle.flu_top.specs.Starting.{AreNoSources, IsFileOf, IsNoSource, IsSameName};
-ghost use Rattle.flu_top.specs.Wants.{if_named};
+ghost use Rattle.flu_command.specs.Starting.{AreNoSources, IsFileOf, IsNoSource, IsSameName};
+ghost use Rattle.flu_command.specs.Wants.{if_named};
 
-use crate::refusals::Refusal;
 use flu_cells::State;
+use flu_lines::Refusal;
 use flu_model::Program;
 use flu_outside::{Files, read_whole};
 use flu_save::read_save;

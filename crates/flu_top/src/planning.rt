@@ -4,15 +4,15 @@ ghost use Rattle.std.specs.Prelude.{◌≢◌, [], Err, IfOk, IfErr};
 ghost use Rattle.flu_outside.specs.Outside.{WhereTold, SameCounts};
 ghost use Rattle.flu_outside.specs.Taking.{TookFronts};
 ghost use Rattle.flu_words.specs.Words.{Plan};
-ghost use Rattle.flu_top.specs.Taking.{TookOnly};
-ghost use Rattle.flu_top.specs.Done.{IsReadName, IsWritten};
+ghost use Rattle.flu_command.specs.Taking.{TookOnly};
+ghost use Rattle.flu_command.specs.Done.{IsReadName, IsWritten};
 ghost use Rattle.flu_top.specs.Checking.{IsCheckRefusal};
 ghost use Rattle.flu_top.specs.Planning.{IsPlanned};
 ghost use Rattle.flu_top.specs.Refusing.{IsRefusal};
 
 use crate::planned::planned_greedily;
 use crate::programs::program_of;
-use crate::refusals::Refusal;
+use flu_lines::Refusal;
 use flu_model::{Program, Text};
 use flu_outside::Files;
 use flu_plan::print_plan;

@@ -5,8 +5,8 @@ ghost use Rattle.flu_outside.specs.Outside.{WhereTold, SameCounts};
 ghost use Rattle.flu_outside.specs.Taking.{TakesFrom};
 ghost use Rattle.flu_top.specs.Plans.{IsPlanRead, IsTextRefusal};
 
-use crate::refusals::Refusal;
 use flu_grammar::laws::plans_are_grammar;
+use flu_lines::{Refusal, plan_refusal};
 use flu_model::{Plan, Program};
 use flu_outside::{Files, read_whole};
 use flu_plan::read_plan;
@@ -31,6 +31,8 @@ pub fn plan_of<F: Files>(
 {
     plans_are_grammar();
     let bytes = read_whole(alloc, files, plan, MOST_BYTES)?;
-    let found = read_plan(alloc, program, &bytes)?;
-    Ok(found)
+    match read_plan(alloc, program, &bytes) {
+        Ok(found) => Ok(found),
+        Err(fault) => Err(plan_refusal(fault, bytes)),
+    }
 }

@@ -4,10 +4,10 @@ ghost use Rattle.std.specs.Prelude.{◌≢◌, ◌≤◌, List, ℕ, Err, IfOk, 
 ghost use Rattle.flu_outside.specs.Outside.{WhereTold, SameCounts};
 ghost use Rattle.flu_outside.specs.Taking.{TakesFrom};
 ghost use Rattle.flu_top.specs.Jobs.{IsJobRefusal};
-ghost use Rattle.flu_top.specs.Causes.{IsJobRead};
+ghost use Rattle.flu_command.specs.Causes.{IsJobRead};
 
-use crate::refusals::Refusal;
 use flu_grammar::laws::jobs_are_grammar;
+use flu_lines::{Refusal, job_refusal};
 use flu_model::Program;
 use flu_outside::{Files, read_whole};
 use flu_parse::read_job;
@@ -27,6 +27,8 @@ pub fn program_of<F: Files>(alloc: Global, files: &mut F, job: &str) -> Result<P
 {
     jobs_are_grammar();
     let bytes = read_whole(alloc, files, job, MOST_BYTES)?;
-    let program = read_job(alloc, &bytes)?;
-    Ok(program)
+    match read_job(alloc, &bytes) {
+        Ok(program) => Ok(program),
+        Err(fault) => Err(job_refusal(fault, bytes)),
+    }
 }

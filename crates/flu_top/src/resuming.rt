@@ -1,46 +1,11 @@
 //! Runs that are resumed: what their checkpoints stand for, and what they write together. Each law is the contract of a function that
 //! does nothing.
 
-ghost use Rattle.flu_top.specs.Resuming.{CheckpointsOpenTheRest, RunsGoOn, CheckpointsOpen, SourcesDecide, CheckpointsLeaveSources, RunsLeaveCheckpoints};
-ghost use Rattle.flu_top.specs.Resuming.{ResumedRunsWriteTheRest, ResumedRunsCompleteReports, ResumedRunsTakeCheckpoints};
+ghost use Rattle.flu_top.specs.Resuming.{RunsLeaveCheckpoints, ResumedRunsWriteTheRest, ResumedRunsCompleteReports, ResumedRunsTakeCheckpoints};
 
-use flu_grammar::laws::{jobs_are_grammar, normal_forms_are_short, normal_forms_are_utf8};
-use flu_laws::updates_are_changes;
-use flu_model::laws::itags_have_tags;
-use flu_save::{
-    checkpoints_are_of_jobs, checkpoints_have_one_meaning, faults_are_no_checkpoints,
-    save_is_a_checkpoint,
-};
-use flu_streams::{
-    borders_cut_a_fold, last_round_has_all_rows, last_round_has_later_rows,
-    rounds_meet_what_is_there,
-};
-
-/// If no source has a defect, a checkpoint that a run has put opens the rest of the run: what was written when it was put, and then
-/// the report of a run that is resumed from it, are together the report of the run. The same holds for any number of runs, each of which
-/// is resumed from a checkpoint that the one before it put. And such a checkpoint of a text's job is refused for no fault.
-pub fn of_checkpoints()
-    ensures rest { CheckpointsOpenTheRest }
-    ensures together { RunsGoOn }
-    ensures opens { CheckpointsOpen }
-{
-    borders_cut_a_fold();
-    itags_have_tags();
-    last_round_has_all_rows();
-    last_round_has_later_rows();
-    normal_forms_are_short();
-    normal_forms_are_utf8();
-    rounds_meet_what_is_there();
-    save_is_a_checkpoint();
-    updates_are_changes();
-}
-
-/// What a run is resumed over: sources whose files have the same bytes have the same lines and items, whatever is read before them; and
-/// the checkpoint, which is no source's file, leaves what they have.
-pub fn of_resumed_sources()
-    ensures sources { SourcesDecide }
-    ensures checkpoint { CheckpointsLeaveSources }
-{}
+use flu_command::one_text::{programs_of_a_job_agree, texts_have_one_job};
+use flu_command::resuming::{of_checkpoints, of_resumed_sources};
+use flu_save::{checkpoints_are_of_jobs, checkpoints_have_one_meaning, faults_are_no_checkpoints};
 
 /// A run that saves leaves the name that it saves to as it was; or a checkpoint there, and what was written when that was put is in
 /// out, maybe with a part of the next round's report after it. This holds at the statuses 0 and 6 to 9. A run that is resumed, and ends
@@ -58,16 +23,12 @@ pub fn of_resumed_runs()
 pub fn of_two_runs()
     ensures { ResumedRunsCompleteReports }
 {
-    borders_cut_a_fold();
     checkpoints_are_of_jobs();
     checkpoints_have_one_meaning();
-    itags_have_tags();
-    jobs_are_grammar();
-    last_round_has_all_rows();
-    last_round_has_later_rows();
-    rounds_meet_what_is_there();
-    save_is_a_checkpoint();
-    updates_are_changes();
+    of_checkpoints();
+    of_resumed_sources();
+    programs_of_a_job_agree();
+    texts_have_one_job();
 }
 
 /// A run that saves left the name that it saves to as it was; or a run of the same job that is resumed from what it left there is refused
@@ -76,17 +37,9 @@ pub fn of_two_runs()
 pub fn of_taken_checkpoints()
     ensures { ResumedRunsTakeCheckpoints }
 {
-    borders_cut_a_fold();
     checkpoints_are_of_jobs();
     checkpoints_have_one_meaning();
     faults_are_no_checkpoints();
-    itags_have_tags();
-    jobs_are_grammar();
-    last_round_has_all_rows();
-    last_round_has_later_rows();
-    normal_forms_are_short();
-    normal_forms_are_utf8();
-    rounds_meet_what_is_there();
-    save_is_a_checkpoint();
-    updates_are_changes();
+    of_checkpoints();
+    texts_have_one_job();
 }

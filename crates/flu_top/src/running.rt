@@ -26,27 +26,26 @@ ghost use Rattle.flu_streams.specs.Holding.{AreHeldBehind, ClosedAreReadOut, Are
 ghost use Rattle.flu_rounds.specs.declared.faults.RoundsFault.{RoundsFault};
 ghost use Rattle.flu_rounds.specs.Standing.{round_lists, round_report, Runs, IsFirstFrom, IsRoundOf, IsSourceFault, StandsBehind};
 ghost use Rattle.flu_words.specs.Words.{Run, RunOptions as PlainOptions, plain_options};
-ghost use Rattle.flu_top.specs.Taking.{TookOnly, TookFrontsBut};
-ghost use Rattle.flu_top.specs.Answer.{status_after};
-ghost use Rattle.flu_top.specs.Done.{IsReadName, IsPutAt};
+ghost use Rattle.flu_command.specs.Taking.{TookOnly, TookFrontsBut};
+ghost use Rattle.flu_lines.specs.Answer.{code_after};
+ghost use Rattle.flu_command.specs.Done.{IsReadName, IsPutAt};
 ghost use Rattle.flu_top.specs.Ending.{call, IsEnding};
-ghost use Rattle.flu_top.specs.Openings.{Opening as PlainOpening};
+ghost use Rattle.flu_command.specs.Openings.{Opening as PlainOpening};
 ghost use Rattle.flu_top.specs.Refusing.{IsRefusal};
 ghost use Rattle.flu_top.specs.Running.{EndsRounds, EndsRun, GoesOn, IsBegun, IsOpening, SaysCounts, StaysWithin, Steps, borders_above, plain_opening};
-ghost use Rattle.flu_top.specs.Starting.{IsNoSource};
-ghost use Rattle.flu_top.specs.Wants.{if_named};
+ghost use Rattle.flu_command.specs.Starting.{IsNoSource};
+ghost use Rattle.flu_command.specs.Wants.{if_named};
 
 use crate::ahead::{reads_ahead, rounds_ahead};
 use crate::backup::Backup;
 use crate::openings::{Opening, opening_of, same_name};
 use crate::planned::{Planned, planned_by, planned_greedily};
-use crate::products::Said;
 use crate::programs::program_of;
-use crate::refusals::{JobRead, Refusal, SaveDefect};
 use crate::saves::put_checkpoint;
 use flu_adaptive::Adaptive;
 use flu_cells::State;
 use flu_deps::{Checked, Valid};
+use flu_lines::{JobRead, Refusal, Said, SaveDefect};
 use flu_model::{Program, Streams, Text};
 use flu_outside::{Files, PutFault, Sink};
 use flu_plan::print_plan;
@@ -89,10 +88,10 @@ pub fn run_job<F: Files, K: Sink, G: Gate, R: Threads + Wait + Sync>(
         (F.put_faults files.new) (K.taken out.old) (K.taken out.new) (K.faults out.old) (K.faults out.new))
         (Run job.now (option_map (λ name. name.now) plan.entry) (plain_options options.entry)) result }
     ensures fronts { WhereTold (F.left files.old) (F.left files.new)
-        (TookFrontsBut (IsPutAt (Run job.now (option_map (λ name. name.now) plan.entry) (plain_options options.entry)) (status_after result))) }
+        (TookFrontsBut (IsPutAt (Run job.now (option_map (λ name. name.now) plan.entry) (plain_options options.entry)) (code_after result))) }
     ensures only { WhereTold (F.left files.old) (F.left files.new)
         (TookOnly (λ name. IsReadName (F.left files.old) (Run job.now (option_map (λ name. name.now) plan.entry) (plain_options options.entry)) name
-        ⊎ IsPutAt (Run job.now (option_map (λ name. name.now) plan.entry) (plain_options options.entry)) (status_after result) name)) }
+        ⊎ IsPutAt (Run job.now (option_map (λ name. name.now) plan.entry) (plain_options options.entry)) (code_after result) name)) }
     ensures quiet { result ≢ Err Refusal.ReadFault → SameCounts (F.faults files.old) (F.faults files.new) }
     ensures puts { result ≢ Err Refusal.PutFault → SameCounts (F.put_faults files.old) (F.put_faults files.new) }
     ensures written_quiet { result ≢ Err Refusal.WriteFault → K.faults out.new ≡ K.faults out.old }

@@ -5,7 +5,7 @@ ghost use Rattle.flu_outside.specs.Outside.{WhereTold, SameCounts, SameLeft};
 ghost use Rattle.flu_cells.specs.Holding.{held};
 ghost use Rattle.flu_save.specs.Checkpoint.{save};
 ghost use Rattle.flu_top.specs.Running.{IsInRange, IsSavedTo, PutFailed, PutsAt, border_at};
-ghost use Rattle.flu_top.specs.Taking.{TookOnly};
+ghost use Rattle.flu_command.specs.Taking.{TookOnly};
 
 use flu_cells::State;
 use flu_model::Program;

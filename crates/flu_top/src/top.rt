@@ -2,22 +2,17 @@
 
 ghost use Rattle.std.specs.Prelude.{◌≡◌, ◌≢◌, ◌⊎◌, Err, map, string_bytes};
 ghost use Rattle.flu_outside.specs.Outside.{WhereTold, SameCounts};
-ghost use Rattle.flu_top.specs.Taking.{TookOnly, TookFrontsBut};
-ghost use Rattle.flu_top.specs.Done.{IsReadBy, MayBePut};
-ghost use Rattle.flu_top.specs.Answer.{status_after, IsHeard};
+ghost use Rattle.flu_command.specs.Taking.{TookOnly, TookFrontsBut};
+ghost use Rattle.flu_command.specs.Done.{IsReadBy, MayBePut};
+ghost use Rattle.flu_lines.specs.Answer.{code_after, IsHeard};
 ghost use Rattle.flu_top.specs.Ending.{call, Ends};
 ghost use Rattle.flu_top.specs.Outcome.{outside, faults, Outcome, ReadOnly, FaultsFirst, HidesNothing, Completes};
 
 use crate::commands::run;
-use crate::lines::{say, say_done};
-use crate::products::Said;
-use crate::refusals::{Refusal, status};
-use flu_grammar::laws::{jobs_are_grammar, plans_are_grammar};
+use flu_command::calling::{files_call_for_one_status, what_ends_a_command_is_called_for};
+use flu_lines::{Refusal, Said, say, say_done, status_after};
 use flu_outside::{Files, Sink};
-use flu_save::faults_are_no_checkpoints;
 use flu_seq::Gate;
-use flu_streams::rounds_meet_what_is_there;
-use flu_trace::laws::a_trace_has_one_ending;
 use flu_words::read_words;
 use std::alloc::Global;
 use std::sync::Wait;
@@ -96,13 +91,43 @@ pub fn flumina<F: Files, K: Sink, E: Sink, G: Gate, R: Threads + Wait + Sync>(
         (faults (F.faults files.old) (F.put_faults files.old) (K.faults out.old))
         (faults (F.faults files.new) (F.put_faults files.new) (K.faults out.new)) result }
 {
-    a_trace_has_one_ending();
-    faults_are_no_checkpoints();
-    jobs_are_grammar();
-    plans_are_grammar();
-    rounds_meet_what_is_there();
+    let ended = answer_words(rt, alloc, words, files, out, err, gate);
+    status_after(&ended).code()
+}
+
+/// Does what the words after the program's name say, as `flumina` does, and answers why it was not done, or what is said of it, as a value.
+///
+/// All that `flumina` says of its status holds of the number of the status of that value, and `err` got its line: `status_after` has the status,
+/// and `say` and `say_done` have said the line.
+pub fn answer_words<F: Files, K: Sink, E: Sink, G: Gate, R: Threads + Wait + Sync>(
+    rt: &R,
+    alloc: Global,
+    words: &[String],
+    files: &mut F,
+    out: &mut K,
+    err: &mut E,
+    gate: &G,
+) -> Result<Option<Said>, Refusal>
+    ensures outcome { Outcome (map string_bytes words.now)
+        (outside (F.left files.old) (K.taken out.old) (E.taken err.old) (E.faults err.old))
+        (outside (F.left files.new) (K.taken out.new) (E.taken err.new) (E.faults err.new)) (code_after result) }
+    ensures read { ReadOnly (map string_bytes words.now) (F.left files.old) (F.left files.new) (code_after result) }
+    ensures faults { FaultsFirst (map string_bytes words.now) (F.left files.old)
+        (faults (F.faults files.old) (F.put_faults files.old) (K.faults out.old))
+        (faults (F.faults files.new) (F.put_faults files.new) (K.faults out.new)) (code_after result) }
+    ensures hides { HidesNothing (map string_bytes words.now) (F.left files.old) (F.left files.new)
+        (faults (F.faults files.old) (F.put_faults files.old) (K.faults out.old))
+        (faults (F.faults files.new) (F.put_faults files.new) (K.faults out.new)) (code_after result) }
+    ensures completes { Completes (map string_bytes words.now) (F.left files.old)
+        (faults (F.faults files.old) (F.put_faults files.old) (K.faults out.old))
+        (faults (F.faults files.new) (F.put_faults files.new) (K.faults out.new)) (code_after result) }
+    ensures heard { IsHeard result (E.taken err.old) (E.taken err.new) (E.faults err.old) (E.faults err.new) }
+{
+    files_call_for_one_status();
+    what_ends_a_command_is_called_for();
     let ended = do_words(rt, alloc, words, files, out, gate);
-    answer(err, ended)
+    tell(err, &ended);
+    ended
 }
 
 // Does what the words say.
@@ -116,9 +141,9 @@ fn do_words<F: Files, K: Sink, G: Gate, R: Threads + Wait + Sync>(
 ) -> Result<Option<Said>, Refusal>
     ensures ends { Ends (map string_bytes words.now) (call (F.left files.old) (F.left files.new) (F.faults files.old) (F.faults files.new)
         (F.put_faults files.old) (F.put_faults files.new) (K.taken out.old) (K.taken out.new) (K.faults out.old) (K.faults out.new)) result }
-    ensures fronts { WhereTold (F.left files.old) (F.left files.new) (TookFrontsBut (MayBePut (map string_bytes words.now) (status_after result))) }
+    ensures fronts { WhereTold (F.left files.old) (F.left files.new) (TookFrontsBut (MayBePut (map string_bytes words.now) (code_after result))) }
     ensures only { WhereTold (F.left files.old) (F.left files.new)
-        (TookOnly (λ name. IsReadBy (map string_bytes words.now) (F.left files.old) name ⊎ MayBePut (map string_bytes words.now) (status_after result) name)) }
+        (TookOnly (λ name. IsReadBy (map string_bytes words.now) (F.left files.old) name ⊎ MayBePut (map string_bytes words.now) (code_after result) name)) }
     ensures quiet { result ≢ Err Refusal.ReadFault → SameCounts (F.faults files.old) (F.faults files.new) }
     ensures puts { result ≢ Err Refusal.PutFault → SameCounts (F.put_faults files.old) (F.put_faults files.new) }
     ensures written_quiet { result ≢ Err Refusal.WriteFault → K.faults out.new ≡ K.faults out.old }
@@ -129,20 +154,13 @@ fn do_words<F: Files, K: Sink, G: Gate, R: Threads + Wait + Sync>(
     }
 }
 
-// The status of what was done or refused; what it says, or the line of the refusal, is said on err.
-fn answer<E: Sink>(err: &mut E, ended: Result<Option<Said>, Refusal>) -> u8
-    ensures status { result ≡ status_after ended }
-    ensures heard { IsHeard ended (E.taken err.old) (E.taken err.new) (E.faults err.old) (E.faults err.new) }
+// Says on err what a call says that was done, or the line of the refusal.
+fn tell<E: Sink>(err: &mut E, ended: &Result<Option<Said>, Refusal>)
+    ensures { IsHeard ended.now (E.taken err.old) (E.taken err.new) (E.faults err.old) (E.faults err.new) }
 {
     match ended {
-        Ok(None) => 0,
-        Ok(Some(said)) => {
-            say_done(err, &said);
-            0
-        }
-        Err(refusal) => {
-            say(err, &refusal);
-            status(&refusal)
-        }
+        Ok(None) => (),
+        Ok(Some(said)) => say_done(err, said),
+        Err(refusal) => say(err, refusal),
     }
 }

@@ -4,10 +4,10 @@ ghost use Rattle.std.specs.Prelude.{◌≡◌, ◌<◌, ◌^◌, IfOk};
 ghost use Rattle.std.specs.List.{All};
 ghost use Rattle.flu_live.specs.Seeded.{IsSeeded};
 ghost use Rattle.flu_trace.specs.Lines.{number_of};
-ghost use Rattle.flu_top.specs.Simulating.{IsTraceIn, lines_of_steps};
+ghost use Rattle.flu_command.specs.Simulating.{IsTraceIn, lines_of_steps};
 
-use crate::products::DrawnSteps;
 use flu_fork::Case;
+use flu_lines::DrawnSteps;
 use flu_live::{TracedRun, trace};
 use flu_model::Text;
 use flu_net::Step;

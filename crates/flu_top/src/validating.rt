@@ -7,13 +7,13 @@ ghost use Rattle.flu_deps.specs.Validated.{plan_of};
 ghost use Rattle.flu_plan.specs.Printing.{printed};
 ghost use Rattle.flu_outside.specs.Taking.{TookFronts};
 ghost use Rattle.flu_words.specs.Words.{Valid};
-ghost use Rattle.flu_top.specs.Taking.{TookOnly};
-ghost use Rattle.flu_top.specs.Done.{IsReadName, IsWritten};
-ghost use Rattle.flu_top.specs.declared.refusals.Refusal.{Refusal};
+ghost use Rattle.flu_command.specs.Taking.{TookOnly};
+ghost use Rattle.flu_command.specs.Done.{IsReadName, IsWritten};
+ghost use Rattle.flu_lines.specs.declared.refusals.Refusal.{Refusal};
 ghost use Rattle.flu_top.specs.Refusing.{IsRefusal};
 
 use crate::planned::{Planned, planned_by};
-use crate::refusals::Refusal;
+use flu_lines::Refusal;
 use flu_model::Text;
 use flu_outside::Files;
 use flu_plan::print_plan;

@@ -1,10 +1,10 @@
 use Rattle.std.proofs.Common.{refl, sym, ap, subst, ◌⊎◌}
 use Rattle.flu_outside.specs.Outside.{WhereTold}
 use Rattle.flu_words.specs.Words.{Command, Fold, Check, Valid, Plan, Simulate, Replay, Demo, plain_command}
-use Rattle.flu_top.specs.declared.refusals.Refusal.TheVariants.{ReadFault}
-use Rattle.flu_top.specs.Taking.{TookOnly}
-use Rattle.flu_top.specs.Answer.{status_after}
-use Rattle.flu_top.specs.Done.{IsReadName, IsPutAt}
+use Rattle.flu_lines.specs.declared.refusals.Refusal.TheVariants.{ReadFault}
+use Rattle.flu_command.specs.Taking.{TookOnly}
+use Rattle.flu_lines.specs.Answer.{code_after}
+use Rattle.flu_command.specs.Done.{IsReadName, IsPutAt}
 use Rattle.flu_top.specs.Ending.{call}
 use Rattle.flu_top.proofs.Demos.{refused_anyhow}
 use Rattle.flu_top.proofs.Endings.{ends_text, ends_product, fronts_of_all, not_refused, only_of_command, text_not_refused}
@@ -120,7 +120,7 @@ pub returns-in-Run-clause-only : goal.returns-in-Run-clause-only
 returns-in-Run-clause-only g c =
     let left = g.F.Files.left c.args.files.now in
     subst (λ (d : Command). WhereTold left (g.F.Files.left c.run_job.new.files)
-    (TookOnly (λ name. IsReadName left d name ⊎ IsPutAt d (status_after c.run_job.result) name))) (sym (ap plain_command c.in-Run.is))
+    (TookOnly (λ name. IsReadName left d name ⊎ IsPutAt d (code_after c.run_job.result) name))) (sym (ap plain_command c.in-Run.is))
     c.run_job.ensures.only
 
 pub returns-in-Fold-clause-quiet : goal.returns-in-Fold-clause-quiet

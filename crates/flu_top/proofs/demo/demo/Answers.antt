@@ -2,13 +2,12 @@ use Rattle.std.proofs.Common.{sym, ap, ◌∙◌, subst, ◌+◌, ◌/◌}
 use Rattle.flu_model.specs.Listed.{listed}
 use Rattle.flu_deps.specs.Checking.{program_of}
 use Rattle.flu_gen.specs.DemoJob.{IsDemoJob}
-use Rattle.flu_top.proofs.DemoAccepted.{demo_accepted}
 use Rattle.flu_top.proofs.Demos.{is_summary, is_shown, only_memory}
 use Rattle.flu_top.proofs.demo.demo.Goals as goal
 
 pub returns-in-Err-clause-refused : goal.returns-in-Err-clause-refused
 returns-in-Err-clause-refused g c = only_memory c.in_ok-program.program c.in-Err.refusal
-    (demo_accepted c.in_ok-program.program c.in_ok-program.ensures) c.in-Err.ensures.refused
+    (c.demo_jobs_are_accepted.ensures c.in_ok-program.program c.in_ok-program.ensures) c.in-Err.ensures.refused
 
 pub demo_streams-requires-clause-job : goal.demo_streams-requires-clause-job
 demo_streams-requires-clause-job g c = subst IsDemoJob (sym (c.program.ensures ∙ c.in-Ok.ensures.same)) c.in_ok-program.ensures

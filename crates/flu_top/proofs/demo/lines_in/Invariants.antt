@@ -1,5 +1,5 @@
 use Rattle.std.proofs.Common.{◌≡◌, ◌≤◌, take}
-use Rattle.flu_top.specs.Demos.{lines_in}
+use Rattle.flu_command.specs.Demos.{lines_in}
 use Rattle.flu_top.proofs.demo.lines_in.Given as goal
 
 abbrev pub invariant-loop-byte : goal.invariant-loop-byte

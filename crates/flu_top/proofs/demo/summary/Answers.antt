@@ -1,6 +1,6 @@
 use Rattle.std.proofs.Common.{◌∙◌, ap, length, codes, ◌++◌, ℕ}
 use Rattle.std.specs.Fmt.{decimal}
-use Rattle.flu_top.specs.Demos.{lines_in}
+use Rattle.flu_command.specs.Demos.{lines_in}
 use Rattle.flu_top.proofs.demo.summary.Goals as goal
 
 pub returns : goal.returns

@@ -1,12 +1,4 @@
-use Rattle.flu_top.proofs.LawsOfOutcome.{one_status_law}
 use Rattle.flu_top.proofs.laws.calls_for_one_status.Goals as goal
 
 pub returns : goal.returns
-returns c = one_status_law (record {
-  jobs = c.jobs_are_grammar.ensures;
-  plans = c.plans_are_grammar.ensures;
-  meeting =
-      c.rounds_meet_what_is_there.ensures.meeting;
-  saves = c.faults_are_no_checkpoints.ensures;
-  traces = c.a_trace_has_one_ending.ensures;
-})
+returns c = c.files_call_for_one_status.ensures

@@ -2,7 +2,13 @@ use Rattle.flu_top.proofs.RunFronts.{runs_law, fresh_law, resumed_law}
 use Rattle.flu_top.proofs.laws.of_runs.Goals as goal
 
 pub returns-clause-fronts : goal.returns-clause-fronts
-returns-clause-fronts c = runs_law c.jobs_are_grammar.ensures c.fronts_of_reports.ensures.fronts c.fronts_of_reports.ensures.next
+returns-clause-fronts c = runs_law (record {
+  one_job = c.texts_have_one_job.ensures;
+  rows = c.starts_have_rows.ensures;
+  good = c.programs_of_a_job_agree.ensures.good;
+  fronts = c.fronts_of_reports.ensures.fronts;
+  nexts = c.fronts_of_reports.ensures.next;
+})
 
 pub returns-clause-fresh : goal.returns-clause-fresh
 returns-clause-fresh c = fresh_law

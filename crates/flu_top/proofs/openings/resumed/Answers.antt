@@ -3,7 +3,7 @@ use Rattle.std.proofs.lemmas.Result.{err_from_is_err_and}
 use Rattle.flu_cells.specs.Holding.{held}
 use Rattle.flu_lemmas.proofs.Named.{fronts_at}
 use Rattle.flu_save.specs.Forms.{IsFaultOf, IsSave}
-use Rattle.flu_top.specs.Answer.{refusal_of_save}
+use Rattle.flu_lines.specs.Answer.{refusal_of_save}
 use Rattle.flu_top.specs.Running.{IsOpeningRefusal}
 use Rattle.flu_top.proofs.Jobs.{if_err_at}
 use Rattle.flu_top.proofs.Checkpoints.{checkpoint_is_refused, opened_saved, others_of_one}

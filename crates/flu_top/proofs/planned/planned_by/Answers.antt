@@ -5,10 +5,10 @@ use Rattle.flu_model.specs.Validity.{IsValid}
 use Rattle.flu_deps.specs.Checking.{program_of}
 use Rattle.flu_lemmas.proofs.Named.{fronts_at, fronts_then}
 use Rattle.flu_words.specs.Words.{Valid}
-use Rattle.flu_top.specs.declared.refusals.PlanDefect.TheVariants as defects
-use Rattle.flu_top.specs.declared.refusals.Refusal.TheVariants as refusals
-use Rattle.flu_top.specs.Causes.{IsJobRead}
-use Rattle.flu_top.specs.Ready.{HasNodes}
+use Rattle.flu_lines.specs.declared.refusals.PlanDefect.TheVariants as defects
+use Rattle.flu_lines.specs.declared.refusals.Refusal.TheVariants as refusals
+use Rattle.flu_command.specs.Causes.{IsJobRead}
+use Rattle.flu_command.specs.Ready.{HasNodes}
 use Rattle.flu_top.specs.Plans.{IsPlanRead, IsTextRefusal}
 use Rattle.flu_top.proofs.Checks.{check_refusal}
 use Rattle.flu_top.proofs.Sequence.{job_refusal}

@@ -6,7 +6,7 @@ use Rattle.flu_deps.specs.Checking.{program_of}
 use Rattle.flu_deps.specs.Validated.{plan_of}
 use Rattle.flu_lemmas.proofs.Named.{none_taken}
 use Rattle.flu_trace.specs.Replaying.{Complete, ending_of}
-use Rattle.flu_top.specs.Answer.{refusal_of_replay}
+use Rattle.flu_lines.specs.Answer.{refusal_of_replay}
 use Rattle.flu_top.specs.Replays.{IsNetRefusal}
 use Rattle.flu_top.proofs.Jobs.{if_err_at}
 use Rattle.flu_top.proofs.Replays.{on_net, told_on_net, net_refusal, as_refused}

@@ -4,9 +4,9 @@ use Rattle.flu_lemmas.proofs.Named.{fronts_at}
 use Rattle.flu_outside.specs.Outside.{WhereTold}
 use Rattle.flu_streams.specs.Files.{LeavesOthers}
 use Rattle.flu_words.specs.Words.{RunOptions, Run}
-use Rattle.flu_top.specs.declared.refusals.Refusal.{Refusal}
+use Rattle.flu_lines.specs.declared.refusals.Refusal.{Refusal}
 use Rattle.flu_top.specs.Refusing.{IsRefusal}
-use Rattle.flu_top.specs.Wants.{if_named}
+use Rattle.flu_command.specs.Wants.{if_named}
 use Rattle.flu_top.proofs.Checkpoints.{others_of_one}
 use Rattle.flu_top.proofs.Runnings.{others_as_valid, run_only_as_valid, run_refused_as_valid}
 use Rattle.flu_top.proofs.running.planned_for.Goals as goal

@@ -7,7 +7,7 @@ use Rattle.flu_words.specs.Words.{Run, plain_options}
 use Rattle.flu_top.specs.Ending.{call}
 use Rattle.flu_outside.specs.Outside.{WhereTold}
 use Rattle.flu_top.specs.Running.{IsOpened, IsOpeningRefusal, plain_opening}
-use Rattle.flu_top.specs.Starting.{AreNoSources, IsSameName}
+use Rattle.flu_command.specs.Starting.{AreNoSources, IsSameName}
 use Rattle.flu_top.proofs.Checkpoints.{no_number}
 use Rattle.flu_top.proofs.Endings.{fronts_of_all, only_of_command, stopped}
 use Rattle.flu_top.proofs.Runnings.{as_before, as_before_opening, same_name_refuses, opening_refuses, only_opening, is_started, ends_run, run_fronts, run_only}

@@ -3,7 +3,7 @@ use Rattle.flu_model.specs.Listed.{listed}
 use Rattle.flu_cells.specs.Holding.{held}
 use Rattle.flu_deps.specs.Checking.{program_of}
 use Rattle.flu_deps.specs.Validated.{plan_of}
-use Rattle.flu_top.specs.Simulating.{IsTextOn}
+use Rattle.flu_command.specs.Simulating.{IsTextOn}
 use Rattle.flu_top.proofs.RunReports.{run_report}
 use Rattle.flu_top.proofs.Simulations.{case_from_nothing}
 use Rattle.flu_top.proofs.simulating.net_text.Goals as goal

@@ -1,37 +1,24 @@
-use Rattle.std.proofs.Common.{sym, subst, map, string_bytes}
-use Rattle.flu_top.specs.Outcome.{Outcome, ReadOnly, FaultsFirst, HidesNothing}
-use Rattle.flu_top.proofs.Outcomes.{outcome_of, faults_of, hides_of}
-use Rattle.flu_top.proofs.Completeness.{completes_of}
+use Rattle.std.proofs.Common.{sym, ap, ◌∙◌, subst, map, string_bytes}
+use Rattle.flu_lines.specs.Statuses.{code}
+use Rattle.flu_top.specs.Outcome.{Outcome, ReadOnly, FaultsFirst, HidesNothing, Completes}
 use Rattle.flu_top.proofs.top.flumina.Goals as goal
 
 pub returns-clause-outcome : goal.returns-clause-outcome
 returns-clause-outcome g c =
-    subst (Outcome (map string_bytes c.args.words.now) _ _) (sym c.answer.ensures.status)
-    (outcome_of _ _ _ _ _ _ c.do_words-ended.result c.do_words-ended.ensures.ends c.answer.ensures.heard)
+    subst (Outcome (map string_bytes c.args.words.now) _ _) (sym (c.code.ensures ∙ ap code c.status_after.ensures)) c.answer_words-ended.ensures.outcome
 
 pub returns-clause-read : goal.returns-clause-read
 returns-clause-read g c =
-    subst (ReadOnly (map string_bytes c.args.words.now) _ _) (sym c.answer.ensures.status)
-    (record { fronts = c.do_words-ended.ensures.fronts; only = c.do_words-ended.ensures.only })
+    subst (ReadOnly (map string_bytes c.args.words.now) _ _) (sym (c.code.ensures ∙ ap code c.status_after.ensures)) c.answer_words-ended.ensures.read
 
 pub returns-clause-faults : goal.returns-clause-faults
 returns-clause-faults g c =
-    subst (FaultsFirst (map string_bytes c.args.words.now) _ _ _) (sym c.answer.ensures.status)
-    (faults_of _ _ c.do_words-ended.result c.do_words-ended.ensures.ends c.do_words-ended.ensures.quiet c.do_words-ended.ensures.written_quiet
-    c.do_words-ended.ensures.puts)
+    subst (FaultsFirst (map string_bytes c.args.words.now) _ _ _) (sym (c.code.ensures ∙ ap code c.status_after.ensures)) c.answer_words-ended.ensures.faults
 
 pub returns-clause-hides : goal.returns-clause-hides
 returns-clause-hides g c =
-    subst (HidesNothing (map string_bytes c.args.words.now) _ _ _ _) (sym c.answer.ensures.status)
-    (hides_of _ _ c.do_words-ended.result c.do_words-ended.ensures.ends)
+    subst (HidesNothing (map string_bytes c.args.words.now) _ _ _ _) (sym (c.code.ensures ∙ ap code c.status_after.ensures)) c.answer_words-ended.ensures.hides
 
 pub returns-clause-completes : goal.returns-clause-completes
-returns-clause-completes g c = completes_of (record {
-  jobs = c.jobs_are_grammar.ensures;
-  plans = c.plans_are_grammar.ensures;
-  meeting =
-      c.rounds_meet_what_is_there.ensures.meeting;
-  saves = c.faults_are_no_checkpoints.ensures;
-  traces = c.a_trace_has_one_ending.ensures;
-}) _ _ _ _ _ _ (returns-clause-outcome g c)
-    (returns-clause-faults g c)
+returns-clause-completes g c =
+    subst (Completes (map string_bytes c.args.words.now) _ _ _) (sym (c.code.ensures ∙ ap code c.status_after.ensures)) c.answer_words-ended.ensures.completes

@@ -2,7 +2,7 @@ use Rattle.std.proofs.Common.{◌<◌, sym, subst, ap, ◌∙◌, List}
 use Rattle.std.specs.List.{All}
 use Rattle.flu_net.specs.declared.steps.Step.{Step}
 use Rattle.flu_trace.specs.Lines.{number_of}
-use Rattle.flu_top.specs.Simulating.{lines_of_steps}
+use Rattle.flu_command.specs.Simulating.{lines_of_steps}
 use Rattle.flu_top.proofs.StepTexts.{good_lines, small_numbers}
 use Rattle.flu_top.proofs.traces.trace_text.Goals as goal
 

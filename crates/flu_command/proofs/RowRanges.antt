@@ -1,0 +1,383 @@
+-- The rows of a file have times below 2^63 and values of 64 bits, and so have the events of a run.
+use Rattle.std.proofs.Common.{◌≡◌, ℕ, zero, suc, ◌+◌, ◌<◌, ◌≤◌, ◌^◌, ◌-◌, ℤ, pos, negsuc, Bool, true, false, cond, Option, Some, None, List, [], ◌∷◌, ◌++◌}
+use Rattle.std.proofs.Common.{map, length, append_assoc, take, max, refl, sym, ap, subst, ◌∙◌, arith}
+use Rattle.std.specs.Prelude.{nat_lt, nat_le, ◌==◌, ◌&&◌, not, slice_get, slice_index, drop, option_map, option_and_then, unwrap_or, codes, sum_by, neg_ℤ, ⊤, IfSome}
+use Rattle.std.specs.Char.{is_ascii_digit}
+use Rattle.std.specs.List.{list_all, filter_map, flat_map, range_with_len, AllByRecursion}
+use Rattle.std.specs.Str.{bytes_eq}
+use Rattle.std.specs.Str.Parse.{digits_value}
+use Rattle.flu_lemmas.specs.Elements.{AtEach}
+use Rattle.flu_lemmas.proofs.Elements.{all_append, all_filter, all_map}
+use Rattle.flu_lemmas.proofs.Tests.{and_right, true_le}
+use Rattle.flu_model.specs.declared.events.Event.{Event}
+use Rattle.flu_model.specs.declared.events.Item.{Item}
+use Rattle.flu_model.specs.declared.events.Item.TheVariants.{Event as EventItem, Beat as BeatItem, End as EndItem}
+use Rattle.flu_model.specs.declared.jobs.Kind.{Kind}
+use Rattle.flu_model.specs.declared.jobs.Source.{Source}
+use Rattle.flu_model.specs.declared.jobs.Program.{Program}
+use Rattle.flu_model.specs.Merging.{events_of, all_events, merged, is_before}
+use Rattle.flu_lemmas.specs.Late.{is_less}
+use Rattle.flu_rows.specs.declared.row.RowForm.{RowForm}
+use Rattle.flu_rows.specs.declared.row.RowForm.TheVariants.{Older, WithItems}
+use Rattle.flu_rows.specs.declared.row.Fields.{Fields}
+use Rattle.flu_rows.specs.declared.row.Fields.TheVariants.{Nothing, One, Two, Other}
+use Rattle.flu_rows.specs.declared.row.Row.{Row}
+use Rattle.flu_rows.specs.declared.row.Row.TheVariants.{Event as EventRow, Beat as BeatRow, End as EndRow}
+use Rattle.flu_rows.specs.declared.rows.Next.{Next}
+use Rattle.flu_rows.specs.declared.rows.Next.TheVariants.{Row as RowNext, Bad, TooManyLines, Done}
+use Rattle.flu_rows.specs.Fields.{number_of, time_of, item_of, value_of, tag_of}
+use Rattle.flu_rows.specs.Lines.{line_of, line_of_fields, line_of_row, line_of_one, line_of_records, begins_with_mark, lines_of}
+use Rattle.flu_rows.specs.Reading.{read_line, read_lines, read_file}
+use Rattle.flu_rows.specs.Records.{first_record, record_after}
+use Rattle.flu_rows.specs.Row.{number_field, one_field, number_fields, two_fields, row_of, row_of_two, row_of_three, row_of_four, filled_len}
+use Rattle.flu_streams.specs.declared.border.Border.{Border}
+use Rattle.flu_streams.specs.Before.{each_with_before, with_before}
+use Rattle.flu_streams.specs.Good.{event_of, item_in, items_at, in_time_order, time_at, lists_of_rows}
+use Rattle.flu_streams.specs.Rounds.{lists_between, rows_between, is_between}
+use Rattle.flu_streams.specs.Tags.{width, place_named, given, given_by, given_to}
+use Rattle.flu_streams.specs.Tests.{rows_of, times_of, greatest}
+use Rattle.flu_command.proofs.Widths.{IsWord, all_in_order}
+
+-- ---- rows
+-- a value of 64 bits
+abbrev pub FieldsFit : Fields → Type 0
+FieldsFit Nothing = ⊤
+FieldsFit (One item value) = IsWord value
+FieldsFit (Two item value) = IsWord value
+FieldsFit Other = ⊤
+
+-- a time below 2^63, and a value of 64 bits
+abbrev pub RowFits : Row → Type 0
+RowFits (EventRow time name key fields) = (time < 2 ^ 63) × FieldsFit fields
+RowFits (BeatRow time) = time < 2 ^ 63
+RowFits EndRow = ⊤
+
+number_within : (limit : ℕ) (digits : List ℕ) (n : ℕ) → number_of limit digits ≡ Some n → n ≤ limit
+unfolding number_of
+number_within limit digits n e =
+    by (not (length digits == 0) && list_all is_ascii_digit digits && nat_le (digits_value 10 digits) limit) refl e
+  where
+    by : (b : Bool) → (not (length digits == 0) && list_all is_ascii_digit digits && nat_le (digits_value 10 digits) limit) ≡ b
+        → cond b (Some (digits_value 10 digits)) None ≡ Some n → n ≤ limit
+    by true is f =
+        let same : digits_value 10 digits ≡ n = cc in
+        let small = true_le (digits_value 10 digits) limit
+        (and_right (not (length digits == 0) && list_all is_ascii_digit digits) (nat_le (digits_value 10 digits) limit) is) in
+        omega (arith, same, small)
+    by false is f = absurd cc
+
+value_word : (text : List ℕ) (v : ℤ) → value_of text ≡ Some v → IsWord v
+unfolding value_of
+value_word text v e = by (slice_index text 0 == 45) e
+  where
+    below : (o : Option ℕ) → ((n : ℕ) → o ≡ Some n → n ≤ 2 ^ 63) → option_map (λ n. neg_ℤ (pos n)) o ≡ Some v → IsWord v
+    below None small f = absurd cc
+    below (Some zero) small f = let same : pos 0 ≡ v = cc in subst IsWord same (omega arith)
+    below (Some (suc n)) small f =
+        let same : negsuc n ≡ v = cc in
+        let few = small (suc n) refl in
+        let word : IsWord (negsuc n) = omega (arith, few) in
+        subst IsWord same word
+
+    above : (o : Option ℕ) → ((n : ℕ) → o ≡ Some n → n ≤ 2 ^ 63 - 1) → option_map (λ n. pos n) o ≡ Some v → IsWord v
+    above None small f = absurd cc
+    above (Some n) small f =
+        let same : pos n ≡ v = cc in
+        let few = small n refl in
+        let word : IsWord (pos n) = omega (arith, few) in
+        subst IsWord same word
+
+    by : (b : Bool)
+        → cond b (option_map (λ n. neg_ℤ (pos n)) (number_of (2 ^ 63) (drop 1 text))) (option_map (λ n. pos n) (number_of (2 ^ 63 - 1) text)) ≡ Some v
+        → IsWord v
+    by true f = below (number_of (2 ^ 63) (drop 1 text)) (number_within (2 ^ 63) (drop 1 text)) f
+    by false f = above (number_of (2 ^ 63 - 1) text) (number_within (2 ^ 63 - 1) text) f
+
+two_fit : (time tag : List ℕ) → IfSome (row_of_two time tag) RowFits
+unfolding row_of_two
+two_fit time tag = by_time (time_of time) (λ n e. number_within (2 ^ 63 - 1) time n e)
+  where
+    by_tag : (t : ℕ) → t ≤ 2 ^ 63 - 1 → (o : Option (List ℕ × Option ℕ)) → IfSome (option_and_then (λ k. Some (EventRow t k.0 k.1 Nothing)) o) RowFits
+    by_tag t small None = tt
+    by_tag t small (Some k) = (omega (arith, small), tt)
+
+    by_beat : (t : ℕ) → t ≤ 2 ^ 63 - 1 → (b : Bool)
+        → IfSome (cond b (Some (BeatRow t)) (option_and_then (λ k. Some (EventRow t k.0 k.1 Nothing)) (tag_of tag))) RowFits
+    by_beat t small true = omega (arith, small)
+    by_beat t small false = by_tag t small (tag_of tag)
+
+    by_time : (o : Option ℕ) → ((n : ℕ) → o ≡ Some n → n ≤ 2 ^ 63 - 1)
+        → IfSome (option_and_then (λ t. cond (bytes_eq tag (codes "beat")) (Some (BeatRow t))
+        (option_and_then (λ k. Some (EventRow t k.0 k.1 Nothing)) (tag_of tag))) o) RowFits
+    by_time None small = tt
+    by_time (Some t) small = by_beat t (small t refl) (bytes_eq tag (codes "beat"))
+
+-- the fields behind a tag
+number_fits : (item : Option ℕ) (o : Option ℤ) → IfSome o IsWord → FieldsFit (number_field item o)
+number_fits item None word = tt
+number_fits item (Some v) word = word
+
+value_fits : (text : List ℕ) → IfSome (value_of text) IsWord
+value_fits text = by (value_of text) (value_word text)
+  where
+    by : (o : Option ℤ) → ((v : ℤ) → o ≡ Some v → IsWord v) → IfSome o IsWord
+    by None word = tt
+    by (Some v) word = word v refl
+
+one_fits : (form : RowForm) (text : List ℕ) → IfSome (one_field form text) FieldsFit
+one_fits Older text = by (value_of text) (value_fits text)
+  where
+    by : (o : Option ℤ) → IfSome o IsWord → IfSome (option_map (λ v. One None v) o) FieldsFit
+    by None word = tt
+    by (Some v) word = word
+one_fits WithItems text = number_fits (item_of text) (value_of text) (value_fits text)
+
+two_fits : (first second : List ℕ) → FieldsFit (two_fields first second)
+two_fits first second = by (item_of first) (value_of second) (value_fits second)
+  where
+    by : (item : Option ℕ) (o : Option ℤ) → IfSome o IsWord → FieldsFit (number_fields item o)
+    by None o word = tt
+    by (Some i) None word = tt
+    by (Some i) (Some v) word = word
+
+-- a row with fields
+module _ (time tag : List ℕ) (found : Option Fields) (fits : IfSome found FieldsFit) where
+  with_fields : Option Row
+  with_fields = option_and_then (λ t. option_and_then (λ k. option_and_then (λ f. Some (EventRow t k.0 k.1 f)) found) (tag_of tag)) (time_of time)
+
+  fields_row : IfSome with_fields RowFits
+  unfolding with_fields
+  fields_row = by_time (time_of time) (λ n e. number_within (2 ^ 63 - 1) time n e)
+    where
+      by_fields : (t : ℕ) (k : List ℕ × Option ℕ) → t ≤ 2 ^ 63 - 1 → (o : Option Fields) → IfSome o FieldsFit
+          → IfSome (option_and_then (λ f. Some (EventRow t k.0 k.1 f)) o) RowFits
+      by_fields t k small None fit = tt
+      by_fields t k small (Some f) fit = (omega (arith, small), fit)
+
+      by_tag : (t : ℕ) → t ≤ 2 ^ 63 - 1 → (o : Option (List ℕ × Option ℕ))
+          → IfSome (option_and_then (λ k. option_and_then (λ f. Some (EventRow t k.0 k.1 f)) found) o) RowFits
+      by_tag t small None = tt
+      by_tag t small (Some k) = by_fields t k small found fits
+
+      by_time : (o : Option ℕ) → ((n : ℕ) → o ≡ Some n → n ≤ 2 ^ 63 - 1)
+          → IfSome (option_and_then (λ t. option_and_then (λ k. option_and_then (λ f. Some (EventRow t k.0 k.1 f)) found) (tag_of tag)) o) RowFits
+      by_time None small = tt
+      by_time (Some t) small = by_tag t (small t refl) (tag_of tag)
+
+three_fit : (form : RowForm) (time tag third : List ℕ) → IfSome (row_of_three form time tag third) RowFits
+unfolding row_of_three with_fields
+three_fit form time tag third = fields_row time tag (one_field form third) (one_fits form third)
+
+four_fit : (form : RowForm) (time tag third fourth : List ℕ) → IfSome (row_of_four form time tag third fourth) RowFits
+unfolding row_of_four with_fields
+four_fit Older time tag third fourth = tt
+four_fit WithItems time tag third fourth = fields_row time tag (Some (two_fields third fourth)) (two_fits third fourth)
+
+row_fits : (form : RowForm) (fields : List (List ℕ)) → IfSome (row_of form fields) RowFits
+unfolding row_of
+row_fits form [] = tt
+row_fits form (a ∷ []) = elim (bytes_eq a (codes "end")) as (λ b. IfSome (cond b (Some EndRow) None) RowFits) [ true ↦ tt | false ↦ tt ]
+row_fits form (a ∷ b ∷ []) = two_fit a b
+row_fits form (a ∷ b ∷ c ∷ []) = three_fit form a b c
+row_fits form (a ∷ b ∷ c ∷ d ∷ []) = four_fit form a b c d
+row_fits form (a ∷ b ∷ c ∷ d ∷ e ∷ more) = tt
+
+-- ---- lines
+abbrev pub NextFits : Next → Type 0
+NextFits (RowNext number row) = RowFits row
+NextFits (Bad number) = ⊤
+NextFits TooManyLines = ⊤
+NextFits (Done number) = ⊤
+
+abbrev AllFit : List Next → Type 0
+AllFit lines = AllByRecursion NextFits lines
+
+-- a line before others
+module _ (form : RowForm) (number : ℕ) (behind : List Next) (all : AllByRecursion NextFits behind) where
+  row_read : (o : Option Row) → IfSome o RowFits → AllFit (read_line (line_of_row o) number behind)
+  row_read None fits = (tt, tt)
+  row_read (Some row) fits = (fits, all)
+
+  fields_read : (fs : List (List ℕ)) → AllFit (read_line (line_of_fields form fs) number behind)
+  unfolding line_of_fields
+  fields_read fs =
+      elim (filled_len fs == 0) as (λ b. AllFit (read_line (cond b (line_of_records form None)
+      (line_of_row (row_of form (take (filled_len fs) fs)))) number behind)) [
+        | true ↦ all
+        | false ↦ row_read (row_of form (take (filled_len fs) fs)) (row_fits form (take (filled_len fs) fs))
+      ]
+
+  one_read : (fs : List (List ℕ)) (o : Option _) → AllFit (read_line (line_of_one form fs o) number behind)
+  one_read fs None = fields_read fs
+  one_read fs (Some more) = (tt, tt)
+
+  records_read : (o : Option _) → AllFit (read_line (line_of_records form o) number behind)
+  records_read None = all
+  records_read (Some read) = one_read read.0 (record_after read)
+
+  line_read : (line : List ℕ) → AllFit (read_line (line_of form number line) number behind)
+  unfolding line_of
+  line_read line =
+      elim (nat_lt 4096 (length line)) as (λ b. AllFit (read_line (cond b (line_of_row None) (cond (not (number == 1) && begins_with_mark line) (line_of_row None)
+      (line_of_records form (first_record line)))) number behind)) [
+        | true ↦ (tt, tt)
+        | false ↦ elim (not (number == 1) && begins_with_mark line) as (λ b. AllFit (read_line (cond b (line_of_row None)
+            (line_of_records form (first_record line))) number behind)) [
+              | true ↦ (tt, tt)
+              | false ↦ records_read (first_record line)
+            ]
+      ]
+
+lines_read : (form : RowForm) (before : ℕ) (lines : List (List ℕ)) → AllFit (read_lines form before lines)
+unfolding read_lines
+lines_read form before [] = (tt, tt)
+lines_read form before (line ∷ lines) =
+    elim (before + 1 == 2 ^ 32) as (λ b. AllFit
+    (cond b (TooManyLines ∷ []) (read_line (line_of form (before + 1) line) (before + 1) (read_lines form (before + 1) lines)))) [
+      | true ↦ (tt, tt)
+      | false ↦ line_read form (before + 1) (read_lines form (before + 1) lines) (lines_read form (before + 1) lines) line
+    ]
+
+pub file_read : (form : RowForm) (bytes : List ℕ) → AllByRecursion NextFits (read_file form bytes)
+file_read form bytes = lines_read form 0 (lines_of bytes)
+
+-- ---- the rows that were read
+rows_read : (lines : List Next) → AllByRecursion NextFits lines → AllByRecursion RowFits (rows_of lines)
+rows_read [] all = tt
+rows_read (RowNext number row ∷ lines) all = (all.0, rows_read lines all.1)
+rows_read (Bad number ∷ lines) all = rows_read lines all.1
+rows_read (TooManyLines ∷ lines) all = rows_read lines all.1
+rows_read (Done number ∷ lines) all = rows_read lines all.1
+
+-- their greatest time is below 2^63
+times_low : (rows : List Row) → AllByRecursion RowFits rows → AllByRecursion (λ t. t < 2 ^ 63) (times_of rows)
+times_low [] all = tt
+times_low (EventRow time name key fields ∷ rows) all = (all.0.0, times_low rows all.1)
+times_low (BeatRow time ∷ rows) all = (all.0, times_low rows all.1)
+times_low (EndRow ∷ rows) all = times_low rows all.1
+
+greatest_low : (ts : List ℕ) (u : ℕ) → AllByRecursion (λ t. t < 2 ^ 63) ts → greatest ts ≡ Some u → u < 2 ^ 63
+greatest_low [] u all e = absurd cc
+greatest_low (t ∷ ts) u all e = by (greatest ts) (λ v f. greatest_low ts v all.1 f) e
+  where
+    by : (o : Option ℕ) → ((v : ℕ) → o ≡ Some v → v < 2 ^ 63) → Some (max t (unwrap_or o 0)) ≡ Some u → u < 2 ^ 63
+    by None low f = let same : max t 0 ≡ u = cc in omega (arith, same, all.0)
+    by (Some v) low f = let same : max t v ≡ u = cc in let few = low v refl in omega (arith, same, few, all.0)
+
+pub latest_low : (lines : List Next) (u : ℕ) → AllByRecursion NextFits lines → greatest (times_of (rows_of lines)) ≡ Some u → u < 2 ^ 63
+latest_low lines u all e = greatest_low (times_of (rows_of lines)) u (times_low (rows_of lines) (rows_read lines all)) e
+
+-- ---- the events of a run
+-- a time below 2^63, and a value of 64 bits
+abbrev pub EventFits : Event → Type 0
+EventFits x = (x.time < 2 ^ 63) × IsWord x.value
+
+abbrev ItemFits : Item → Type 0
+ItemFits (EventItem x) = EventFits x
+ItemFits (BeatItem t) = ⊤
+ItemFits EndItem = ⊤
+
+-- what a row gives its event
+given_fits : (has_item has_value : Bool) (fields : Fields) → FieldsFit fields → IsWord (unwrap_or (given has_item has_value fields) (0, pos 0)).1
+given_fits true has_value Nothing fits = omega arith
+given_fits false true Nothing fits = omega arith
+given_fits false false Nothing fits = omega arith
+given_fits false false (One item value) fits = omega arith
+given_fits false true (One item value) fits = fits
+given_fits true false (One None value) fits = omega arith
+given_fits true false (One (Some i) value) fits = omega arith
+given_fits true true (One item value) fits = omega arith
+given_fits false has_value (Two item value) fits = omega arith
+given_fits true false (Two item value) fits = omega arith
+given_fits true true (Two item value) fits = fits
+given_fits has_item has_value Other fits = omega arith
+
+value_given : (kind : Option Kind) (fields : Fields) → FieldsFit fields → IsWord (unwrap_or (given_by kind fields) (0, pos 0)).1
+value_given None fields fits = omega arith
+value_given (Some kind) fields fits = given_fits kind.has_item kind.has_value fields fits
+
+item_fits : (kinds : List Kind) (s : Source) (first place : ℕ) (row : Row) → RowFits row → IfSome (item_in kinds s first place row) ItemFits
+item_fits kinds s first place (EventRow time name key fields) fits =
+    elim (unwrap_or (option_map (λ n. n == place) (place_named kinds s name key)) false) as (λ b. IfSome (cond b
+    (Some (EventItem (event_of time (first + place) (given_to kinds name fields)))) None) ItemFits) [
+      | true ↦ (fits.0, value_given _ fields fits.1)
+      | false ↦ tt
+    ]
+item_fits kinds s first place (BeatRow time) fits = tt
+item_fits kinds s first place EndRow fits = tt
+
+all_filter_map : {X Y : Type 0} (P : X → Type 0) (Q : Y → Type 0) (f : X → Option Y) → ((x : X) → P x → IfSome (f x) Q) → (xs : List X)
+    → AllByRecursion P xs → AllByRecursion Q (filter_map f xs)
+all_filter_map P Q f each [] all = tt
+all_filter_map {X} {Y} P Q f each (x ∷ xs) all = by (f x) refl (each x all.0) (all_filter_map P Q f each xs all.1)
+  where
+    by : (o : Option Y) → f x ≡ o → IfSome o Q → AllByRecursion Q (filter_map f xs) → AllByRecursion Q (filter_map f (x ∷ xs))
+    by None e here more = rw e more
+    by (Some y) e here more = rw e (here, more)
+
+items_fit : (kinds : List Kind) (s : Source) (first : ℕ) (rows : List Row) (place : ℕ) → AllByRecursion RowFits rows
+    → AllByRecursion ItemFits (items_at kinds s first rows place)
+items_fit kinds s first rows place all =
+    all_append ItemFits (filter_map (item_in kinds s first place) (in_time_order rows)) (EndItem ∷ [])
+    (all_filter_map RowFits ItemFits (item_in kinds s first place) (item_fits kinds s first place) (in_time_order rows)
+    (all_in_order RowFits (is_less time_at) rows all)) (tt, tt)
+
+abbrev ListFits : List Item → Type 0
+ListFits items = AllByRecursion ItemFits items
+
+all_mapped : {X Y : Type 0} (Q : Y → Type 0) (f : X → Y) → ((x : X) → Q (f x)) → (xs : List X) → AllByRecursion Q (map f xs)
+all_mapped Q f each [] = tt
+all_mapped Q f each (x ∷ xs) = (each x, all_mapped Q f each xs)
+
+lists_fit : (kinds : List Kind) (s : Source) (first : ℕ) (rows : List Row) → AllByRecursion RowFits rows
+    → AllByRecursion ListFits (lists_of_rows kinds s first rows)
+lists_fit kinds s first rows all = all_mapped ListFits (items_at kinds s first rows) (λ place. items_fit kinds s first rows place all) (range_with_len 0 (width s))
+
+all_flat : {X Y : Type 0} (Q : Y → Type 0) (f : X → List Y) → (xs : List X) → AllByRecursion (λ x. AllByRecursion Q (f x)) xs
+    → AllByRecursion Q (flat_map f xs)
+all_flat Q f [] all = tt
+all_flat Q f (x ∷ xs) all = all_append Q (f x) (flat_map f xs) all.0 (all_flat Q f xs all.1)
+
+-- the lines of each source fit, by its number
+abbrev pub LinesFit : Program → (ℕ → List Next) → Type 0
+LinesFit p reads = AtEach (λ i s. AllByRecursion NextFits (reads i)) p.sources
+
+at_seam : {X : Type 0} (before after : List X) (x : X) → slice_get (before ++ x ∷ after) (length before) ≡ Some x
+at_seam [] after x = refl
+at_seam (y ∷ before) after x = at_seam before after x
+
+module _ (p : Program) (above : Option ℕ) (end : Border) (reads : ℕ → List Next) (fit : LinesFit p reads) where
+  abbrev one_source : (List Source × Source) → List (List Item)
+  one_source e = lists_of_rows p.kinds e.1 (sum_by width e.0) (rows_between above end (rows_of (reads (length e.0))))
+
+  each_source : (before : List Source) (ss : List Source) → p.sources ≡ before ++ ss
+      → AllByRecursion (λ e. AllByRecursion ListFits (one_source e)) (with_before before ss)
+  each_source before [] same = tt
+  each_source before (s ∷ ss) same =
+      let here : slice_get p.sources (length before) ≡ Some s = ap (λ (xs : List Source). slice_get xs (length before)) same ∙ at_seam before ss s in
+      let rows = rows_of (reads (length before)) in (
+        lists_fit p.kinds s (sum_by width before) (rows_between above end rows)
+            (all_filter RowFits (is_between above end) rows
+            (all_map RowFits (λ row. is_between above end row ≡ true → RowFits row) rows (λ row fits e. fits)
+            (rows_read (reads (length before)) (fit (length before) s here)))),
+        each_source (before ++ s ∷ []) ss (same ∙ sym (append_assoc before (s ∷ []) ss)),
+      )
+
+  pub lists_between_fit : AllByRecursion ListFits (lists_between p above end reads)
+  lists_between_fit = all_flat ListFits one_source (each_with_before p.sources) (each_source [] p.sources refl)
+
+events_fit : (items : List Item) → ListFits items → AllByRecursion EventFits (events_of items)
+events_fit [] all = tt
+events_fit (EventItem x ∷ items) all = (all.0, events_fit items all.1)
+events_fit (BeatItem t ∷ items) all = events_fit items all.1
+events_fit (EndItem ∷ items) all = events_fit items all.1
+
+pub all_events_fit : (lists : List (List Item)) → AllByRecursion ListFits lists → AllByRecursion EventFits (all_events lists)
+all_events_fit lists all = all_flat EventFits events_of lists (all_map ListFits (λ items. AllByRecursion EventFits (events_of items)) lists events_fit all)
+
+-- THE EVENTS between two borders of lines that fit
+pub merged_fit : (p : Program) (above : Option ℕ) (end : Border) (reads : ℕ → List Next) → LinesFit p reads
+    → AllByRecursion EventFits (merged (lists_between p above end reads))
+merged_fit p above end reads fit =
+    all_in_order EventFits is_before (all_events (lists_between p above end reads))
+    (all_events_fit (lists_between p above end reads) (lists_between_fit p above end reads fit))

@@ -1,0 +1,4 @@
+pub mod Written
+pub mod WrittenConflicts
+pub mod WrittenPlans
+pub mod WrittenSteps

@@ -1,0 +1,6 @@
+pub mod Statuses
+pub mod Names
+pub mod Lines
+pub mod Jobs
+pub mod Products
+pub mod Answer

@@ -1,8 +1,0 @@
-use Rattle.flu_top.proofs.ResumedRuns.{sources_decide, checkpoints_leave_sources}
-use Rattle.flu_top.proofs.resuming.of_resumed_sources.Goals as goal
-
-pub returns-clause-sources : goal.returns-clause-sources
-returns-clause-sources c = sources_decide
-
-pub returns-clause-checkpoint : goal.returns-clause-checkpoint
-returns-clause-checkpoint c = checkpoints_leave_sources
