@@ -12,4 +12,4 @@ mod statuses;
 pub use lines::{say, say_done};
 pub use products::{DrawnSteps, Said};
 pub use refusals::{JobRead, PlanDefect, Refusal, SaveDefect, job_refusal, plan_refusal};
-pub use statuses::{Status, status};
+pub use statuses::{Status, status_after};

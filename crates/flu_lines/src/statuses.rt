@@ -59,7 +59,7 @@ impl Status {
 }
 
 /// The status of a call that was done or refused.
-pub fn status(ended: &Result<Option<Said>, Refusal>) -> Status
+pub fn status_after(ended: &Result<Option<Said>, Refusal>) -> Status
     ensures { result ≡ status_after ended.now }
 {
     match ended {

@@ -9,7 +9,7 @@ ghost use Rattle.flu_top.specs.Ending.{call, Ends};
 ghost use Rattle.flu_top.specs.Outcome.{outside, faults, Outcome, ReadOnly, FaultsFirst, HidesNothing, Completes};
 
 use crate::commands::run;
-use flu_lines::{Refusal, Said, say, say_done, status};
+use flu_lines::{Refusal, Said, say, say_done, status_after};
 use flu_grammar::laws::{jobs_are_grammar, plans_are_grammar};
 use flu_outside::{Files, Sink};
 use flu_save::faults_are_no_checkpoints;
@@ -95,12 +95,12 @@ pub fn flumina<F: Files, K: Sink, E: Sink, G: Gate, R: Threads + Wait + Sync>(
         (faults (F.faults files.new) (F.put_faults files.new) (K.faults out.new)) result }
 {
     let ended = answer_words(rt, alloc, words, files, out, err, gate);
-    status(&ended).code()
+    status_after(&ended).code()
 }
 
 /// Does what the words after the program's name say, as `flumina` does, and answers why it was not done, or what is said of it, as a value.
 ///
-/// All that `flumina` says of its status holds of the number of the status of that value, and `err` got its line: `status` has the status,
+/// All that `flumina` says of its status holds of the number of the status of that value, and `err` got its line: `status_after` has the status,
 /// and `say` and `say_done` have said the line.
 pub fn answer_words<F: Files, K: Sink, E: Sink, G: Gate, R: Threads + Wait + Sync>(
     rt: &R,
