@@ -147,6 +147,26 @@ mistake(["check", "rides.job"], 4, "flumina: conflict: gate[1] and gate[1] on st
 job(SETS.replace("set state[key]", "set state[1]"), gates_csv="end\n")
 mistake(["check", "rides.job"], 4, "flumina: conflict: gate[1] and gate[1] on state[1]\n", "  to make these two dependent: depends gate gate\n")
 
+# A job that came through a pipe can't be read again, and a hint has no need to.
+def piped(command, text):
+    """What standard error gets where the job comes through a pipe."""
+    near, far = os.pipe()
+    os.write(far, text.encode())
+    os.close(far)
+    said = folder.call("--hints", command, f"/dev/fd/{near}", pass_fds=(near,))[2].decode()
+    os.close(near)
+    return said
+
+
+job(RIDES, north_csv="485.5,ride[1],12\nend\n")
+for command, text, *hints in [
+    ("fold", RIDES.replace("cell longest max", "cell rides max"), "line 2, column 6\n  cell rides max\n       ^\n", "  rides is named first on line 1;"),
+    ("check", RIDES.replace("depends ride day\n", "").replace("depends day day\n", ""), DEPENDS, "  the job lacks 2 lines, one for each two kinds that conflict:\n"),
+    ("fold", RIDES, "  north.csv, line 1\n  485.5,ride[1],12\n", "  the time has a fraction:"),
+]:
+    shown = piped(command, text)
+    need(all(hint in shown for hint in hints), f"{command} of a job from a pipe: {shown!r}")
+
 # What a job declares and does not use, and what is not there.
 job(RIDES)
 remark(["check", "rides.job"])

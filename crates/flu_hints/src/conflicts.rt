@@ -1,8 +1,9 @@
 //! The declarations of two tags that conflict, and the `depends` lines that a job lacks.
 
-use crate::hints::{program_of, text_of};
+use crate::hints::text_of;
 use crate::missing::{Missing, missing_of};
 use crate::places::push_line;
+use flu_check::CheckFault;
 use flu_model::{Cell, Program, tag_text};
 use std::alloc::{AllocError, Global};
 use std::{rt, str};
@@ -10,55 +11,29 @@ use std::{rt, str};
 /// The most `depends` lines that are shown.
 const MOST_SHOWN: usize = 64;
 
-/// Where the kinds of the two tags in an answer's line such as `flumina: conflict: ride[1] and day on rides[1]` are declared, and the
-/// `depends` that makes the two dependent; and, if the job has conflicts of other kinds too, all lines that it lacks.
+/// Where the kinds of two tags that conflict are declared in the text under the job's name, and the `depends` that makes the two dependent;
+/// and, if the job has conflicts of other kinds too, all lines that it lacks.
 pub fn conflict_hint<R: rt::Files + AllocGlobal>(
     rt: &R,
-    name: Option<&String>,
-    line: &str,
+    name: &str,
+    fault: &CheckFault,
 ) -> Result<String, AllocError> {
     let mut told = String::new(rt.alloc());
-    let Some((a, b)) = tags_of(line) else {
-        return Ok(told);
-    };
-    let (kind, key) = kind_and_key(a);
-    let (other, other_key) = kind_and_key(b);
-    let mut is_same = key.is_some() && key == other_key;
-    let mut lines = String::new(rt.alloc());
-    if let Some(name) = name {
-        push_declarations(rt, &mut told, name.as_str(), kind, other)?;
-        if let Some(program) = program_of(rt, name.as_str()) {
-            let missing = missing_of(rt.alloc(), &program)?;
-            if let Some(first) = named(&program, missing.as_slice(), kind, other) {
-                is_same = first.same;
-            }
-            push_missing(rt.alloc(), &mut lines, &program, missing.as_slice())?;
-        }
-    }
+    let program = &fault.program;
+    let kind = kind_name(program, fault.a.kind);
+    let other = kind_name(program, fault.b.kind);
+    push_declarations(rt, &mut told, name, kind, other)?;
+    let missing = missing_of(rt.alloc(), program)?;
+    let is_same = missing
+        .iter()
+        .any(|known| known.same && known.has_kinds_of(fault.a, fault.b));
     let same = if is_same { " same" } else { "" };
     let depends = format!(in rt.alloc();
         "  to make these two dependent: depends {kind} {other}{same}\n"
     )?;
     told.push_str(depends.as_str())?;
-    told.push_str(lines.as_str())?;
+    push_missing(rt.alloc(), &mut told, program, missing.as_slice())?;
     Ok(told)
-}
-
-// The two kinds with these names, in either order, if the job lacks their `depends`.
-fn named<'m>(
-    program: &Program,
-    missing: &'m [Missing],
-    kind: &str,
-    other: &str,
-) -> Option<&'m Missing> {
-    for known in missing {
-        let first = kind_name(program, known.a.kind);
-        let second = kind_name(program, known.b.kind);
-        if first == kind && second == other || first == other && second == kind {
-            return Some(known);
-        }
-    }
-    None
 }
 
 // Appends all lines that a job lacks, each with a comment that says why, if it lacks more than one.
@@ -157,20 +132,5 @@ fn declares(line: &str, kind: &str) -> bool {
     match behind.trim_start().split_once(' ') {
         Some((name, _)) => name == kind,
         None => false,
-    }
-}
-
-fn tags_of(line: &str) -> Option<(&str, &str)> {
-    let behind = line.strip_prefix("flumina: conflict: ")?;
-    let (a, behind) = behind.split_once(" and ")?;
-    let (b, _) = behind.split_once(" on ")?;
-    Some((a, b))
-}
-
-// A tag's kind, and its key in digits if it has one.
-fn kind_and_key(tag: &str) -> (&str, Option<&str>) {
-    match tag.split_once('[') {
-        Some((kind, key)) => (kind, Some(key)),
-        None => (tag, None),
     }
 }

@@ -38,18 +38,18 @@ pub struct Report {
     pub is_asked: bool,
 }
 
-/// What was read and is not in the report of a `fold` or `run`: if no line was written, what could have written one; how many events came
-/// after the last line; and which cells are not neutral at the end. Nothing for a run that was resumed.
+/// What was read and is not in the report of a `fold` or a `run` of all sources: if no line was written, what could have written one; how
+/// many events came after the last line; and which cells are not neutral at the end.
 ///
 /// For this the sources are read and folded once more, from files that were not read from before, if they are regular files and short.
 pub fn report_hint<R: rt::Files + AllocGlobal, F: Files>(
     rt: &R,
     files: &mut F,
-    words: &[String],
+    job: &str,
     report: Report,
 ) -> Result<String, AllocError> {
     let mut told = String::new(rt.alloc());
-    let Some(program) = job_of_report(rt, words) else {
+    let Some(program) = program_of(rt, job) else {
         return Ok(told);
     };
     if report.is_empty {
@@ -70,20 +70,6 @@ pub fn report_hint<R: rt::Files + AllocGlobal, F: Files>(
         }
     }
     Ok(told)
-}
-
-// The job of a command whose report is one of all its sources.
-fn job_of_report<R: rt::Files + AllocGlobal>(rt: &R, words: &[String]) -> Option<Program> {
-    let is_report = match words.first()?.as_str() {
-        "fold" => true,
-        "run" => !words.iter().any(|word| word.as_str() == "--resume"),
-        _ => false,
-    };
-    if is_report {
-        program_of(rt, words.get(1)?.as_str())
-    } else {
-        None
-    }
 }
 
 // Appends that the report is empty, and which kinds may write a line.

@@ -1,49 +1,109 @@
-//! Which hint belongs to which status.
+//! Which hint belongs to which answer.
 
 use crate::conflicts::conflict_hint;
-use crate::places::place_hint;
+use crate::endings::{Report, report_hint};
 use crate::reasons::{Failure, reason_hint};
 use crate::rows::row_hint;
+use crate::texts::{job_fault_hint, plan_fault_hint};
 use crate::traces::trace_hint;
 use crate::unused::job_hint;
-use crate::words::words_hint;
+use crate::words::{word_at, words_hint};
+use flu_check::CheckFault;
+use flu_lines::{PlanDefect, Refusal, Said};
 use flu_model::Program;
+use flu_outside::Files;
 use flu_parse::read_job;
+use flu_words::{Command, read_words};
 use std::alloc::AllocError;
 use std::{fs, rt};
 
 /// A file that is longer is not read again for a hint.
 const LONGEST_READ: u64 = 67_108_864;
 
-/// What helps a person who sees the line of an answer with this status; empty if nothing is known.
+/// The place of a job's name in the words of each command that has one.
+const JOB: usize = 1;
+
+/// The place of a plan's name in the words of each command that has one.
+const PLAN: usize = 2;
+
+/// What helps a person who sees what a call of these words answered; empty if nothing is known.
 ///
-/// `failure` is what failed at 7, 8 or 12. At 3 to 6, and after a `check` at 0, files are read again by their names, so what a hint shows
-/// may have changed since. Only regular files are read, and no long ones.
-pub fn hint<R: rt::Files + AllocGlobal>(
+/// `failure` is what failed, if a file or a stream did, and `report` what is known of a report that was written. What was refused says
+/// where it is and why; files are read again only to show a line of them, and, after a call that was done, to say what a job does not use
+/// or a report does not show: regular ones alone, and no long ones. Sources that are read again are taken from `files`. What a hint shows
+/// may have changed since the call.
+pub fn hint<R: rt::Files + AllocGlobal, F: Files>(
     rt: &R,
+    files: &mut F,
     words: &[String],
-    status: u8,
-    line: &str,
+    ended: &Result<Option<Said>, Refusal>,
     failure: Option<Failure>,
+    report: Report,
 ) -> Result<String, AllocError> {
-    let is_check = words.first().is_some_and(|word| word.as_str() == "check");
-    match status {
-        0 if is_check => job_hint(rt, words.get(1)),
-        2 => words_hint(rt.alloc(), words, line),
-        3 => place_hint(rt, words.get(1), line),
-        4 => {
-            let mut told = conflict_hint(rt, words.get(1), line)?;
-            if is_check {
-                told.push_str(job_hint(rt, words.get(1))?.as_str())?;
-            }
-            Ok(told)
+    match ended {
+        Ok(None) => done_hint(rt, files, words, report),
+        Ok(Some(_)) => Ok(String::new(rt.alloc())),
+        Err(refusal) => refusal_hint(rt, words, refusal, failure),
+    }
+}
+
+// What a command that says nothing on err leaves to be said once it is done.
+fn done_hint<R: rt::Files + AllocGlobal, F: Files>(
+    rt: &R,
+    files: &mut F,
+    words: &[String],
+    report: Report,
+) -> Result<String, AllocError> {
+    match read_words(words) {
+        Ok(Command::Check { job }) => match program_of(rt, job) {
+            Some(program) => job_hint(rt, &program),
+            None => Ok(String::new(rt.alloc())),
+        },
+        Ok(Command::Fold { job }) => report_hint(rt, files, job, report),
+        Ok(Command::Run { job, options, .. }) if options.resume.is_none() => {
+            report_hint(rt, files, job, report)
         }
-        5 => place_hint(rt, words.get(2), line),
-        6 => row_hint(rt, words.get(1), line),
-        7 | 8 | 12 => reason_hint(rt.alloc(), failure),
-        13 => trace_hint(rt.alloc(), line),
         _ => Ok(String::new(rt.alloc())),
     }
+}
+
+// What helps with a refusal.
+fn refusal_hint<R: rt::Files + AllocGlobal>(
+    rt: &R,
+    words: &[String],
+    refusal: &Refusal,
+    failure: Option<Failure>,
+) -> Result<String, AllocError> {
+    let alloc = rt.alloc();
+    match refusal {
+        Refusal::BadWords(bad) => words_hint(alloc, words, *bad),
+        Refusal::JobFault(fault, text) => {
+            job_fault_hint(alloc, word_at(words, JOB), fault, text.as_slice())
+        }
+        Refusal::Conflict(fault) => job_conflict_hint(rt, words, fault),
+        Refusal::PlanDefect(PlanDefect::Text(fault, text)) => {
+            plan_fault_hint(alloc, word_at(words, PLAN), fault, text.as_slice())
+        }
+        Refusal::SourceFault(job, fault) => row_hint(rt, job.program(), *fault),
+        Refusal::ReadFault | Refusal::WriteFault | Refusal::PutFault => reason_hint(alloc, failure),
+        Refusal::TraceFault(fault) => trace_hint(alloc, *fault),
+        Refusal::PlanDefect(PlanDefect::Invalid(_, _))
+        | Refusal::SaveDefect(_)
+        | Refusal::NoMemory => Ok(String::new(alloc)),
+    }
+}
+
+// What helps with a conflict, and what `check` says of the job besides.
+fn job_conflict_hint<R: rt::Files + AllocGlobal>(
+    rt: &R,
+    words: &[String],
+    fault: &CheckFault,
+) -> Result<String, AllocError> {
+    let mut told = conflict_hint(rt, word_at(words, JOB), fault)?;
+    if let Ok(Command::Check { .. }) = read_words(words) {
+        told.push_str(job_hint(rt, &fault.program)?.as_str())?;
+    }
+    Ok(told)
 }
 
 /// The contents of a regular file that is not too long.

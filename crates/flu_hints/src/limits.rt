@@ -1,59 +1,49 @@
-//! The place at which a text exceeds the limit that the line of an answer names.
+//! The place at which a text exceeds a limit.
 
 use crate::jobs::{actions_place, height_place, itags_place, nesting_place};
 use crate::plans::{depth_place, predicates_place};
+use flu_model::What;
 use flu_syntax::{WrittenJob, read_syntax};
 use flu_text::{Mark, Reserved, Token, Word, tokens};
 use std::alloc::Global;
 use std::str;
 
-/// The place in a text that is one too much for the limit of a line such as `flumina: job: over limit families 65`.
-pub fn limit_place(alloc: Global, line: &str, bytes: &[u8]) -> Option<usize> {
-    let (_, behind) = line.trim_end().split_once(": over limit ")?;
-    let (what, count) = behind.split_once(' ')?;
-    let count = count.parse::<usize>().ok()?;
-    if what == "bytes" {
-        return count.checked_sub(1);
+/// The place in a text, as a byte from 0, that is one too much for a limit, such as the 65th family; `count` is the first number above the
+/// limit, or the key, the rate or the slack itself.
+pub fn limit_place(alloc: Global, what: What, count: u64, text: &[u8]) -> Option<usize> {
+    if what == What::Bytes {
+        return usize::try_from(count).ok()?.checked_sub(1);
     }
-    let text = str::from_utf8(bytes).ok()?;
+    let text = str::from_utf8(text).ok()?;
     let found = tokens(alloc, text).ok()?;
+    let found = found.as_slice();
     match what {
-        "itags" | "actions" | "height" => place_in_job(alloc, text, found.as_slice(), what),
-        "nesting" => nesting_place(alloc, found.as_slice(), text.len()),
-        "depth" => depth_place(alloc, text, found.as_slice()),
-        _ => place_in_tokens(text, found.as_slice(), what, count),
+        What::Bytes => None,
+        What::Itags => itags_place(&job_in(alloc, text, found)?),
+        What::Actions => actions_place(&job_in(alloc, text, found)?),
+        What::Height => height_place(&job_in(alloc, text, found)?),
+        What::Nesting => nesting_place(alloc, found, text.len()),
+        What::Depth => depth_place(alloc, text, found),
+        What::Families => place_of_word(found, Reserved::Cell, count),
+        What::Kinds => place_of_word(found, Reserved::Tag, count),
+        What::Sources => place_of_word(found, Reserved::Source, count),
+        What::Depends => place_of_word(found, Reserved::Depends, count),
+        What::Nodes => place_of_word(found, Reserved::Node, count),
+        What::Predicates => predicates_place(found, count),
+        What::Rate => place_behind(found, Reserved::Rate, count),
+        What::Slack => place_behind(found, Reserved::Slack, count),
+        What::Key => key_place(text, found, count),
     }
 }
 
-// The place of what is found in a job as it is written.
-fn place_in_job(alloc: Global, text: &str, found: &[Token], what: &str) -> Option<usize> {
-    let job: WrittenJob = read_syntax(alloc, found, text.len()).ok()?;
-    match what {
-        "itags" => itags_place(&job),
-        "actions" => actions_place(&job),
-        _ => height_place(&job),
-    }
-}
-
-// The place of what is found in the tokens alone.
-fn place_in_tokens(text: &str, found: &[Token], what: &str, count: usize) -> Option<usize> {
-    match what {
-        "families" => place_of_word(found, Reserved::Cell, count),
-        "kinds" => place_of_word(found, Reserved::Tag, count),
-        "sources" => place_of_word(found, Reserved::Source, count),
-        "depends" => place_of_word(found, Reserved::Depends, count),
-        "nodes" => place_of_word(found, Reserved::Node, count),
-        "predicates" => predicates_place(found, count),
-        "rate" => place_behind(found, Reserved::Rate, count),
-        "slack" => place_behind(found, Reserved::Slack, count),
-        "key" => key_place(text, found, count),
-        _ => None,
-    }
+// A job as it is written.
+fn job_in(alloc: Global, text: &str, found: &[Token]) -> Option<WrittenJob> {
+    read_syntax(alloc, found, text.len()).ok()
 }
 
 // The place of the n-th occurrence of a reserved word.
-fn place_of_word(found: &[Token], word: Reserved, count: usize) -> Option<usize> {
-    let mut met = 0usize;
+fn place_of_word(found: &[Token], word: Reserved, count: u64) -> Option<usize> {
+    let mut met = 0u64;
     for token in found {
         if token.word == Word::Reserved(word) {
             met = met.saturating_add(1);
@@ -66,7 +56,7 @@ fn place_of_word(found: &[Token], word: Reserved, count: usize) -> Option<usize>
 }
 
 // The place of a number after a reserved word.
-fn place_behind(found: &[Token], word: Reserved, number: usize) -> Option<usize> {
+fn place_behind(found: &[Token], word: Reserved, number: u64) -> Option<usize> {
     let mut is_behind = false;
     for token in found {
         if is_behind && is_number(token.word, number) {
@@ -78,7 +68,7 @@ fn place_behind(found: &[Token], word: Reserved, number: usize) -> Option<usize>
 }
 
 // The place of a key: a number in brackets, or a text with a field that has it.
-fn key_place(text: &str, found: &[Token], key: usize) -> Option<usize> {
+fn key_place(text: &str, found: &[Token], key: u64) -> Option<usize> {
     let mut is_behind = false;
     for token in found {
         if is_behind && is_number(token.word, key) || has_field(text, token, key) {
@@ -90,15 +80,15 @@ fn key_place(text: &str, found: &[Token], key: usize) -> Option<usize> {
     None
 }
 
-fn is_number(word: Word, wanted: usize) -> bool {
+fn is_number(word: Word, wanted: u64) -> bool {
     match word {
-        Word::Number(number) => usize::try_from(number) == Ok(wanted),
+        Word::Number(number) => u64::try_from(number) == Ok(wanted),
         _ => false,
     }
 }
 
 // Whether a token is a text with a field such as `{NAME[key]}`.
-fn has_field(text: &str, token: &Token, key: usize) -> bool {
+fn has_field(text: &str, token: &Token, key: u64) -> bool {
     if token.word != Word::Text {
         return false;
     }
@@ -111,11 +101,11 @@ fn has_field(text: &str, token: &Token, key: usize) -> bool {
 }
 
 // The number in the brackets of a field that begins a piece of a template.
-fn key_of_field(piece: &str) -> Option<usize> {
+fn key_of_field(piece: &str) -> Option<u64> {
     let (field, _) = piece.split_once('}')?;
     let (_, behind) = field.split_once('[')?;
     let (digits, _) = behind.split_once(']')?;
-    digits.parse::<usize>().ok()
+    digits.parse::<u64>().ok()
 }
 
 /// The bytes of a token.

@@ -21,7 +21,8 @@ pub struct Missing {
 }
 
 impl Missing {
-    fn has_kinds_of(&self, a: Tag, b: Tag) -> bool {
+    /// Whether these are the kinds of two tags, in either order.
+    pub fn has_kinds_of(&self, a: Tag, b: Tag) -> bool {
         self.a.kind == a.kind && self.b.kind == b.kind
             || self.a.kind == b.kind && self.b.kind == a.kind
     }

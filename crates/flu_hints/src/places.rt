@@ -1,62 +1,39 @@
-//! The place of a fault in a text: its line and column, the line itself, and a mark below.
+//! A place in a text: its line and column, the line itself, and a mark below.
 
-use crate::hints::text_of;
-use crate::limits::limit_place;
-use crate::texts::push_advice;
 use std::alloc::{AllocError, Global};
-use std::{rt, str};
+use std::str;
 
 /// A longer line is not shown.
 const LONGEST_LINE: usize = 200;
 
-/// The line, column and text of the place that the line of an answer names, or at which the limit that it names is exceeded, in the
-/// file of that name, and what helps there.
-pub fn place_hint<R: rt::Files + AllocGlobal>(
-    rt: &R,
-    name: Option<&String>,
-    line: &str,
-) -> Result<String, AllocError> {
-    let Some(name) = name else {
-        return Ok(String::new(rt.alloc()));
-    };
-    let Some(bytes) = text_of(rt, name.as_str()) else {
-        return Ok(String::new(rt.alloc()));
-    };
-    let bytes = bytes.as_slice();
-    let mut told = match place_of(line).or_else(|| limit_place(rt.alloc(), line, bytes)) {
-        Some(at) if at <= bytes.len() => shown_place(rt.alloc(), name.as_str(), bytes, at)?,
-        _ => String::new(rt.alloc()),
-    };
-    push_advice(rt.alloc(), &mut told, line, bytes)?;
-    Ok(told)
-}
-
-/// The place at the end of an answer's line, such as `job: unexpected at 17`.
-pub fn place_of(line: &str) -> Option<usize> {
-    let (_, digits) = line.trim_end().rsplit_once(" at ")?;
-    digits.parse::<usize>().ok()
-}
-
-// The file, the line and the column from 1, and the line with a mark below the column.
-fn shown_place(alloc: Global, name: &str, bytes: &[u8], at: usize) -> Result<String, AllocError> {
+/// Appends where a place of a text is: the file, the line and the column from 1, and the line with a mark below the column. Nothing for a
+/// place that is not in the text.
+pub fn push_place(
+    alloc: Global,
+    told: &mut String,
+    name: &str,
+    bytes: &[u8],
+    at: usize,
+) -> Result<(), AllocError> {
+    if at > bytes.len() {
+        return Ok(());
+    }
     let (number, begin) = line_begin(bytes, at);
     let before = at.saturating_sub(begin);
     let column = before.saturating_add(1);
     let place = format!(in alloc; "{name}, line {number}, column {column}")?;
-    let mut told = String::new(alloc);
-    push_line(&mut told, place.as_str())?;
+    push_line(told, place.as_str())?;
     let Some(shown) = line_from(bytes, begin) else {
-        return Ok(told);
+        return Ok(());
     };
-    push_line(&mut told, shown)?;
+    push_line(told, shown)?;
     told.push_str("  ")?;
     for (i, _) in shown.char_indices() {
         if i < before {
             told.push(' ')?;
         }
     }
-    told.push_str("^\n")?;
-    Ok(told)
+    told.push_str("^\n")
 }
 
 /// The number from 1 of the line in which a place is, and the place where that line begins.

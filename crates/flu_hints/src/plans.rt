@@ -18,8 +18,8 @@ struct Child<'t> {
 }
 
 /// The n-th predicate.
-pub fn predicates_place(found: &[Token], count: usize) -> Option<usize> {
-    let mut met = 0usize;
+pub fn predicates_place(found: &[Token], count: u64) -> Option<usize> {
+    let mut met = 0u64;
     let mut may_begin = false;
     for token in found {
         if may_begin

@@ -2,51 +2,44 @@
 
 use crate::places::push_line;
 use flu_model::{Keys, Program, Source, TagRef};
+use flu_streams::Why;
 use std::alloc::{AllocError, Global};
 
 /// The greatest slack of a source, in the unit of its times.
 const GREATEST_SLACK: u64 = 60_000;
 
-/// Appends why the row of an answer's line is a defect, as far as the line, the source and the row itself show it. The row is none if it
-/// was not found, or is no short text.
+/// One more than the events and heartbeats that may be held.
+const TOO_MANY_TO_HOLD: u64 = 16_777_217;
+
+/// Appends why a row is a defect, as far as the answer, the source and the row itself show it. The row is none if it was not found, or is no
+/// short text.
 pub fn push_reason(
     alloc: Global,
     told: &mut String,
     program: &Program,
     source: &Source,
-    line: &str,
+    why: Why,
     row: Option<&str>,
 ) -> Result<(), AllocError> {
-    let Some((_, defect)) = line.trim_end().rsplit_once(": ") else {
-        return Ok(());
-    };
-    if let Some(times) = defect.strip_prefix("disordered, last ") {
-        return push_lateness(alloc, told, times);
-    }
-    match defect {
-        "unclosed" => push_line(told, "the last line of a source is: end"),
-        "after end" => push_line(told, "only blank lines may follow the line: end"),
-        "unknown tag" => push_tags(alloc, told, program, source),
-        "bad row" => match row.and_then(|row| bad_row_reason(program.version, row)) {
+    match why {
+        Why::Disordered { last, got } => push_lateness(alloc, told, last, got),
+        Why::Unclosed => push_line(told, "the last line of a source is: end"),
+        Why::AfterEnd => push_line(told, "only blank lines may follow the line: end"),
+        Why::UnknownTag => push_tags(alloc, told, program, source),
+        Why::BadRow => match row.and_then(|row| bad_row_reason(program.version, row)) {
             Some(reason) => push_line(told, reason),
             None => Ok(()),
         },
-        "too many, 16777217" => push_line(
+        Why::TooMany { count } if count == TOO_MANY_TO_HOLD => push_line(
             told,
             "at most 16777216 events and heartbeats fit into memory; flumina run reads in rounds and has no such limit",
         ),
-        _ => Ok(()),
+        Why::TooMany { .. } => Ok(()),
     }
 }
 
-// Appends how late a row is, and the slack with which it would not be, from times such as `7, got 5`.
-fn push_lateness(alloc: Global, told: &mut String, times: &str) -> Result<(), AllocError> {
-    let Some((last, got)) = times.split_once(", got ") else {
-        return Ok(());
-    };
-    let (Ok(last), Ok(got)) = (last.parse::<u64>(), got.parse::<u64>()) else {
-        return Ok(());
-    };
+// Appends how late a row is after the greatest time so far, and the slack with which it would not be.
+fn push_lateness(alloc: Global, told: &mut String, last: u64, got: u64) -> Result<(), AllocError> {
     let late = last.saturating_sub(got);
     if late == 0 {
         return push_line(

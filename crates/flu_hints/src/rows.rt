@@ -1,9 +1,10 @@
 //! The row of a source's defect, and the forms that rows have.
 
-use crate::hints::{program_of, text_of};
+use crate::hints::text_of;
 use crate::places::{push_line, short_text};
 use crate::row_reasons::push_reason;
 use flu_model::{Program, Source};
+use flu_streams::SourceFault;
 use std::alloc::AllocError;
 use std::rt;
 
@@ -16,46 +17,21 @@ const FORMS_WITH_ITEMS: &str =
     "  an event of a kind with items is TIME,TAG,ITEM,VALUE or TIME,TAG,ITEM
 ";
 
-/// The text of the row that the line of an answer names, in the file of its source, why it is a defect, and the forms that rows have.
+/// The text of the row that is a defect of a source of this job, in the source's file, why it is one, and the forms that rows have.
 pub fn row_hint<R: rt::Files + AllocGlobal>(
     rt: &R,
-    job: Option<&String>,
-    line: &str,
+    program: &Program,
+    fault: SourceFault,
 ) -> Result<String, AllocError> {
     let mut told = String::new(rt.alloc());
-    let program = match job {
-        Some(job) => program_of(rt, job.as_str()),
-        None => None,
-    };
-    if let (Some(program), Some((source, row))) = (&program, row_of(line)) {
-        if let Some(source) = source_of(program, source) {
-            push_row(rt, &mut told, program, source, row, line)?;
-        }
+    if let Some(source) = program.sources.items().get(fault.source as usize) {
+        push_row(rt, &mut told, program, source, fault)?;
     }
     told.push_str(FORMS)?;
-    if program.is_some_and(|program| has_items(&program)) {
+    if has_items(program) {
         told.push_str(FORMS_WITH_ITEMS)?;
     }
     Ok(told)
-}
-
-// The source and the row from 1 of an answer's line, such as `flumina: source north row 4: unclosed`.
-fn row_of(line: &str) -> Option<(&str, u64)> {
-    let behind = line.strip_prefix("flumina: source ")?;
-    let (source, behind) = behind.split_once(" row ")?;
-    let (row, _) = behind.split_once(": ")?;
-    let row = row.parse::<u64>().ok()?;
-    Some((source, row))
-}
-
-// The source of a job that has a name.
-fn source_of<'p>(program: &'p Program, wanted: &str) -> Option<&'p Source> {
-    for source in program.sources.items() {
-        if source.name.as_str() == wanted {
-            return Some(source);
-        }
-    }
-    None
 }
 
 // Whether a kind of the job has items.
@@ -69,10 +45,10 @@ fn push_row<R: rt::Files + AllocGlobal>(
     told: &mut String,
     program: &Program,
     source: &Source,
-    row: u64,
-    line: &str,
+    fault: SourceFault,
 ) -> Result<(), AllocError> {
     let file = source.file.as_str();
+    let row = fault.row;
     let head = format!(in rt.alloc(); "{file}, line {row}")?;
     push_line(told, head.as_str())?;
     let bytes = text_of(rt, file);
@@ -83,7 +59,7 @@ fn push_row<R: rt::Files + AllocGlobal>(
     if let Some(shown) = shown {
         push_line(told, shown)?;
     }
-    push_reason(rt.alloc(), told, program, source, line, shown)
+    push_reason(rt.alloc(), told, program, source, fault.why, shown)
 }
 
 // The row with this number from 1, if it is a short text and not empty.

@@ -1,40 +1,114 @@
-//! What a person may want to know of the text of a job or a plan, beside the place of its fault.
+//! The fault of a text, of a job or of a plan: where it is, and what a person may want to know beside that.
 
-use crate::limits::spelled;
-use crate::places::{line_begin, place_of, push_line};
-use flu_text::{Reserved, Token, Word, tokens};
+use crate::limits::{limit_place, spelled};
+use crate::places::{line_begin, push_line, push_place};
+use flu_model::What;
+use flu_parse::JobFault;
+use flu_plan::PlanFault;
+use flu_text::{Reserved, Word, tokens};
 use std::alloc::{AllocError, Global};
 use std::str;
 
-/// Appends what helps with the fault that the line of an answer names in the bytes of a text.
-pub fn push_advice(
+/// What a text ought to be.
+#[derive(Clone, Copy, PartialEq, Eq)]
+enum Language {
+    Job,
+    Plan,
+}
+
+/// What is wrong with a text, as far as hints tell faults apart. Places are bytes from 0.
+#[derive(Clone, Copy)]
+enum Fault {
+    /// The word here can't follow.
+    Unexpected(usize),
+    /// The name here was declared before.
+    TwiceNamed(usize),
+    /// Something else is wrong here.
+    At(usize),
+    /// There is more of this than the language allows: the first count above the limit, or the number itself.
+    OverLimit(What, u64),
+    /// What is wrong has no place.
+    Nowhere,
+}
+
+/// The place of a fault in the text under a job's name, and what helps there.
+pub fn job_fault_hint(
+    alloc: Global,
+    name: &str,
+    fault: &JobFault,
+    text: &[u8],
+) -> Result<String, AllocError> {
+    let fault = match fault {
+        JobFault::Unexpected { at } => Fault::Unexpected(*at),
+        JobFault::TwiceNamed { at } => Fault::TwiceNamed(*at),
+        JobFault::BadUtf8 { at }
+        | JobFault::BadToken { at }
+        | JobFault::UnknownName { at }
+        | JobFault::WrongShape { at } => Fault::At(*at),
+        JobFault::OverLimit { what, count } => Fault::OverLimit(*what, *count),
+        JobFault::NoMemory => Fault::Nowhere,
+    };
+    fault_hint(alloc, Language::Job, name, fault, text)
+}
+
+/// The place of a fault in the text under a plan's name, and what helps there.
+pub fn plan_fault_hint(
+    alloc: Global,
+    name: &str,
+    fault: &PlanFault,
+    text: &[u8],
+) -> Result<String, AllocError> {
+    let fault = match fault {
+        PlanFault::Unexpected { at } => Fault::Unexpected(*at),
+        PlanFault::BadToken { at } | PlanFault::UnknownName { at } => Fault::At(*at),
+        PlanFault::OverLimit { what, count } => Fault::OverLimit(*what, *count),
+        PlanFault::NotATree { .. } | PlanFault::NoMemory => Fault::Nowhere,
+    };
+    fault_hint(alloc, Language::Plan, name, fault, text)
+}
+
+fn fault_hint(
+    alloc: Global,
+    language: Language,
+    name: &str,
+    fault: Fault,
+    text: &[u8],
+) -> Result<String, AllocError> {
+    let mut told = String::new(alloc);
+    let place = match fault {
+        Fault::Unexpected(at) | Fault::TwiceNamed(at) | Fault::At(at) => Some(at),
+        Fault::OverLimit(what, count) => limit_place(alloc, what, count, text),
+        Fault::Nowhere => None,
+    };
+    if let Some(at) = place {
+        push_place(alloc, &mut told, name, text, at)?;
+    }
+    if let Some(advice) = encoding_advice(text) {
+        push_line(&mut told, advice)?;
+    } else {
+        push_advice(alloc, &mut told, language, fault, text)?;
+    }
+    Ok(told)
+}
+
+// Appends what helps with a fault of a text that is encoded as it should be.
+fn push_advice(
     alloc: Global,
     told: &mut String,
-    line: &str,
-    bytes: &[u8],
+    language: Language,
+    fault: Fault,
+    text: &[u8],
 ) -> Result<(), AllocError> {
-    if let Some(advice) = encoding_advice(bytes).or_else(|| limit_advice(line)) {
-        return push_line(told, advice);
-    }
-    let Some(at) = place_of(line) else {
-        return Ok(());
+    let advice = match fault {
+        Fault::Unexpected(at) => word_advice(alloc, language, text, at),
+        Fault::OverLimit(what, _) => limit_advice(what),
+        Fault::TwiceNamed(at) => return push_first_name(alloc, told, text, at),
+        Fault::At(_) | Fault::Nowhere => None,
     };
-    let Ok(text) = str::from_utf8(bytes) else {
-        return Ok(());
-    };
-    let Ok(found) = tokens(alloc, text) else {
-        return Ok(());
-    };
-    let found = found.as_slice();
-    if line.contains(": twice named at ") {
-        return push_first_name(alloc, told, text, found, at);
+    match advice {
+        Some(advice) => push_line(told, advice),
+        None => Ok(()),
     }
-    if line.contains(": unexpected at ") {
-        if let Some(advice) = word_advice(line, found, at) {
-            return push_line(told, advice);
-        }
-    }
-    Ok(())
 }
 
 // What the first bytes of a text show of how it is encoded, if it is not UTF-8 without a byte order mark.
@@ -49,22 +123,20 @@ fn encoding_advice(bytes: &[u8]) -> Option<&'static str> {
 }
 
 // What a limit counts, where its name alone may not say so.
-fn limit_advice(line: &str) -> Option<&'static str> {
-    let (_, limit) = line.split_once(": over limit ")?;
-    let (what, _) = limit.split_once(' ')?;
+fn limit_advice(what: What) -> Option<&'static str> {
     match what {
-        "itags" => Some(
+        What::Itags => Some(
             "each tag of each source counts, with each of its keys: at most 256; a kind with items (version 3) counts once for each source",
         ),
-        "bytes" => Some("a text has at most 1048576 bytes"),
-        "nesting" => Some("at most 64 parentheses and operators may be open at once"),
-        "actions" => Some("a kind has at most 32 actions"),
-        "height" => Some("an expression is at most 32 operators deep"),
-        "slack" => Some("a slack is at most 60000, in the unit of the times"),
-        "key" => Some("a key is at most 65535"),
-        "families" | "kinds" | "sources" => Some("at most 64 of these may be declared"),
-        "depends" => Some("at most 4096 dependencies may be declared"),
-        _ => None,
+        What::Bytes => Some("a text has at most 1048576 bytes"),
+        What::Nesting => Some("at most 64 parentheses and operators may be open at once"),
+        What::Actions => Some("a kind has at most 32 actions"),
+        What::Height => Some("an expression is at most 32 operators deep"),
+        What::Slack => Some("a slack is at most 60000, in the unit of the times"),
+        What::Key => Some("a key is at most 65535"),
+        What::Families | What::Kinds | What::Sources => Some("at most 64 of these may be declared"),
+        What::Depends => Some("at most 4096 dependencies may be declared"),
+        What::Rate | What::Nodes | What::Predicates | What::Depth => None,
     }
 }
 
@@ -72,10 +144,15 @@ fn limit_advice(line: &str) -> Option<&'static str> {
 fn push_first_name(
     alloc: Global,
     told: &mut String,
-    text: &str,
-    found: &[Token],
+    text: &[u8],
     at: usize,
 ) -> Result<(), AllocError> {
+    let Ok(text) = str::from_utf8(text) else {
+        return Ok(());
+    };
+    let Ok(found) = tokens(alloc, text) else {
+        return Ok(());
+    };
     let Some(name) = found.iter().find(|token| token.from == at) else {
         return Ok(());
     };
@@ -83,7 +160,7 @@ fn push_first_name(
         return Ok(());
     };
     let mut is_declared = false;
-    for token in found {
+    for token in found.as_slice() {
         if is_declared && spelled(text, token) == Some(wanted) {
             let (number, _) = line_begin(text.as_bytes(), token.from);
             let advice = format!(in alloc;
@@ -97,10 +174,12 @@ fn push_first_name(
 }
 
 // What the word at a place is, where no such word can be.
-fn word_advice(line: &str, found: &[Token], at: usize) -> Option<&'static str> {
-    let is_plan = line.starts_with("flumina: plan: ");
+fn word_advice(alloc: Global, language: Language, text: &[u8], at: usize) -> Option<&'static str> {
+    let text = str::from_utf8(text).ok()?;
+    let found = tokens(alloc, text).ok()?;
+    let is_plan = language == Language::Plan;
     let mut before = None;
-    for token in found {
+    for token in found.as_slice() {
         if token.from == at {
             return match (before, token.word) {
                 (None, Word::Reserved(Reserved::Node)) if !is_plan => {

@@ -1,5 +1,6 @@
 //! What stops the replay of a trace.
 
+use flu_trace::ReplayFault;
 use std::alloc::{AllocError, Global};
 
 /// What a line of a trace may be, if it is none.
@@ -20,16 +21,16 @@ const STOPS_EARLY: &str = "  the lines end there, but the run is not finished
 const WRITES: &str = "  to write a complete trace: flumina simulate JOB PLAN SEED --trace
 ";
 
-/// What stops the replay at the line that the line of an answer names, and what writes a complete trace.
-pub fn trace_hint(alloc: Global, line: &str) -> Result<String, AllocError> {
+/// What stops the replay of a trace, and what writes a complete one.
+pub fn trace_hint(alloc: Global, fault: ReplayFault) -> Result<String, AllocError> {
     let mut told = String::new(alloc);
-    told.push_str(if line.ends_with(": bad line\n") {
-        FORMS
-    } else if line.ends_with(": not enabled\n") {
-        STOPS
-    } else {
-        STOPS_EARLY
-    })?;
+    let stops = match fault {
+        ReplayFault::Bad { .. } => FORMS,
+        ReplayFault::NotEnabled { .. } => STOPS,
+        ReplayFault::Incomplete { .. } => STOPS_EARLY,
+        ReplayFault::ReadFault | ReplayFault::NoMemory => return Ok(told),
+    };
+    told.push_str(stops)?;
     told.push_str(WRITES)?;
     Ok(told)
 }

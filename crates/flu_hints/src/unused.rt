@@ -1,6 +1,5 @@
 //! What a job declares and does not use, and what it names and is not there.
 
-use crate::hints::program_of;
 use crate::places::push_line;
 use flu_model::{Act, Action, Expr, Kind, Piece, Program};
 use std::alloc::AllocError;
@@ -10,19 +9,13 @@ use std::{fs, rt};
 /// are never read, and files of its sources that are not there. Empty if there is nothing of the kind.
 pub fn job_hint<R: rt::Files + AllocGlobal>(
     rt: &R,
-    name: Option<&String>,
+    program: &Program,
 ) -> Result<String, AllocError> {
     let mut told = String::new(rt.alloc());
-    let program = match name {
-        Some(name) => program_of(rt, name.as_str()),
-        None => None,
-    };
-    if let Some(program) = program {
-        push_emptiness(&mut told, &program)?;
-        push_unlisted(rt, &mut told, &program)?;
-        push_unread(rt, &mut told, &program)?;
-        push_absent(rt, &mut told, &program)?;
-    }
+    push_emptiness(&mut told, program)?;
+    push_unlisted(rt, &mut told, program)?;
+    push_unread(rt, &mut told, program)?;
+    push_absent(rt, &mut told, program)?;
     Ok(told)
 }
 

@@ -1,6 +1,7 @@
 //! The word of a call that does not fit, and why.
 
-use crate::places::{place_of, push_line};
+use crate::places::push_line;
+use flu_words::BadWords;
 use std::alloc::{AllocError, Global};
 
 /// The commands, if the words are no command.
@@ -23,17 +24,16 @@ const NO_NAME: &str =
 const MISPLACED: &str =
     "this option is not possible here: each stands at most once, in the order shown below";
 
-/// The word that the line of an answer such as `flumina: bad words at 1` names, why it does not fit, and the commands.
-pub fn words_hint(alloc: Global, words: &[String], line: &str) -> Result<String, AllocError> {
+/// The word that does not fit, why it does not, and the commands.
+pub fn words_hint(alloc: Global, words: &[String], bad: BadWords) -> Result<String, AllocError> {
     let mut told = String::new(alloc);
-    if let Some(at) = place_of(line) {
-        let reason = reason_of(words, at);
-        let shown = match words.get(at) {
-            Some(word) => format!(in alloc; "word {at}, {word}: {reason}")?,
-            None => format!(in alloc; "after the last word: {reason}")?,
-        };
-        push_line(&mut told, shown.as_str())?;
-    }
+    let at = bad.at;
+    let reason = reason_of(words, at);
+    let shown = match words.get(at) {
+        Some(word) => format!(in alloc; "word {at}, {word}: {reason}")?,
+        None => format!(in alloc; "after the last word: {reason}")?,
+    };
+    push_line(&mut told, shown.as_str())?;
     told.push_str(USAGE)?;
     Ok(told)
 }
@@ -83,7 +83,8 @@ fn names_of(command: &str) -> usize {
     }
 }
 
-fn word_at(words: &[String], at: usize) -> &str {
+/// The word at a place, or an empty one.
+pub fn word_at(words: &[String], at: usize) -> &str {
     match words.get(at) {
         Some(word) => word.as_str(),
         None => "",

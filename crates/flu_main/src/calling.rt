@@ -6,10 +6,11 @@ use crate::progress::{Progress, Shown};
 use crate::watched::{WatchedFiles, WatchedWriter};
 use crate::words::{call_of, files_of, words_of};
 use flu_adapt::{FileFailure, HostFiles, HostSink, Standard, StandardStream};
-use flu_hints::{Failure, Report, bytes_to_read, report_hint};
+use flu_hints::{Failure, Report, bytes_to_read, hint};
+use flu_lines::{Refusal, Said, Status, status_after};
 use flu_outside::{Files, MemSink, Sink};
 use flu_seq::OpenGate;
-use flu_top::flumina;
+use flu_top::answer_words;
 use std::alloc::AllocError;
 use std::env::Env;
 use std::io::{IsTerminal, Write};
@@ -17,16 +18,7 @@ use std::process::ExitCode;
 use std::sync::Wait;
 use std::thread::Threads;
 use std::time::Clock;
-use std::{io, rt, str};
-
-/// The status if a file failed, as the proved call has it.
-const READ_FAULT: u8 = 7;
-
-/// The status if a checkpoint was not put, as the proved call has it.
-const SAVE_FAULT: u8 = 12;
-
-/// The status if there is no memory for the words.
-const NO_MEMORY: u8 = 9;
+use std::{io, rt};
 
 /// More than the length of the longest line of an answer and the text of a plan that follows the counts: at most 256 itags of at most 81
 /// bytes, in at most 15 nodes.
@@ -51,7 +43,7 @@ pub fn answer_call<
     E: Write + IsTerminal + Drop,
 >(rt: &R, out: O, err: E, process: u32) -> ExitCode {
     let Some(words) = words_of(rt) else {
-        return ExitCode::from(NO_MEMORY);
+        return ExitCode::from(Status::NoMemory.code());
     };
     let asked = take_asking_words(words.as_slice());
     let command = asked.command;
@@ -64,12 +56,12 @@ pub fn answer_call<
     let files = HostFiles::of_program(rt, call_of(rt.alloc(), command, process));
     let out = StandardStream::new(rt, Standard::Output, out);
     let err = StandardStream::new(rt, Standard::Error, err);
-    let status = if hints.are_wanted || shown.live || shown.closing {
+    let ended = if hints.are_wanted || shown.live || shown.closing {
         answer_watched(rt, command, files, out, err, hints, shown)
     } else {
         answer_plainly(rt, command, files, out, err)
     };
-    ExitCode::from(status)
+    ExitCode::from(status_after(&ended).code())
 }
 
 // What is shown of the reading: nothing for a command that does not read sources.
@@ -106,7 +98,7 @@ fn answer_plainly<
     R: rt::Files + Clock + AllocGlobal + Threads + Wait + Sync,
     O: Write + Drop,
     E: Write + Drop,
->(rt: &R, words: &[String], files: HostFiles<&R>, out: O, err: E) -> u8 {
+>(rt: &R, words: &[String], files: HostFiles<&R>, out: O, err: E) -> Result<Option<Said>, Refusal> {
     let watch: Option<&Progress<'_, R, E>> = None;
     let mut files = WatchedFiles::new(files, watch);
     let mut out = HostSink::new(WatchedWriter::new(out, watch));
@@ -127,68 +119,58 @@ fn answer_watched<
     err: E,
     hints: Hints,
     shown: Shown,
-) -> u8 {
+) -> Result<Option<Said>, Refusal> {
     let Ok(mut line) = MemSink::with_room(rt.alloc(), LINE_ROOM) else {
         return answer_plainly(rt, words, files, out, err);
     };
     let progress = Progress::new(rt, rt.alloc(), err, shown);
     let mut files = WatchedFiles::new(files, Some(&progress));
     let mut out = HostSink::new(WatchedWriter::new(out, Some(&progress)));
-    let status = answer(rt, words, &mut files, &mut out, &mut line);
+    let ended = answer(rt, words, &mut files, &mut out, &mut line);
     progress.end();
     progress.say(line.bytes());
     if hints.are_wanted {
-        let failure = failure_of(status, files.files().last_failure(), out.last_failure());
+        let failure = failure_of(&ended, files.files().last_failure(), out.last_failure());
         let report = Report {
             is_empty: !progress.has_report(),
             is_asked: hints.are_asked,
         };
-        if let Ok(hint) = hint_of::<R, E>(rt, words, status, line.bytes(), failure, report) {
+        if let Ok(hint) = hint_of::<R, E>(rt, words, &ended, failure, report) {
             progress.say(hint.as_str().as_bytes());
         }
     }
     progress.close();
-    status
+    ended
 }
 
-// The hint after a line, and what a report does not show, unless the line is the text of a plan, which may be kept as it is.
+// What a person may want to know of an answer, with files of its own to read sources from again.
 fn hint_of<R: rt::Files + Clock + AllocGlobal, E: Write + Drop>(
     rt: &R,
     words: &[String],
-    status: u8,
-    line: &[u8],
+    ended: &Result<Option<Said>, Refusal>,
     failure: Option<Failure>,
     report: Report,
 ) -> Result<String, AllocError> {
-    let Ok(text) = str::from_utf8(line) else {
-        return Ok(String::new(rt.alloc()));
-    };
-    if status == 0 && text.is_empty() {
-        let watch: Option<&Progress<'_, R, E>> = None;
-        let mut files = WatchedFiles::new(HostFiles::new(rt), watch);
-        let told = report_hint(rt, &mut files, words, report)?;
-        if !told.is_empty() {
-            return Ok(told);
-        }
-    }
-    flu_hints::hint(rt, words, status, text, failure)
+    let watch: Option<&Progress<'_, R, E>> = None;
+    let mut files = WatchedFiles::new(HostFiles::new(rt), watch);
+    hint(rt, &mut files, words, ended, failure, report)
 }
 
-// What failed, if the status says that a file or standard output did.
-fn failure_of(
-    status: u8,
-    file: Option<&FileFailure>,
+// What failed, if the answer is that a file or standard output did.
+fn failure_of<'f>(
+    ended: &Result<Option<Said>, Refusal>,
+    file: Option<&'f FileFailure>,
     out: Option<io::Error>,
-) -> Option<Failure<'_>> {
-    match status {
-        READ_FAULT | SAVE_FAULT => {
+) -> Option<Failure<'f>> {
+    match status_after(ended) {
+        Status::ReadFault | Status::PutFault => {
             let failure = file?;
             Some(Failure {
                 name: failure.name.as_str(),
                 error: failure.error,
             })
         }
-        help::WRITE_FAULT => {
+        Status::WriteFault => {
             let error = out?;
             Some(Failure {
                 name: "standard output",
@@ -205,9 +187,15 @@ pub(crate) fn answer<
     F: Files,
     O: Sink,
     E: Sink,
->(rt: &R, words: &[String], files: &mut F, out: &mut O, err: &mut E) -> u8 {
+>(
+    rt: &R,
+    words: &[String],
+    files: &mut F,
+    out: &mut O,
+    err: &mut E,
+) -> Result<Option<Said>, Refusal> {
     if let Some(text) = help::told(words) {
         return help::tell(text, out, err);
     }
-    flumina(rt, rt.alloc(), words, files, out, err, &OpenGate)
+    answer_words(rt, rt.alloc(), words, files, out, err, &OpenGate)
 }

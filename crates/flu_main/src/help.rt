@@ -1,9 +1,7 @@
 //! What the program says about itself, outside the proved call.
 
+use flu_lines::{Refusal, Said, say};
 use flu_outside::{Failed, Sink, write_all};
-
-/// The status if standard output failed, as the proved call has it.
-pub const WRITE_FAULT: u8 = 8;
 
 /// The answer to `--help`.
 pub const HELP: &str =
@@ -74,13 +72,17 @@ fn is_command(word: &str) -> bool {
     )
 }
 
-/// Writes the text to out, and answers the status. If that fails, the line of a write fault goes to err.
-pub fn tell<O: Sink, E: Sink>(text: &str, out: &mut O, err: &mut E) -> u8 {
+/// Writes the text to out. If that fails, the answer is a write fault, and its line goes to err, as the proved call has it.
+pub fn tell<O: Sink, E: Sink>(
+    text: &str,
+    out: &mut O,
+    err: &mut E,
+) -> Result<Option<Said>, Refusal> {
     match write_all(out, text.as_bytes()) {
-        Ok(()) => 0,
+        Ok(()) => Ok(None),
         Err(Failed) => {
-            let _ = write_all(err, b"flumina: write fault\n");
-            WRITE_FAULT
+            say(err, &Refusal::WriteFault);
+            Err(Refusal::WriteFault)
         }
     }
 }

@@ -4,6 +4,7 @@ mod stopped;
 use crate::calling::answer;
 use crate::help;
 use flu_adapt::{HostFiles, HostSink};
+use flu_lines::status_after;
 use std::io::Write;
 use std::sync::Wait;
 use std::test::Fail;
@@ -16,13 +17,14 @@ pub(crate) fn run<
     O: Write + Drop,
     E: Write + Drop,
 >(rt: &R, words: &[String], out: O, err: E) -> u8 {
-    answer(
+    let ended = answer(
         rt,
         words,
         &mut HostFiles::new(rt),
         &mut HostSink::new(out),
         &mut HostSink::new(err),
-    )
+    );
+    status_after(&ended).code()
 }
 
 const COUNTS: &str = "cell count sum\n\

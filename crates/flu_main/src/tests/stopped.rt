@@ -1,7 +1,7 @@
 //! Runs over real files that are stopped after a round, and resume from their checkpoints.
 
-use crate::help;
 use crate::tests::run;
+use flu_lines::Status;
 use std::alloc::{AllocError, Global};
 use std::process::Abort;
 use std::sync::Wait;
@@ -106,7 +106,7 @@ fn check_stop<R: rt::Files + AllocGlobal + Threads + Wait + Sync + Abort>(
     let alloc = rt.alloc();
     let room = lines_to(alloc, whole, border)?.len().saturating_add(CUT);
     let (status, first) = call(rt, folder, "run @job --save @save", room)?;
-    assert_eq!(rt; status, help::WRITE_FAULT, "behind {border}");
+    assert_eq!(rt; status, Status::WriteFault.code(), "behind {border}");
     assert_eq!(rt; first.len(), room, "behind {border}");
     assert_eq!(rt; border_in(rt, folder)?, border);
     let mut report = lines_to(alloc, &first, border)?;
