@@ -18,7 +18,11 @@ fn texts_say_the_seconds_that_date_gives(rt: HostRuntime) -> Result<(), Fail> {
         ("9999-12-31T23:59:59.999999999", 253_402_300_799),
     ];
     for (text, seconds) in cases {
-        assert_eq!(rt; read_time(Unit::Seconds, text.as_bytes()), Some(seconds), "{text}");
+        assert_eq!(rt;
+            read_time(Unit::Seconds, text.as_bytes()),
+            Some(seconds),
+            "{text}"
+        );
     }
     Ok(())
 }
@@ -34,8 +38,16 @@ fn fractions_are_cut_to_the_unit(rt: HostRuntime) -> Result<(), Fail> {
         ("1970-01-01T00:00:01.123456789", 1_123, 1_123_456),
     ];
     for (text, milliseconds, microseconds) in cases {
-        assert_eq!(rt; read_time(Unit::Milliseconds, text.as_bytes()), Some(milliseconds), "{text}");
-        assert_eq!(rt; read_time(Unit::Microseconds, text.as_bytes()), Some(microseconds), "{text}");
+        assert_eq!(rt;
+            read_time(Unit::Milliseconds, text.as_bytes()),
+            Some(milliseconds),
+            "{text}"
+        );
+        assert_eq!(rt;
+            read_time(Unit::Microseconds, text.as_bytes()),
+            Some(microseconds),
+            "{text}"
+        );
     }
     Ok(())
 }
@@ -78,9 +90,21 @@ fn times_are_printed_as_date_prints_them(rt: HostRuntime) -> Result<(), Fail> {
         (Unit::Seconds, 1_735_648_496, "at 2024-12-31T12:34:56Z"),
         (Unit::Seconds, 4_107_542_400, "at 2100-03-01T00:00:00Z"),
         (Unit::Seconds, 253_402_300_799, "at 9999-12-31T23:59:59Z"),
-        (Unit::Milliseconds, 68_255_999_007, "at 1972-02-29T23:59:59.007Z"),
-        (Unit::Microseconds, 68_255_999_000_070, "at 1972-02-29T23:59:59.000070Z"),
-        (Unit::Microseconds, 253_402_300_799_999_999, "at 9999-12-31T23:59:59.999999Z"),
+        (
+            Unit::Milliseconds,
+            68_255_999_007,
+            "at 1972-02-29T23:59:59.007Z",
+        ),
+        (
+            Unit::Microseconds,
+            68_255_999_000_070,
+            "at 1972-02-29T23:59:59.000070Z",
+        ),
+        (
+            Unit::Microseconds,
+            253_402_300_799_999_999,
+            "at 9999-12-31T23:59:59.999999Z",
+        ),
     ];
     for (unit, time, printed) in cases {
         let mut text = String::new(rt.alloc());

@@ -109,7 +109,9 @@ fn order_of(alloc: Global, places: &str) -> Result<String, Fail> {
                     None => (itag, "1"),
                     Some((itag, events)) => (itag, events),
                 };
-                format!(in alloc; "{{\"cells\":[],\"events\":{events},\"outs\":[],\"time\":{time},\"itag\":{itag}}}")?
+                format!(in alloc;
+                    "{{\"cells\":[],\"events\":{events},\"outs\":[],\"time\":{time},\"itag\":{itag}}}"
+                )?
             }
         };
         let contribution = read_contribution(alloc, text.as_bytes())?;
