@@ -284,15 +284,18 @@ def go_on(page, folder):
 
 
 def how_far(page, folder):
-    need(re.fullmatch(r"read \d+\.\d of \d+\.\d MB, \d+ %, \d+\.\d MB/s\n", page.block("read ")), "the line that a terminal shows")
+    rows = r"(?:\d+|\d+\.\d M) rows, (?:\d+|\d+\.\d M) rows/s"
+    need(re.fullmatch(rf"read \d+\.\d of \d+\.\d MB, \d+ %, {rows}, report to \d+\n", page.block("read ")), "the line that a terminal shows")
     report = folder.quiet("flumina fold rides.job")
     out, err = folder.call(page.code("flumina --progress fold rides.job 2> log"))
     same(out + err, report, "a line on what was read leaves the report as it is")
-    form, shown = r"  read (\d+) bytes in \d+\.\d s, \d+\.\d MB/s\n", page.block("  read ")
+    form, shown = r"  read (\d+) bytes, (\d+) rows in \d+\.\d s, \d+\.\d MB/s, \d+ rows/s\n", page.block("  read ")
     found = re.fullmatch(form, folder.read("log"))
     need(found and re.fullmatch(form, shown), f"the closing line, {folder.read('log')}")
     read = sum(len(folder.read(name)) for name in ("rides.job", "north.csv", "south.csv", "days.csv"))
+    lines = sum(folder.read(name).count("\n") for name in ("north.csv", "south.csv", "days.csv"))
     need(found[1] == re.fullmatch(form, shown)[1] == str(read), f"{read} bytes were read: {folder.read('log')}")
+    need(found[2] == re.fullmatch(form, shown)[2] == str(lines), f"{lines} rows were read: {folder.read('log')}")
     same(folder.quiet(page.code("flumina --no-progress fold rides.job")), report, "the same without it")
 
 

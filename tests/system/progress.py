@@ -14,9 +14,10 @@ import time
 
 from system import Folder, need, program, shown_at
 
-LIVE = r"read \d+\.\d MB, \d+\.\d MB/s"
-KNOWN = r"read \d+\.\d of \d+\.\d MB, \d+ %, \d+\.\d MB/s"
-CLOSING = r"  read (\d+) bytes in \d+\.\d s, \d+\.\d MB/s\n"
+ROWS = r"(?:\d+|\d+\.\d M) rows, (?:\d+|\d+\.\d M) rows/s"
+LIVE = rf"read \d+\.\d MB, {ROWS}"
+KNOWN = rf"read \d+\.\d of \d+\.\d MB, \d+ %, {ROWS}"
+CLOSING = r"  read (\d+) bytes, (\d+) rows in \d+\.\d s, \d+\.\d MB/s, \d+ rows/s\n"
 PLAN = "node n0: view, tick\n"
 
 program()
@@ -25,6 +26,7 @@ folder.write("plan", PLAN)
 REPORT = folder.call("fold", "job")[1]
 need(REPORT.count(b"\n") == 29, "the report")
 SIZES = {name: len(folder.read(name)) for name in ("job", "plan", "a.csv", "t.csv")}
+LINES = sum(folder.read(name).count(b"\n") for name in ("a.csv", "t.csv"))
 
 
 def left_on_the_screen(shown):
@@ -78,6 +80,7 @@ for words, read in {
         closing = re.fullmatch(CLOSING, err.decode())
         need((status, out) == (0, REPORT) and closing, f"{asking} {words}: {status}, {err}")
         need(int(closing[1]) == sum(SIZES[name] for name in read), f"{words}: the bytes that were read: {err}")
+        need(int(closing[2]) == LINES, f"{words}: the rows that were read: {err}")
 
 # The closing line comes after the line of an answer and after its hint, and changes no status.
 steps = folder.call("simulate", "job", "plan", "1")
@@ -107,6 +110,14 @@ for words in (["fold", "slow.job"], ["run", "slow.job"], ["simulate", "slow.job"
     need(slowly("--no-progress", "--no-hints", *words) == (0, REPORT, wanted), f"--no-progress {words}")
 status, out, shown = slowly("--no-hints", "--progress", "fold", "slow.job")
 need((status, out) == (0, REPORT) and re.search(LIVE, shown) and re.fullmatch(CLOSING, left_on_the_screen(shown)), f"both lines: {shown!r}")
+
+# The rows are those of the sources alone, and the report is written up to the time of its last line.
+status, out, shown = slowly("--no-hints", "run", "slow.job", "--round", "4")
+counts = [int(rows) for rows in re.findall(r"MB, (\d+) rows, ", shown)]
+need((status, out) == (0, REPORT) and counts == sorted(counts) and 0 < counts[-1] <= LINES, f"rows: {shown!r}")
+times = [int(time) for time in re.findall(r", report to (\d+)", shown)]
+wanted = [int(line.split(b",")[0]) for line in REPORT.splitlines()]
+need(times and times == sorted(times) and set(times) <= set(wanted), f"report to: {shown!r}")
 
 # The bytes that there are to read are known of regular files.
 with open(folder.path("big.csv"), "w") as rows:

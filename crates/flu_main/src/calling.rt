@@ -65,14 +65,16 @@ pub fn answer_call<
 }
 
 // What is shown of the reading: nothing for a command that does not read sources.
-fn shown_of<R: rt::Files + AllocGlobal>(
+fn shown_of<'w, R: rt::Files + AllocGlobal>(
     rt: &R,
-    asked: Asked<'_>,
+    asked: Asked<'w>,
     is_out_seen: bool,
     is_err_seen: bool,
-) -> Shown {
+) -> Shown<'w> {
     let Some((job, plan)) = files_of(asked.command) else {
         return Shown {
+            job: "",
+            plan: None,
             live: false,
             until_report: false,
             closing: false,
@@ -81,6 +83,8 @@ fn shown_of<R: rt::Files + AllocGlobal>(
     };
     let live = is_err_seen && asked.progress.unwrap_or(true);
     Shown {
+        job,
+        plan,
         live,
         until_report: is_out_seen,
         closing: asked.progress.unwrap_or(false),
@@ -118,7 +122,7 @@ fn answer_watched<
     out: O,
     err: E,
     hints: Hints,
-    shown: Shown,
+    shown: Shown<'_>,
 ) -> Result<Option<Said>, Refusal> {
     let Ok(mut line) = MemSink::with_room(rt.alloc(), LINE_ROOM) else {
         return answer_plainly(rt, words, files, out, err);

@@ -28,7 +28,7 @@ pub const HELP: &str =
 
 Before a command, --hints lets a hint follow each line on standard error, and --no-hints none; without either there are hints if
 standard error is a terminal, or if FLUMINA_HINTS=1 is in the environment. While fold, run and simulate read, a terminal shows how
-far they are; --progress before the command adds a last line with the bytes and the seconds, and --no-progress shows neither.
+far they are; --progress before the command adds a last line with bytes, rows and seconds, and --no-progress shows neither.
 
 JOB, PLAN, TRACE and FILE are file names, SEED is a number from 0 to 2147483647, and N one from 0 to 1000000. File names, also
 those in a job, are looked up in the working directory.

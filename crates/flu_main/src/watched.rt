@@ -1,4 +1,4 @@
-//! Files and writers of which someone is told how much is read, and when the first bytes are written.
+//! Files and writers of which someone is told what is read and written.
 
 use flu_outside::{Files, PutFault, TakeFault};
 use std::io;
@@ -6,14 +6,17 @@ use std::io::Write;
 
 /// Who is told what a call reads and writes, as it does.
 pub(crate) trait Watch {
-    /// So many bytes were taken from a file.
-    fn took(&self, count: usize);
+    /// These bytes were taken from the file of this name.
+    fn took(&self, name: &str, bytes: &[u8]);
 
     /// Bytes are about to be written.
     fn writes(&self);
+
+    /// These bytes were written.
+    fn wrote(&self, bytes: &[u8]);
 }
 
-/// Files that tell how many bytes each take gave.
+/// Files that tell which bytes each take gave.
 #[derive(Drop)]
 pub(crate) struct WatchedFiles<'w, F: Files + Drop, W: Watch> {
     files: F,
@@ -43,7 +46,7 @@ impl<'w, F: Files + Drop, W: Watch> Files for WatchedFiles<'w, F, W> {
         let taken = self.files.take(name, buf);
         if let Some(watch) = self.watch {
             if let Ok(count) = taken {
-                watch.took(count);
+                watch.took(name, buf.get(..count).unwrap_or(&[]));
             }
         }
         taken
@@ -58,7 +61,7 @@ impl<'w, F: Files + Drop, W: Watch> Files for WatchedFiles<'w, F, W> {
     ghost shared_puts = { λ w. F.shared_puts w.files };
 }
 
-/// A writer that tells before each write.
+/// A writer that tells before each write, and what it wrote.
 #[derive(Drop)]
 pub(crate) struct WatchedWriter<'w, O: Write + Drop, W: Watch> {
     writer: O,
@@ -77,7 +80,13 @@ impl<'w, O: Write + Drop, W: Watch> Write for WatchedWriter<'w, O, W> {
         if let Some(watch) = self.watch {
             watch.writes();
         }
-        self.writer.write(buf)
+        let written = self.writer.write(buf);
+        if let Some(watch) = self.watch {
+            if let Ok(count) = written {
+                watch.wrote(buf.get(..count).unwrap_or(&[]));
+            }
+        }
+        written
     }
 
     fn flush(&mut self) -> io::Result<()> {
