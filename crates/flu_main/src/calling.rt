@@ -2,7 +2,7 @@
 
 use crate::asking::{Asked, environment_asks, take_asking_words};
 use crate::help;
-use crate::progress::{Progress, Shown};
+use crate::progress::{Progress, Shown, Texts};
 use crate::watched::{WatchedFiles, WatchedWriter};
 use crate::words::{call_of, files_of, words_of};
 use flu_adapt::{FileFailure, HostFiles, HostSink, Standard, StandardStream};
@@ -52,29 +52,39 @@ pub fn answer_call<
         are_wanted: asked.hints.unwrap_or(environment || err.is_terminal()),
         are_asked: asked.hints.unwrap_or(environment),
     };
+    let texts = texts_of(command);
     let shown = shown_of(rt, asked, out.is_terminal(), err.is_terminal());
     let files = HostFiles::of_program(rt, call_of(rt.alloc(), command, process));
     let out = StandardStream::new(rt, Standard::Output, out);
     let err = StandardStream::new(rt, Standard::Error, err);
     let ended = if hints.are_wanted || shown.live || shown.closing {
-        answer_watched(rt, command, files, out, err, hints, shown)
+        answer_watched(rt, command, files, out, err, hints, shown, texts)
     } else {
         answer_plainly(rt, command, files, out, err)
     };
     ExitCode::from(status_after(&ended).code())
 }
 
-// What is shown of the reading: nothing for a command that does not read sources.
-fn shown_of<'w, R: rt::Files + AllocGlobal>(
-    rt: &R,
-    asked: Asked<'w>,
-    is_out_seen: bool,
-    is_err_seen: bool,
-) -> Shown<'w> {
-    let Some((job, plan)) = files_of(asked.command) else {
-        return Shown {
+// The texts that the call reads besides sources; none for a command that does not read sources.
+fn texts_of(words: &[String]) -> Texts<'_> {
+    match files_of(words) {
+        Some((job, plan)) => Texts { job, plan },
+        None => Texts {
             job: "",
             plan: None,
+        },
+    }
+}
+
+// What is shown of the reading: nothing for a command that does not read sources.
+fn shown_of<R: rt::Files + AllocGlobal>(
+    rt: &R,
+    asked: Asked<'_>,
+    is_out_seen: bool,
+    is_err_seen: bool,
+) -> Shown {
+    let Some((job, plan)) = files_of(asked.command) else {
+        return Shown {
             live: false,
             until_report: false,
             closing: false,
@@ -83,8 +93,6 @@ fn shown_of<'w, R: rt::Files + AllocGlobal>(
     };
     let live = is_err_seen && asked.progress.unwrap_or(true);
     Shown {
-        job,
-        plan,
         live,
         until_report: is_out_seen,
         closing: asked.progress.unwrap_or(false),
@@ -103,7 +111,7 @@ fn answer_plainly<
     O: Write + Drop,
     E: Write + Drop,
 >(rt: &R, words: &[String], files: HostFiles<&R>, out: O, err: E) -> Result<Option<Said>, Refusal> {
-    let watch: Option<&Progress<'_, R, E>> = None;
+    let watch: Option<&Progress<'_, '_, R, E>> = None;
     let mut files = WatchedFiles::new(files, watch);
     let mut out = HostSink::new(WatchedWriter::new(out, watch));
     let mut err = HostSink::new(err);
@@ -122,12 +130,13 @@ fn answer_watched<
     out: O,
     err: E,
     hints: Hints,
-    shown: Shown<'_>,
+    shown: Shown,
+    texts: Texts<'_>,
 ) -> Result<Option<Said>, Refusal> {
     let Ok(mut line) = MemSink::with_room(rt.alloc(), LINE_ROOM) else {
         return answer_plainly(rt, words, files, out, err);
     };
-    let progress = Progress::new(rt, rt.alloc(), err, shown);
+    let progress = Progress::new(rt, rt.alloc(), err, shown, texts);
     let mut files = WatchedFiles::new(files, Some(&progress));
     let mut out = HostSink::new(WatchedWriter::new(out, Some(&progress)));
     let ended = answer(rt, words, &mut files, &mut out, &mut line);
@@ -155,7 +164,7 @@ fn hint_of<R: rt::Files + Clock + AllocGlobal, E: Write + Drop>(
     failure: Option<Failure>,
     report: Report,
 ) -> Result<String, AllocError> {
-    let watch: Option<&Progress<'_, R, E>> = None;
+    let watch: Option<&Progress<'_, '_, R, E>> = None;
     let mut files = WatchedFiles::new(HostFiles::new(rt), watch);
     hint(rt, &mut files, words, ended, failure, report)
 }

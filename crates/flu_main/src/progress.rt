@@ -24,12 +24,16 @@ const CLEARED: &str =
 /// From this number on a count is shown in millions.
 const MILLION: u128 = 1_000_000;
 
-/// What is shown of a call's reading.
+/// The names of a call's job and of its plan, if it reads one: all other files have rows.
 #[derive(Clone, Copy)]
-pub(crate) struct Shown<'w> {
-    /// The names of the job and of the plan, if one is read: all other files have rows.
+pub(crate) struct Texts<'w> {
     pub job: &'w str,
     pub plan: Option<&'w str>,
+}
+
+/// What is shown of a call's reading.
+#[derive(Clone, Copy)]
+pub(crate) struct Shown {
     /// Whether the line is written while the call reads.
     pub live: bool,
     /// Whether the report goes to a terminal too: the line is then not written any more once the report has begun.
@@ -42,17 +46,18 @@ pub(crate) struct Shown<'w> {
 
 /// What a call has read so far, and standard error, on which this is shown.
 #[derive(Drop)]
-pub(crate) struct Progress<'r, R: Clock, E: Write + Drop> {
+pub(crate) struct Progress<'r, 'w, R: Clock, E: Write + Drop> {
     clock: &'r R,
     alloc: Global,
-    line: RefCell<Line<'r, E>>,
+    texts: Texts<'w>,
+    line: RefCell<Line<E>>,
 }
 
 // The line, and what it is made of.
 #[derive(Drop)]
-struct Line<'w, E: Write + Drop> {
+struct Line<E: Write + Drop> {
     err: HostSink<E>,
-    shown: Shown<'w>,
+    shown: Shown,
     begun: Option<Instant>,
     // The milliseconds from the beginning at which the line is due.
     due: u128,
@@ -65,12 +70,19 @@ struct Line<'w, E: Write + Drop> {
     reported: Option<u64>,
 }
 
-impl<'r, R: Clock, E: Write + Drop> Progress<'r, R, E> {
+impl<'r, 'w, R: Clock, E: Write + Drop> Progress<'r, 'w, R, E> {
     /// Nothing was read, and nothing is written on standard error.
-    pub fn new(clock: &'r R, alloc: Global, err: E, shown: Shown<'r>) -> Progress<'r, R, E> {
+    pub fn new(
+        clock: &'r R,
+        alloc: Global,
+        err: E,
+        shown: Shown,
+        texts: Texts<'w>,
+    ) -> Progress<'r, 'w, R, E> {
         Progress {
             clock,
             alloc,
+            texts,
             line: RefCell::new(Line {
                 err: HostSink::new(err),
                 shown,
@@ -121,11 +133,11 @@ impl<'r, R: Clock, E: Write + Drop> Progress<'r, R, E> {
     }
 }
 
-impl<'r, R: Clock, E: Write + Drop> Watch for Progress<'r, R, E> {
+impl<'r, 'w, R: Clock, E: Write + Drop> Watch for Progress<'r, 'w, R, E> {
     fn took(&self, name: &str, bytes: &[u8]) {
         if let Ok(mut line) = self.line.try_borrow_mut() {
             line.taken = line.taken.saturating_add(bytes.len() as u64);
-            if (line.shown.live || line.shown.closing) && line.shown.has_rows(name) {
+            if (line.shown.live || line.shown.closing) && self.texts.are_not(name) {
                 line.rows = line.rows.saturating_add(row_count(bytes));
             }
             if line.shown.live {
@@ -153,14 +165,14 @@ impl<'r, R: Clock, E: Write + Drop> Watch for Progress<'r, R, E> {
     }
 }
 
-impl<'w> Shown<'w> {
-    // Whether the file of this name has rows: it is neither the job nor the plan.
-    fn has_rows(&self, name: &str) -> bool {
+impl<'w> Texts<'w> {
+    // Whether the file of this name is neither the job nor the plan.
+    fn are_not(&self, name: &str) -> bool {
         name != self.job && self.plan != Some(name)
     }
 }
 
-impl<'w, E: Write + Drop> Line<'w, E> {
+impl<E: Write + Drop> Line<E> {
     // The milliseconds since the beginning; none where the clock fails.
     fn millis<R: Clock>(&self, clock: &R) -> u128 {
         match (self.begun, Instant::now(clock)) {
