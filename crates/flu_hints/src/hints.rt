@@ -1,7 +1,7 @@
 //! Which hint belongs to which answer.
 
 use crate::conflicts::conflict_hint;
-use crate::endings::{Report, report_hint};
+use crate::endings::report_hint;
 use crate::reasons::{Failure, reason_hint};
 use crate::rows::row_hint;
 use crate::texts::{job_fault_hint, plan_fault_hint};
@@ -9,9 +9,8 @@ use crate::traces::trace_hint;
 use crate::unused::job_hint;
 use crate::words::{word_at, words_hint};
 use flu_check::CheckFault;
-use flu_lines::{PlanDefect, Refusal, Said};
+use flu_lines::{Done, PlanDefect, ReadIn, Refusal};
 use flu_model::Program;
-use flu_outside::Files;
 use flu_parse::read_job;
 use flu_words::{Command, read_words};
 use std::alloc::AllocError;
@@ -28,41 +27,36 @@ const PLAN: usize = 2;
 
 /// What helps a person who sees what a call of these words answered; empty if nothing is known.
 ///
-/// `failure` is what failed, if a file or a stream did, and `report` what is known of a report that was written. What was refused says
-/// where it is and why; files are read again only to show a line of them, and, after a call that was done, to say what a job does not use
-/// or a report does not show: regular ones alone, and no long ones. Sources that are read again are taken from `files`. What a hint shows
-/// may have changed since the call.
-pub fn hint<R: rt::Files + AllocGlobal, F: Files>(
+/// `failure` is what failed, if a file or a stream did, and `is_asked` is true if a word or the environment asks for hints. What was
+/// refused says where it is and why, and what was done says what it read; files are read again only to show a line of them: regular ones
+/// alone, and no long ones. What such a line shows may have changed since the call.
+pub fn hint<R: rt::Files + AllocGlobal>(
     rt: &R,
-    files: &mut F,
     words: &[String],
-    ended: &Result<Option<Said>, Refusal>,
+    ended: &Result<Done, Refusal>,
     failure: Option<Failure>,
-    report: Report,
+    is_asked: bool,
 ) -> Result<String, AllocError> {
     match ended {
-        Ok(None) => done_hint(rt, files, words, report),
-        Ok(Some(_)) => Ok(String::new(rt.alloc())),
+        Ok(done) => match (done.said(), done.read()) {
+            (None, Some(read)) => done_hint(rt, words, read, is_asked),
+            _ => Ok(String::new(rt.alloc())),
+        },
         Err(refusal) => refusal_hint(rt, words, refusal, failure),
     }
 }
 
 // What a command that says nothing on err leaves to be said once it is done.
-fn done_hint<R: rt::Files + AllocGlobal, F: Files>(
+fn done_hint<R: rt::Files + AllocGlobal>(
     rt: &R,
-    files: &mut F,
     words: &[String],
-    report: Report,
+    read: &ReadIn,
+    is_asked: bool,
 ) -> Result<String, AllocError> {
-    match read_words(words) {
-        Ok(Command::Check { job }) => match program_of(rt, job) {
-            Some(program) => job_hint(rt, &program),
-            None => Ok(String::new(rt.alloc())),
-        },
-        Ok(Command::Fold { job }) => report_hint(rt, files, job, report),
-        Ok(Command::Run { job, options, .. }) if options.resume.is_none() => {
-            report_hint(rt, files, job, report)
-        }
+    let program = read.job.program();
+    match (&read.counts, read_words(words)) {
+        (Some(counts), _) => report_hint(rt.alloc(), program, counts, is_asked),
+        (None, Ok(Command::Check { .. })) => job_hint(rt, program),
         _ => Ok(String::new(rt.alloc())),
     }
 }

@@ -19,7 +19,6 @@ mod traces;
 mod unused;
 mod words;
 
-pub use endings::Report;
 pub use hints::hint;
 pub use limits::limit_place;
 pub use reasons::Failure;

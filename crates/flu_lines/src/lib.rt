@@ -10,6 +10,6 @@ mod refusals;
 mod statuses;
 
 pub use lines::{say, say_done};
-pub use products::{DrawnSteps, Said};
+pub use products::{Counts, Done, DrawnSteps, ReadIn, Said, Span};
 pub use refusals::{JobRead, PlanDefect, Refusal, SaveDefect, job_refusal, plan_refusal};
 pub use statuses::{Status, status_after};

@@ -4,7 +4,7 @@ ghost use Rattle.std.specs.Prelude.{◌≡◌};
 ghost use Rattle.flu_lines.specs.Statuses.{code};
 ghost use Rattle.flu_lines.specs.Answer.{status_after};
 
-use crate::products::Said;
+use crate::products::Done;
 use crate::refusals::Refusal;
 
 /// The status of a call.
@@ -59,7 +59,7 @@ impl Status {
 }
 
 /// The status of a call that was done or refused.
-pub fn status_after(ended: &Result<Option<Said>, Refusal>) -> Status
+pub fn status_after(ended: &Result<Done, Refusal>) -> Status
     ensures { result ≡ status_after ended.now }
 {
     match ended {

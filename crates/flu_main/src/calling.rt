@@ -6,12 +6,11 @@ use crate::progress::{Progress, Shown, Texts};
 use crate::watched::{WatchedFiles, WatchedWriter};
 use crate::words::{call_of, files_of, words_of};
 use flu_adapt::{FileFailure, HostFiles, HostSink, Standard, StandardStream};
-use flu_hints::{Failure, Report, bytes_to_read, hint};
-use flu_lines::{Refusal, Said, Status, status_after};
+use flu_hints::{Failure, bytes_to_read, hint};
+use flu_lines::{Done, Refusal, Status, status_after};
 use flu_outside::{Files, MemSink, Sink};
 use flu_seq::OpenGate;
 use flu_top::answer_words;
-use std::alloc::AllocError;
 use std::env::Env;
 use std::io::{IsTerminal, Write};
 use std::process::ExitCode;
@@ -110,7 +109,7 @@ fn answer_plainly<
     R: rt::Files + Clock + AllocGlobal + Threads + Wait + Sync,
     O: Write + Drop,
     E: Write + Drop,
->(rt: &R, words: &[String], files: HostFiles<&R>, out: O, err: E) -> Result<Option<Said>, Refusal> {
+>(rt: &R, words: &[String], files: HostFiles<&R>, out: O, err: E) -> Result<Done, Refusal> {
     let watch: Option<&Progress<'_, '_, R, E>> = None;
     let mut files = WatchedFiles::new(files, watch);
     let mut out = HostSink::new(WatchedWriter::new(out, watch));
@@ -132,7 +131,7 @@ fn answer_watched<
     hints: Hints,
     shown: Shown,
     texts: Texts<'_>,
-) -> Result<Option<Said>, Refusal> {
+) -> Result<Done, Refusal> {
     let Ok(mut line) = MemSink::with_room(rt.alloc(), LINE_ROOM) else {
         return answer_plainly(rt, words, files, out, err);
     };
@@ -144,11 +143,7 @@ fn answer_watched<
     progress.say(line.bytes());
     if hints.are_wanted {
         let failure = failure_of(&ended, files.files().last_failure(), out.last_failure());
-        let report = Report {
-            is_empty: !progress.has_report(),
-            is_asked: hints.are_asked,
-        };
-        if let Ok(hint) = hint_of::<R, E>(rt, words, &ended, failure, report) {
+        if let Ok(hint) = hint(rt, words, &ended, failure, hints.are_asked) {
             progress.say(hint.as_str().as_bytes());
         }
     }
@@ -156,22 +151,9 @@ fn answer_watched<
     ended
 }
 
-// What a person may want to know of an answer, with files of its own to read sources from again.
-fn hint_of<R: rt::Files + Clock + AllocGlobal, E: Write + Drop>(
-    rt: &R,
-    words: &[String],
-    ended: &Result<Option<Said>, Refusal>,
-    failure: Option<Failure>,
-    report: Report,
-) -> Result<String, AllocError> {
-    let watch: Option<&Progress<'_, '_, R, E>> = None;
-    let mut files = WatchedFiles::new(HostFiles::new(rt), watch);
-    hint(rt, &mut files, words, ended, failure, report)
-}
-
 // What failed, if the answer is that a file or standard output did.
 fn failure_of<'f>(
-    ended: &Result<Option<Said>, Refusal>,
+    ended: &Result<Done, Refusal>,
     file: Option<&'f FileFailure>,
     out: Option<io::Error>,
 ) -> Option<Failure<'f>> {
@@ -206,7 +188,7 @@ pub(crate) fn answer<
     files: &mut F,
     out: &mut O,
     err: &mut E,
-) -> Result<Option<Said>, Refusal> {
+) -> Result<Done, Refusal> {
     if let Some(text) = help::told(words) {
         return help::tell(text, out, err);
     }

@@ -1,6 +1,6 @@
 //! What the program says about itself, outside the proved call.
 
-use flu_lines::{Refusal, Said, say};
+use flu_lines::{Done, Refusal, say};
 use flu_outside::{Failed, Sink, write_all};
 
 /// The answer to `--help`.
@@ -77,9 +77,9 @@ pub fn tell<O: Sink, E: Sink>(
     text: &str,
     out: &mut O,
     err: &mut E,
-) -> Result<Option<Said>, Refusal> {
+) -> Result<Done, Refusal> {
     match write_all(out, text.as_bytes()) {
-        Ok(()) => Ok(None),
+        Ok(()) => Ok(Done::saying(None)),
         Err(Failed) => {
             say(err, &Refusal::WriteFault);
             Err(Refusal::WriteFault)

@@ -64,7 +64,6 @@ struct Line<E: Write + Drop> {
     is_written: bool,
     taken: u64,
     rows: u64,
-    has_report: bool,
     // Whether what was written of the report ends with a whole line, and the time of the last line of which it is known.
     is_whole: bool,
     reported: Option<u64>,
@@ -91,18 +90,9 @@ impl<'r, 'w, R: Clock, E: Write + Drop> Progress<'r, 'w, R, E> {
                 is_written: false,
                 taken: 0,
                 rows: 0,
-                has_report: false,
                 is_whole: true,
                 reported: None,
             }),
-        }
-    }
-
-    /// Whether bytes of the report were written, or tried to be.
-    pub fn has_report(&self) -> bool {
-        match self.line.try_borrow() {
-            Ok(line) => line.has_report,
-            Err(_) => true,
         }
     }
 
@@ -149,7 +139,6 @@ impl<'r, 'w, R: Clock, E: Write + Drop> Watch for Progress<'r, 'w, R, E> {
 
     fn writes(&self) {
         if let Ok(mut line) = self.line.try_borrow_mut() {
-            line.has_report = true;
             if line.shown.until_report {
                 line.end();
             }

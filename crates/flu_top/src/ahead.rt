@@ -23,11 +23,12 @@ ghost use Rattle.flu_top.specs.Running.{EndsRounds, GoesOn, IsOpening, StaysWith
 
 use crate::backup::Backup;
 use crate::openings::Opening;
+use crate::products::Ran;
 use crate::running::{RunFault, adaptive_of, first, said_behind};
+use crate::tally::Tally;
 use flu_adaptive::{Adaptive, programs_are_shared};
 use flu_cells::State;
 use flu_deps::{Checked, Valid};
-use flu_lines::Said;
 use flu_model::{Outs, Program, Streams};
 use flu_outside::{Files, Sink};
 use flu_rounds::{
@@ -69,7 +70,7 @@ pub fn rounds_ahead<F: Files, K: Sink, G: Gate, R: Threads + Wait + Sync>(
     adapts: bool,
     chooses: Option<Depth>,
     gate: &G,
-) -> Result<Option<Said>, RunFault>
+) -> Result<Ran, RunFault>
     requires valid { IsValidFor (program_of checked.now) valid }
     requires opening { IsOpening (program_of checked.now) (plain_opening opening) }
     ensures ends { EndsRounds adapts (program_of checked.now) (plain_opening opening) None
@@ -87,10 +88,29 @@ pub fn rounds_ahead<F: Files, K: Sink, G: Gate, R: Threads + Wait + Sync>(
     let mut engine = adaptive_of(rt, alloc, checked, valid, adapts, chooses, gate)?;
     let mut rounds = first(alloc, checked.program(), opening)?;
     let mut begun = first_round(alloc, files, out, &mut rounds, &engine)?;
+    let mut tally = Tally::new(alloc);
     while let Border::At(_) = begun.border {
-        begun = next_round(rt, alloc, files, out, &mut rounds, &mut engine, begun)?;
+        begun = next_round(
+            rt,
+            alloc,
+            files,
+            out,
+            &mut rounds,
+            &mut engine,
+            begun,
+            &mut tally,
+        )?;
     }
-    last_round(rt, alloc, files, out, &mut rounds, &mut engine, begun)
+    last_round(
+        rt,
+        alloc,
+        files,
+        out,
+        &mut rounds,
+        &mut engine,
+        begun,
+        tally,
+    )
 }
 
 // Begins the first round.
@@ -132,6 +152,7 @@ fn next_round<F: Files, K: Sink, G: Gate, R: Threads + Wait + Sync>(
     rounds: &mut Rounds,
     engine: &mut Adaptive<G, R, Backup>,
     begun: Begun,
+    tally: &mut Tally,
 ) -> Result<Begun, RunFault>
     requires program { program_of engine.old.checked ≡ rounds.old.held.program }
     requires stage { rounds.old.held.stage ≡ Stage.Filling }
@@ -163,6 +184,7 @@ fn next_round<F: Files, K: Sink, G: Gate, R: Threads + Wait + Sync>(
     let Ok((state, outs)) = ran else {
         return Err(RunFault::Round(RoundsFault::NoMemory));
     };
+    tally.count(program, &begun.rows, &outs);
     if let Err(fault) = rounds.finish(alloc, program, out, state, outs) {
         return Err(RunFault::Round(fault));
     }
@@ -236,7 +258,8 @@ fn last_round<F: Files, K: Sink, G: Gate, R: Threads + Wait + Sync>(
     rounds: &mut Rounds,
     engine: &mut Adaptive<G, R, Backup>,
     begun: Begun,
-) -> Result<Option<Said>, RunFault>
+    mut tally: Tally,
+) -> Result<Ran, RunFault>
     requires program { program_of engine.old.checked ≡ rounds.old.held.program }
     requires itags { length (listed begun.rows) ≡ count_of_itags (program_of engine.old.checked) }
     requires sorts { IsStateOf (program_of engine.old.checked).families (held begun.opening) }
@@ -265,8 +288,10 @@ fn last_round<F: Files, K: Sink, G: Gate, R: Threads + Wait + Sync>(
     let Ok(says) = said_behind(alloc, engine, begun.border) else {
         return Err(RunFault::Round(RoundsFault::NoMemory));
     };
-    match rounds.finish(alloc, program, out, state, outs) {
-        Ok(()) => Ok(says),
-        Err(fault) => Err(RunFault::Round(fault)),
+    tally.count(program, &begun.rows, &outs);
+    if let Err(fault) = rounds.finish(alloc, program, out, state, outs) {
+        return Err(RunFault::Round(fault));
     }
+    let counts = tally.end(alloc, program, rounds.state());
+    Ok(Ran::of(says, counts))
 }

@@ -11,17 +11,18 @@ ghost use Rattle.flu_command.specs.Done.{IsReadName, IsWritten};
 ghost use Rattle.flu_top.specs.Checking.{IsChecked, IsCheckRefusal};
 ghost use Rattle.flu_top.specs.Refusing.{IsRefusal};
 
+use crate::products::Printed;
 use crate::programs::program_of;
 use flu_check::check;
 use flu_deps::Checked;
-use flu_lines::Refusal;
-use flu_model::{Program, Text};
+use flu_lines::{JobRead, ReadIn, Refusal};
+use flu_model::Program;
 use flu_outside::Files;
 use flu_parse::print_job;
 use std::alloc::Global;
 
 /// The normal form of the job that a file holds.
-pub fn check_job<F: Files>(alloc: Global, files: &mut F, job: &str) -> Result<Text, Refusal>
+pub fn check_job<F: Files>(alloc: Global, files: &mut F, job: &str) -> Result<Printed, Refusal>
     ensures written { IfOk result (λ text. WhereTold (F.left files.old) (F.left files.new) (IsWritten (Check job.now) text [])) }
     ensures refused { IfErr result (IsRefusal (Check job.now) (F.left files.old) (F.left files.new) (F.faults files.old) (F.faults files.new)) }
     ensures fronts { WhereTold (F.left files.old) (F.left files.new) TookFronts }
@@ -36,7 +37,7 @@ pub fn check_job<F: Files>(alloc: Global, files: &mut F, job: &str) -> Result<Te
 }
 
 // The normal form of a job that is accepted.
-fn normal_form_of(alloc: Global, program: Program) -> Result<Text, Refusal>
+fn normal_form_of(alloc: Global, program: Program) -> Result<Printed, Refusal>
     ensures checked { IfOk result (IsChecked program) }
     ensures refused { IfErr result (IsCheckRefusal program) }
 {
@@ -45,7 +46,8 @@ fn normal_form_of(alloc: Global, program: Program) -> Result<Text, Refusal>
         Err(refusal) => return Err(refusal),
     };
     let text = print_job(alloc, checked.program())?;
-    Ok(text)
+    let job = JobRead::Accepted(checked);
+    Ok(Printed::of(text, ReadIn { job, counts: None }))
 }
 
 /// A job, if it is accepted.

@@ -13,12 +13,12 @@ use crate::checking::check_job;
 use crate::demo::demo;
 use crate::folding::fold_job;
 use crate::planning::plan_job;
-use crate::products::Product;
+use crate::products::{Printed, Product};
 use crate::replaying::replay_planned;
 use crate::running::run_job;
 use crate::simulating::simulate_planned;
 use crate::validating::valid_plan;
-use flu_lines::{Refusal, Said};
+use flu_lines::{Done, Refusal};
 use flu_model::Text;
 use flu_outside::{Files, Sink};
 use flu_report::write_all;
@@ -28,7 +28,7 @@ use std::alloc::Global;
 use std::sync::Wait;
 use std::thread::Threads;
 
-/// Runs a command: writes what it produces to `out`, and answers what is to be said on err, if there is anything.
+/// Runs a command: writes what it produces to `out`, and answers what is to be said on err, if there is anything, with what was read.
 pub fn run<F: Files, K: Sink, G: Gate, R: Threads + Wait + Sync>(
     rt: &R,
     alloc: Global,
@@ -36,7 +36,7 @@ pub fn run<F: Files, K: Sink, G: Gate, R: Threads + Wait + Sync>(
     out: &mut K,
     command: Command,
     gate: &G,
-) -> Result<Option<Said>, Refusal>
+) -> Result<Done, Refusal>
     ensures ends { IsEnding (call (F.left files.old) (F.left files.new) (F.faults files.old) (F.faults files.new) (F.put_faults files.old)
         (F.put_faults files.new) (K.taken out.old) (K.taken out.new) (K.faults out.old) (K.faults out.new)) (plain_command command.entry) result }
     ensures fronts { WhereTold (F.left files.old) (F.left files.new) (TookFrontsBut (IsPutAt (plain_command command.entry) (code_after result))) }
@@ -47,8 +47,8 @@ pub fn run<F: Files, K: Sink, G: Gate, R: Threads + Wait + Sync>(
     ensures written_quiet { result ≢ Err Refusal.WriteFault → K.faults out.new ≡ K.faults out.old }
 {
     match command {
-        Command::Fold { job } => put_text(out, fold_job(alloc, files, job)),
-        Command::Check { job } => put_text(out, check_job(alloc, files, job)),
+        Command::Fold { job } => put_printed(out, fold_job(alloc, files, job)),
+        Command::Check { job } => put_printed(out, check_job(alloc, files, job)),
         Command::Valid { job, plan } => put_text(out, valid_plan(alloc, files, job, plan)),
         Command::Plan { job, depth } => put_text(out, plan_job(alloc, files, job, depth)),
         Command::Run { job, plan, options } => {
@@ -68,18 +68,35 @@ pub fn run<F: Files, K: Sink, G: Gate, R: Threads + Wait + Sync>(
 }
 
 // Writes a text, if nothing refused it.
-fn put_text<K: Sink>(out: &mut K, text: Result<Text, Refusal>) -> Result<Option<Said>, Refusal>
+fn put_text<K: Sink>(out: &mut K, text: Result<Text, Refusal>) -> Result<Done, Refusal>
     ensures put { IsPut (as_product text) (K.taken out.old) (K.taken out.new) (K.faults out.old) (K.faults out.new) result }
     ensures quiet { result ≢ Err Refusal.WriteFault → K.faults out.new ≡ K.faults out.old }
 {
     match text {
-        Ok(text) => put(out, Ok(Product { text, says: None })),
+        Ok(text) => put(
+            out,
+            Ok(Product {
+                text,
+                says: Done::saying(None),
+            }),
+        ),
+        Err(refusal) => Err(refusal),
+    }
+}
+
+// Writes a text, if nothing refused it, and answers what was read for it.
+fn put_printed<K: Sink>(out: &mut K, printed: Result<Printed, Refusal>) -> Result<Done, Refusal>
+    ensures put { IsPut (as_product printed) (K.taken out.old) (K.taken out.new) (K.faults out.old) (K.faults out.new) result }
+    ensures quiet { result ≢ Err Refusal.WriteFault → K.faults out.new ≡ K.faults out.old }
+{
+    match printed {
+        Ok(printed) => put(out, Ok(printed.product())),
         Err(refusal) => Err(refusal),
     }
 }
 
 // Writes the text of what a command produced, if nothing refused it.
-fn put<K: Sink>(out: &mut K, produced: Result<Product, Refusal>) -> Result<Option<Said>, Refusal>
+fn put<K: Sink>(out: &mut K, produced: Result<Product, Refusal>) -> Result<Done, Refusal>
     ensures put { IsPut produced (K.taken out.old) (K.taken out.new) (K.faults out.old) (K.faults out.new) result }
     ensures quiet { result ≢ Err Refusal.WriteFault → K.faults out.new ≡ K.faults out.old }
 {

@@ -15,7 +15,7 @@ use crate::products::Product;
 use crate::running::tree_report;
 use flu_command::demos::demo_jobs_are_accepted;
 use flu_gen::{demo_job, demo_streams};
-use flu_lines::Refusal;
+use flu_lines::{Done, Refusal};
 use flu_model::Text;
 use flu_seq::Gate;
 use flu_words::{Draws, Seed, USUAL_DEPTH};
@@ -45,7 +45,10 @@ pub fn demo<G: Gate, R: Threads + Wait + Sync>(
     let report = tree_report(rt, alloc, &planned, &streams, gate)?;
     let n = u64::from(draws.count);
     let text = summary(alloc, n + n / 1000 + 1, report.as_str())?;
-    Ok(Product { text, says: None })
+    Ok(Product {
+        text,
+        says: Done::saying(None),
+    })
 }
 
 // The summary of the report of this many events.

@@ -21,6 +21,7 @@ mod running;
 mod saves;
 mod simulating;
 mod sources;
+mod tally;
 mod top;
 mod traces;
 mod validating;

@@ -1,13 +1,88 @@
 //! What a command produces that nothing refuses.
 
-use flu_lines::Said;
+ghost use Rattle.std.specs.Prelude.{◌≡◌, None};
+
+use flu_lines::{Counts, Done, JobRead, ReadIn, Said};
 use flu_model::Text;
+use std::marker::Model;
 
 /// What a command produces that nothing refuses.
 #[derive(Drop)]
 pub struct Product {
     /// The text for out.
     pub text: Text,
-    /// What err gets once the text is written; none if the command says nothing.
-    pub says: Option<Said>,
+    /// What is answered once the text is written.
+    pub says: Done,
+}
+
+/// The text of a command that says nothing, with what it read. Contracts see the text.
+#[derive(Drop)]
+pub struct Printed {
+    text: Text,
+    read: ReadIn,
+}
+
+impl Model for Printed {
+    ghost use Rattle.std.specs.Prelude.{List, ℕ};
+
+    ghost Value = { List ℕ };
+
+    ghost view = { λ p. p.text };
+}
+
+impl Printed {
+    /// This text, and what was read for it.
+    pub fn of(text: Text, read: ReadIn) -> Printed
+        ensures { result ≡ text }
+    {
+        Printed { text, read }
+    }
+
+    /// The product that it is.
+    pub fn product(self) -> Product
+        ensures { result ≡ record { text = self.entry; says = None } }
+    {
+        Product {
+            text: self.text,
+            says: Done::with(None, Some(self.read)),
+        }
+    }
+}
+
+/// What the rounds of a run come to. Contracts see what is said about them.
+#[derive(Drop)]
+pub struct Ran {
+    said: Option<Said>,
+    counts: Option<Counts>,
+}
+
+impl Model for Ran {
+    ghost use Rattle.std.specs.Prelude.{Option};
+    ghost use Rattle.flu_lines.specs.declared.products.Said.{Said};
+
+    ghost Value = { Option Said };
+
+    ghost view = { λ r. r.said };
+}
+
+impl Ran {
+    /// This is said about the rounds, of whose events that was counted.
+    pub fn of(said: Option<Said>, counts: Option<Counts>) -> Ran
+        ensures { result ≡ said }
+    {
+        Ran { said, counts }
+    }
+
+    /// What a run of this job answers.
+    pub fn done(self, job: JobRead) -> Done
+        ensures { result ≡ self.entry }
+    {
+        Done::with(
+            self.said,
+            Some(ReadIn {
+                job,
+                counts: self.counts,
+            }),
+        )
+    }
 }

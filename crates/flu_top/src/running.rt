@@ -40,12 +40,14 @@ use crate::ahead::{reads_ahead, rounds_ahead};
 use crate::backup::Backup;
 use crate::openings::{Opening, opening_of, same_name};
 use crate::planned::{Planned, planned_by, planned_greedily};
+use crate::products::Ran;
 use crate::programs::program_of;
 use crate::saves::put_checkpoint;
+use crate::tally::Tally;
 use flu_adaptive::Adaptive;
 use flu_cells::State;
 use flu_deps::{Checked, Valid};
-use flu_lines::{JobRead, Refusal, Said, SaveDefect};
+use flu_lines::{Done, JobRead, Refusal, Said, SaveDefect};
 use flu_model::{Program, Streams, Text};
 use flu_outside::{Files, PutFault, Sink};
 use flu_plan::print_plan;
@@ -83,7 +85,7 @@ pub fn run_job<F: Files, K: Sink, G: Gate, R: Threads + Wait + Sync>(
     plan: Option<&str>,
     options: RunOptions<'_>,
     gate: &G,
-) -> Result<Option<Said>, Refusal>
+) -> Result<Done, Refusal>
     ensures ends { IsEnding (call (F.left files.old) (F.left files.new) (F.faults files.old) (F.faults files.new) (F.put_faults files.old)
         (F.put_faults files.new) (K.taken out.old) (K.taken out.new) (K.faults out.old) (K.faults out.new))
         (Run job.now (option_map (λ name. name.now) plan.entry) (plain_options options.entry)) result }
@@ -189,7 +191,7 @@ fn run_in_rounds<F: Files, K: Sink, G: Gate, R: Threads + Wait + Sync>(
     adapts: bool,
     chooses: Option<Depth>,
     gate: &G,
-) -> Result<Option<Said>, Refusal>
+) -> Result<Done, Refusal>
     requires valid { IsValidFor (program_of planned.checked) planned.valid }
     requires opening { IsOpening (program_of planned.checked) (plain_opening opening) }
     requires apart { IsNoSource (option_map (λ name. name.now) save) (program_of planned.checked) }
@@ -207,7 +209,7 @@ fn run_in_rounds<F: Files, K: Sink, G: Gate, R: Threads + Wait + Sync>(
     match all_rounds(
         rt, alloc, files, out, &checked, valid, opening, save, adapts, chooses, gate,
     ) {
-        Ok(said) => Ok(said),
+        Ok(ran) => Ok(ran.done(JobRead::Accepted(checked))),
         Err(RunFault::Round(RoundsFault::Source(fault))) => {
             Err(Refusal::SourceFault(JobRead::Accepted(checked), fault))
         }
@@ -232,7 +234,7 @@ fn all_rounds<F: Files, K: Sink, G: Gate, R: Threads + Wait + Sync>(
     adapts: bool,
     chooses: Option<Depth>,
     gate: &G,
-) -> Result<Option<Said>, RunFault>
+) -> Result<Ran, RunFault>
     requires valid { IsValidFor (program_of checked.now) valid }
     requires opening { IsOpening (program_of checked.now) (plain_opening opening) }
     requires apart { IsNoSource (option_map (λ name. name.now) save) (program_of checked.now) }
@@ -271,7 +273,7 @@ fn rounds<F: Files, K: Sink, G: Gate, R: Threads + Wait + Sync>(
     adapts: bool,
     chooses: Option<Depth>,
     gate: &G,
-) -> Result<Option<Said>, RunFault>
+) -> Result<Ran, RunFault>
     requires valid { IsValidFor (program_of checked.now) valid }
     requires opening { IsOpening (program_of checked.now) (plain_opening opening) }
     requires apart { IsNoSource (option_map (λ name. name.now) save) (program_of checked.now) }
@@ -290,6 +292,7 @@ fn rounds<F: Files, K: Sink, G: Gate, R: Threads + Wait + Sync>(
     let mut engine = adaptive_of(rt, alloc, checked, valid, adapts, chooses, gate)?;
     let mut rounds = first(alloc, checked.program(), opening)?;
     let mut said = None;
+    let mut tally = Tally::new(alloc);
     while let Border::At(_) = saved_round(
         rt,
         alloc,
@@ -299,8 +302,10 @@ fn rounds<F: Files, K: Sink, G: Gate, R: Threads + Wait + Sync>(
         &mut engine,
         save,
         &mut said,
+        &mut tally,
     )? {}
-    Ok(said)
+    let counts = tally.end(alloc, checked.program(), rounds.state());
+    Ok(Ran::of(said, counts))
 }
 
 // The engine of a run in rounds. If a thread is refused, the job is folded.
@@ -356,6 +361,7 @@ fn saved_round<F: Files, K: Sink, G: Gate, R: Threads + Wait + Sync, B: Engine<R
     engine: &mut Adaptive<G, R, B>,
     save: Option<&str>,
     said: &mut Option<Said>,
+    tally: &mut Tally,
 ) -> Result<Border, RunFault>
     requires program { program_of engine.old.checked ≡ rounds.old.held.program }
     requires stage { rounds.old.held.stage ≡ Stage.Filling }
@@ -375,7 +381,7 @@ fn saved_round<F: Files, K: Sink, G: Gate, R: Threads + Wait + Sync, B: Engine<R
     other_names_leave_runs_alone();
     rounds_are_counted_in_turn();
     runs_count_their_events();
-    let end = match round(rt, alloc, files, out, rounds, engine, said) {
+    let end = match round(rt, alloc, files, out, rounds, engine, said, tally) {
         Ok(end) => end,
         Err(fault) => return Err(RunFault::Round(fault)),
     };
@@ -410,6 +416,7 @@ fn round<F: Files, K: Sink, G: Gate, R: Threads + Wait + Sync, B: Engine<R> + Dr
     rounds: &mut Rounds,
     engine: &mut Adaptive<G, R, B>,
     said: &mut Option<Said>,
+    tally: &mut Tally,
 ) -> Result<Border, RoundsFault>
     requires program { program_of engine.old.checked ≡ rounds.old.held.program }
     requires stage { rounds.old.held.stage ≡ Stage.Filling }
@@ -456,6 +463,7 @@ fn round<F: Files, K: Sink, G: Gate, R: Threads + Wait + Sync, B: Engine<R> + Dr
     } = rounds.begin(alloc, program, files)?;
     let (state, outs) = engine.batch(rt, alloc, opening, &rows)?;
     let says = said_behind(alloc, engine, border)?;
+    tally.count(program, &rows, &outs);
     rounds.finish(alloc, program, out, state, outs)?;
     *said = says;
     Ok(border)

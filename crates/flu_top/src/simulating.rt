@@ -25,7 +25,7 @@ use crate::sources::streams_of;
 use crate::traces::trace_text;
 use flu_cells::State;
 use flu_fork::Case;
-use flu_lines::{DrawnSteps, JobRead, Refusal, Said};
+use flu_lines::{Done, DrawnSteps, JobRead, Refusal, Said};
 use flu_live::{Run, simulate};
 use flu_model::{Streams, Text};
 use flu_outside::Files;
@@ -61,7 +61,7 @@ pub fn simulate_planned<F: Files>(
     match text_of(alloc, files, planned, seed, traced) {
         Ok((text, steps)) => Ok(Product {
             text,
-            says: Some(Said::Steps(steps)),
+            says: Done::saying(Some(Said::Steps(steps))),
         }),
         Err(refusal) => Err(refusal),
     }

@@ -10,7 +10,7 @@ ghost use Rattle.flu_top.specs.Outcome.{outside, faults, Outcome, ReadOnly, Faul
 
 use crate::commands::run;
 use flu_command::calling::{files_call_for_one_status, what_ends_a_command_is_called_for};
-use flu_lines::{Refusal, Said, say, say_done, status_after};
+use flu_lines::{Done, Refusal, say, say_done, status_after};
 use flu_outside::{Files, Sink};
 use flu_seq::Gate;
 use flu_words::read_words;
@@ -107,7 +107,7 @@ pub fn answer_words<F: Files, K: Sink, E: Sink, G: Gate, R: Threads + Wait + Syn
     out: &mut K,
     err: &mut E,
     gate: &G,
-) -> Result<Option<Said>, Refusal>
+) -> Result<Done, Refusal>
     ensures outcome { Outcome (map string_bytes words.now)
         (outside (F.left files.old) (K.taken out.old) (E.taken err.old) (E.faults err.old))
         (outside (F.left files.new) (K.taken out.new) (E.taken err.new) (E.faults err.new)) (code_after result) }
@@ -138,7 +138,7 @@ fn do_words<F: Files, K: Sink, G: Gate, R: Threads + Wait + Sync>(
     files: &mut F,
     out: &mut K,
     gate: &G,
-) -> Result<Option<Said>, Refusal>
+) -> Result<Done, Refusal>
     ensures ends { Ends (map string_bytes words.now) (call (F.left files.old) (F.left files.new) (F.faults files.old) (F.faults files.new)
         (F.put_faults files.old) (F.put_faults files.new) (K.taken out.old) (K.taken out.new) (K.faults out.old) (K.faults out.new)) result }
     ensures fronts { WhereTold (F.left files.old) (F.left files.new) (TookFrontsBut (MayBePut (map string_bytes words.now) (code_after result))) }
@@ -155,12 +155,14 @@ fn do_words<F: Files, K: Sink, G: Gate, R: Threads + Wait + Sync>(
 }
 
 // Says on err what a call says that was done, or the line of the refusal.
-fn tell<E: Sink>(err: &mut E, ended: &Result<Option<Said>, Refusal>)
+fn tell<E: Sink>(err: &mut E, ended: &Result<Done, Refusal>)
     ensures { IsHeard ended.now (E.taken err.old) (E.taken err.new) (E.faults err.old) (E.faults err.new) }
 {
     match ended {
-        Ok(None) => (),
-        Ok(Some(said)) => say_done(err, said),
+        Ok(done) => match done.said() {
+            None => (),
+            Some(said) => say_done(err, said),
+        },
         Err(refusal) => say(err, refusal),
     }
 }

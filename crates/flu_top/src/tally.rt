@@ -1,0 +1,127 @@
+//! What a report does not show of the events that it is of. No clause says what is counted: hints for people alone are made of it.
+
+ghost use Rattle.std.specs.Prelude.{◌≡◌, length};
+ghost use Rattle.flu_model.specs.Itags.{count_of_itags};
+ghost use Rattle.flu_model.specs.Listed.{listed};
+
+use flu_cells::State;
+use flu_lines::{Counts, Span};
+use flu_model::{Item, Itag, Out, Outs, Program, Streams, itag_count};
+use std::alloc::Global;
+
+/// What was counted so far of the events that a report is of, round by round.
+#[derive(Drop)]
+pub struct Tally {
+    last_line: Option<u64>,
+    after: Span,
+    itags: Vec<Span>,
+}
+
+impl Tally {
+    /// No event was counted.
+    pub fn new(alloc: Global) -> Tally {
+        Tally {
+            last_line: None,
+            after: Span::NONE,
+            itags: Vec::new(alloc),
+        }
+    }
+
+    /// Counts the events of one more round, later ones than those before, which emitted these outputs. Of a round with an output only the
+    /// items after the last one are gone through.
+    pub fn count(&mut self, program: &Program, rows: &Streams, outs: &Outs)
+        requires { length (listed rows.now) ≡ count_of_itags program.now }
+    {
+        let last = last_time(outs.items());
+        if last.is_some() {
+            self.last_line = last;
+            self.after = Span::NONE;
+        }
+        for i in 0..itag_count(program) {
+            let items = rows.items(Itag(i));
+            let behind = span_behind(items, last);
+            self.after = self.after.and(behind);
+            self.add(i as usize, behind.and(ends_of(items)));
+        }
+    }
+
+    // Adds events of an itag. If memory is refused they are not counted.
+    fn add(&mut self, i: usize, span: Span) {
+        if i == self.itags.len() && self.itags.push(Span::NONE).is_err() {
+            return;
+        }
+        if let Some(known) = self.itags.get_mut(i) {
+            *known = known.and(span);
+        }
+    }
+
+    /// What was counted, with what a state holds at the end; none if memory is refused.
+    pub fn end(self, alloc: Global, program: &Program, state: &State) -> Option<Counts> {
+        let mut held = Vec::new(alloc);
+        let families = program.families.items().len() as u32;
+        for family in 0..families {
+            let keys = state.keys(family).ok()?;
+            held.push(keys.len()).ok()?;
+        }
+        Some(Counts {
+            last_line: self.last_line,
+            after: self.after,
+            itags: self.itags,
+            held,
+        })
+    }
+}
+
+// The greatest of the times of some outputs.
+fn last_time(outs: &[Out]) -> Option<u64> {
+    let mut last = None;
+    for out in outs {
+        last = match last {
+            Some(time) if time >= out.time => last,
+            _ => Some(out.time),
+        };
+    }
+    last
+}
+
+// The events after a time, or all events if none is given, of the items of an itag, whose times rise.
+fn span_behind(items: &[Item], time: Option<u64>) -> Span {
+    let mut span = Span::NONE;
+    for item in items.iter().rev() {
+        if let Item::Event(event) = item {
+            if let Some(time) = time {
+                if event.time <= time {
+                    break;
+                }
+            }
+            span = span.and(at(event.time, 1));
+        }
+    }
+    span
+}
+
+// The times of the first and the last event of an itag, as a span of no event.
+fn ends_of(items: &[Item]) -> Span {
+    let mut ends = Span::NONE;
+    for item in items {
+        if let Item::Event(event) = item {
+            ends = at(event.time, 0);
+            break;
+        }
+    }
+    for item in items.iter().rev() {
+        if let Item::Event(event) = item {
+            return ends.and(at(event.time, 0));
+        }
+    }
+    ends
+}
+
+// This many events at one time.
+fn at(time: u64, events: u64) -> Span {
+    Span {
+        events,
+        first: time,
+        last: time,
+    }
+}
