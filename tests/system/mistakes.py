@@ -193,7 +193,7 @@ for words in (["fold", "rides.job"], ["run", "rides.job"]):
         "  no line was written; only these kinds can write one: day\n",
         "  source north: 2 events, at 485000 to 530000\n",
         "  source clock: 1 event, at 1\n",
-        "  kind day came once, at 1; events after that: 2\n",
+        "  kind day came once, at 1\n",
         "  not empty at the end: rides at 2 keys, longest\n",
         "  the times of clock end at 1, those of north begin at 485000: are they in the same unit?\n",
     )

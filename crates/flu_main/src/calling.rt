@@ -32,6 +32,15 @@ struct Hints {
     are_asked: bool,
 }
 
+/// What a person sees besides the report and the line of the answer.
+struct Seen<'t> {
+    hints: Hints,
+    /// What is shown of the reading.
+    shown: Shown,
+    /// The texts that the call reads besides sources.
+    texts: Texts<'t>,
+}
+
 /// Does what the words of the call say with the files of the system, as `flu_top` has it, and answers the status. `out` and `err` are
 /// standard output and standard error, and `process` is the number of the process. Hints are written if a word before the command asks
 /// for them, or the environment, or, if neither says anything, if standard error is a terminal; and if it is one, a line there says how
@@ -51,13 +60,16 @@ pub fn answer_call<
         are_wanted: asked.hints.unwrap_or(environment || err.is_terminal()),
         are_asked: asked.hints.unwrap_or(environment),
     };
-    let texts = texts_of(command);
-    let shown = shown_of(rt, asked, out.is_terminal(), err.is_terminal());
+    let seen = Seen {
+        hints,
+        shown: shown_of(rt, asked, out.is_terminal(), err.is_terminal()),
+        texts: texts_of(command),
+    };
     let files = HostFiles::of_program(rt, call_of(rt.alloc(), command, process));
     let out = StandardStream::new(rt, Standard::Output, out);
     let err = StandardStream::new(rt, Standard::Error, err);
-    let ended = if hints.are_wanted || shown.live || shown.closing {
-        answer_watched(rt, command, files, out, err, hints, shown, texts)
+    let ended = if hints.are_wanted || seen.shown.live || seen.shown.closing {
+        answer_watched(rt, command, files, out, err, seen)
     } else {
         answer_plainly(rt, command, files, out, err)
     };
@@ -128,13 +140,16 @@ fn answer_watched<
     files: HostFiles<&R>,
     out: O,
     err: E,
-    hints: Hints,
-    shown: Shown,
-    texts: Texts<'_>,
+    seen: Seen<'_>,
 ) -> Result<Done, Refusal> {
     let Ok(mut line) = MemSink::with_room(rt.alloc(), LINE_ROOM) else {
         return answer_plainly(rt, words, files, out, err);
     };
+    let Seen {
+        hints,
+        shown,
+        texts,
+    } = seen;
     let progress = Progress::new(rt, rt.alloc(), err, shown, texts);
     let mut files = WatchedFiles::new(files, Some(&progress));
     let mut out = HostSink::new(WatchedWriter::new(out, Some(&progress)));
@@ -182,13 +197,7 @@ pub(crate) fn answer<
     F: Files,
     O: Sink,
     E: Sink,
->(
-    rt: &R,
-    words: &[String],
-    files: &mut F,
-    out: &mut O,
-    err: &mut E,
-) -> Result<Done, Refusal> {
+>(rt: &R, words: &[String], files: &mut F, out: &mut O, err: &mut E) -> Result<Done, Refusal> {
     if let Some(text) = help::told(words) {
         return help::tell(text, out, err);
     }

@@ -73,11 +73,7 @@ fn is_command(word: &str) -> bool {
 }
 
 /// Writes the text to out. If that fails, the answer is a write fault, and its line goes to err, as the proved call has it.
-pub fn tell<O: Sink, E: Sink>(
-    text: &str,
-    out: &mut O,
-    err: &mut E,
-) -> Result<Done, Refusal> {
+pub fn tell<O: Sink, E: Sink>(text: &str, out: &mut O, err: &mut E) -> Result<Done, Refusal> {
     match write_all(out, text.as_bytes()) {
         Ok(()) => Ok(Done::saying(None)),
         Err(Failed) => {

@@ -6,7 +6,7 @@ ghost use Rattle.flu_model.specs.Listed.{listed};
 
 use flu_cells::State;
 use flu_lines::{Counts, Span};
-use flu_model::{Item, Itag, Out, Outs, Program, Streams, itag_count};
+use flu_model::{Itag, Item, Out, Outs, Program, Streams, itag_count};
 use std::alloc::Global;
 
 /// What was counted so far of the events that a report is of, round by round.
