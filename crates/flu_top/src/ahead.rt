@@ -289,9 +289,11 @@ fn last_round<F: Files, K: Sink, G: Gate, R: Threads + Wait + Sync>(
         return Err(RunFault::Round(RoundsFault::NoMemory));
     };
     tally.count(program, &begun.rows, &outs);
-    if let Err(fault) = rounds.finish(alloc, program, out, state, outs) {
-        return Err(RunFault::Round(fault));
+    match rounds.finish(alloc, program, out, state, outs) {
+        Ok(()) => Ok(Ran {
+            said: says,
+            counts: tally.end(alloc, program, rounds.state()),
+        }),
+        Err(fault) => Err(RunFault::Round(fault)),
     }
-    let counts = tally.end(alloc, program, rounds.state());
-    Ok(Ran::of(says, counts))
 }

@@ -47,7 +47,10 @@ fn normal_form_of(alloc: Global, program: Program) -> Result<Printed, Refusal>
     };
     let text = print_job(alloc, checked.program())?;
     let job = JobRead::Accepted(checked);
-    Ok(Printed::of(text, ReadIn { job, counts: None }))
+    Ok(Printed {
+        text,
+        read: ReadIn { job, counts: None },
+    })
 }
 
 /// A job, if it is accepted.

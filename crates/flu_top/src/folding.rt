@@ -61,7 +61,10 @@ fn report_of<F: Files>(alloc: Global, files: &mut F, program: Program) -> Result
     };
     let (report, counts) = fold_report(alloc, &program, &streams)?;
     let job = JobRead::Unchecked(program);
-    Ok(Printed::of(report, ReadIn { job, counts }))
+    Ok(Printed {
+        text: report,
+        read: ReadIn { job, counts },
+    })
 }
 
 // The report of the fold of all events of some streams from the empty state, and what was counted of them.

@@ -18,8 +18,8 @@ pub struct Product {
 /// The text of a command that says nothing, with what it read. Contracts see the text.
 #[derive(Drop)]
 pub struct Printed {
-    text: Text,
-    read: ReadIn,
+    pub text: Text,
+    pub read: ReadIn,
 }
 
 impl Model for Printed {
@@ -31,16 +31,9 @@ impl Model for Printed {
 }
 
 impl Printed {
-    /// This text, and what was read for it.
-    pub fn of(text: Text, read: ReadIn) -> Printed
-        ensures { result ≡ text }
-    {
-        Printed { text, read }
-    }
-
     /// The product that it is.
     pub fn product(self) -> Product
-        ensures { result ≡ record { text = self.entry; says = None } }
+        ensures { result ≡ record { text = self; says = None } }
     {
         Product {
             text: self.text,
@@ -52,8 +45,8 @@ impl Printed {
 /// What the rounds of a run come to. Contracts see what is said about them.
 #[derive(Drop)]
 pub struct Ran {
-    said: Option<Said>,
-    counts: Option<Counts>,
+    pub said: Option<Said>,
+    pub counts: Option<Counts>,
 }
 
 impl Model for Ran {
@@ -66,16 +59,9 @@ impl Model for Ran {
 }
 
 impl Ran {
-    /// This is said about the rounds, of whose events that was counted.
-    pub fn of(said: Option<Said>, counts: Option<Counts>) -> Ran
-        ensures { result ≡ said }
-    {
-        Ran { said, counts }
-    }
-
     /// What a run of this job answers.
     pub fn done(self, job: JobRead) -> Done
-        ensures { result ≡ self.entry }
+        ensures { result ≡ self }
     {
         Done::with(
             self.said,

@@ -291,8 +291,8 @@ fn rounds<F: Files, K: Sink, G: Gate, R: Threads + Wait + Sync>(
     rounds_are_folded_in_turn();
     let mut engine = adaptive_of(rt, alloc, checked, valid, adapts, chooses, gate)?;
     let mut rounds = first(alloc, checked.program(), opening)?;
-    let mut said = None;
     let mut tally = Tally::new(alloc);
+    let mut said = None;
     while let Border::At(_) = saved_round(
         rt,
         alloc,
@@ -305,7 +305,7 @@ fn rounds<F: Files, K: Sink, G: Gate, R: Threads + Wait + Sync>(
         &mut tally,
     )? {}
     let counts = tally.end(alloc, checked.program(), rounds.state());
-    Ok(Ran::of(said, counts))
+    Ok(Ran { said, counts })
 }
 
 // The engine of a run in rounds. If a thread is refused, the job is folded.

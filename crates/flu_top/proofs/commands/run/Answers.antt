@@ -14,27 +14,27 @@ pub returns-in-Fold-clause-ends : goal.returns-in-Fold-clause-ends
 returns-in-Fold-clause-ends g c =
     ends_text (call (g.F.Files.left c.args.files.now) (g.F.Files.left c.fold_job.new.files) (g.F.Files.faults c.args.files.now)
     (g.F.Files.faults c.fold_job.new.files) (g.F.Files.put_faults c.args.files.now) (g.F.Files.put_faults c.fold_job.new.files)
-    (g.K.Sink.taken c.args.out.now) (g.K.Sink.taken c.put_text.new.out) (g.K.Sink.faults c.args.out.now) (g.K.Sink.faults c.put_text.new.out))
-    (plain_command c.args.command) (Fold c.in-Fold.job.now) c.fold_job.result c.put_text.result (ap plain_command c.in-Fold.is)
-    (λ e. cc) refl c.fold_job.ensures.written c.fold_job.ensures.refused c.put_text.ensures.put
+    (g.K.Sink.taken c.args.out.now) (g.K.Sink.taken c.put_printed.new.out) (g.K.Sink.faults c.args.out.now) (g.K.Sink.faults c.put_printed.new.out))
+    (plain_command c.args.command) (Fold c.in-Fold.job.now) c.fold_job.result c.put_printed.result (ap plain_command c.in-Fold.is)
+    (λ e. cc) refl c.fold_job.ensures.written c.fold_job.ensures.refused c.put_printed.ensures.put
 
 pub returns-in-Check-clause-ends : goal.returns-in-Check-clause-ends
 returns-in-Check-clause-ends g c =
     ends_text (call (g.F.Files.left c.args.files.now) (g.F.Files.left c.check_job.new.files) (g.F.Files.faults c.args.files.now)
     (g.F.Files.faults c.check_job.new.files) (g.F.Files.put_faults c.args.files.now) (g.F.Files.put_faults c.check_job.new.files)
-    (g.K.Sink.taken c.args.out.now) (g.K.Sink.taken c.put_text-in-Check.new.out) (g.K.Sink.faults c.args.out.now)
-    (g.K.Sink.faults c.put_text-in-Check.new.out))
-    (plain_command c.args.command) (Check c.in-Check.job.now) c.check_job.result c.put_text-in-Check.result (ap plain_command c.in-Check.is)
-    (λ e. cc) refl c.check_job.ensures.written c.check_job.ensures.refused c.put_text-in-Check.ensures.put
+    (g.K.Sink.taken c.args.out.now) (g.K.Sink.taken c.put_printed-in-Check.new.out) (g.K.Sink.faults c.args.out.now)
+    (g.K.Sink.faults c.put_printed-in-Check.new.out))
+    (plain_command c.args.command) (Check c.in-Check.job.now) c.check_job.result c.put_printed-in-Check.result (ap plain_command c.in-Check.is)
+    (λ e. cc) refl c.check_job.ensures.written c.check_job.ensures.refused c.put_printed-in-Check.ensures.put
 
 pub returns-in-Valid-clause-ends : goal.returns-in-Valid-clause-ends
 returns-in-Valid-clause-ends g c =
     ends_text (call (g.F.Files.left c.args.files.now) (g.F.Files.left c.valid_plan.new.files) (g.F.Files.faults c.args.files.now)
     (g.F.Files.faults c.valid_plan.new.files) (g.F.Files.put_faults c.args.files.now) (g.F.Files.put_faults c.valid_plan.new.files)
-    (g.K.Sink.taken c.args.out.now) (g.K.Sink.taken c.put_text-in-Valid.new.out) (g.K.Sink.faults c.args.out.now)
-    (g.K.Sink.faults c.put_text-in-Valid.new.out))
-    (plain_command c.args.command) (Valid c.in-Valid.job.now c.in-Valid.plan.now) c.valid_plan.result c.put_text-in-Valid.result
-    (ap plain_command c.in-Valid.is) (λ e. cc) refl c.valid_plan.ensures.written c.valid_plan.ensures.refused c.put_text-in-Valid.ensures.put
+    (g.K.Sink.taken c.args.out.now) (g.K.Sink.taken c.put_text.new.out) (g.K.Sink.faults c.args.out.now)
+    (g.K.Sink.faults c.put_text.new.out))
+    (plain_command c.args.command) (Valid c.in-Valid.job.now c.in-Valid.plan.now) c.valid_plan.result c.put_text.result
+    (ap plain_command c.in-Valid.is) (λ e. cc) refl c.valid_plan.ensures.written c.valid_plan.ensures.refused c.put_text.ensures.put
 
 pub returns-in-Plan-clause-ends : goal.returns-in-Plan-clause-ends
 returns-in-Plan-clause-ends g c =
@@ -124,19 +124,23 @@ returns-in-Run-clause-only g c =
     c.run_job.ensures.only
 
 pub returns-in-Fold-clause-quiet : goal.returns-in-Fold-clause-quiet
-returns-in-Fold-clause-quiet g c = λ other. c.fold_job.ensures.quiet (text_not_refused c.fold_job.result (g.K.Sink.taken c.args.out.now) (g.K.Sink.taken c.put_text.new.out)
-    (g.K.Sink.faults c.args.out.now) (g.K.Sink.faults c.put_text.new.out) c.put_text.result ReadFault c.put_text.ensures.put other)
+returns-in-Fold-clause-quiet g c = λ other. c.fold_job.ensures.quiet
+    (text_not_refused c.fold_job.result (g.K.Sink.taken c.args.out.now) (g.K.Sink.taken c.put_printed.new.out)
+    (g.K.Sink.faults c.args.out.now) (g.K.Sink.faults c.put_printed.new.out) c.put_printed.result ReadFault c.put_printed.ensures.put other)
 
 pub returns-in-Check-clause-quiet : goal.returns-in-Check-clause-quiet
-returns-in-Check-clause-quiet g c = λ other. c.check_job.ensures.quiet (text_not_refused c.check_job.result (g.K.Sink.taken c.args.out.now) (g.K.Sink.taken c.put_text-in-Check.new.out)
-    (g.K.Sink.faults c.args.out.now) (g.K.Sink.faults c.put_text-in-Check.new.out) c.put_text-in-Check.result ReadFault c.put_text-in-Check.ensures.put other)
+returns-in-Check-clause-quiet g c = λ other. c.check_job.ensures.quiet
+    (text_not_refused c.check_job.result (g.K.Sink.taken c.args.out.now) (g.K.Sink.taken c.put_printed-in-Check.new.out)
+    (g.K.Sink.faults c.args.out.now) (g.K.Sink.faults c.put_printed-in-Check.new.out) c.put_printed-in-Check.result ReadFault c.put_printed-in-Check.ensures.put other)
 
 pub returns-in-Valid-clause-quiet : goal.returns-in-Valid-clause-quiet
-returns-in-Valid-clause-quiet g c = λ other. c.valid_plan.ensures.quiet (text_not_refused c.valid_plan.result (g.K.Sink.taken c.args.out.now) (g.K.Sink.taken c.put_text-in-Valid.new.out)
-    (g.K.Sink.faults c.args.out.now) (g.K.Sink.faults c.put_text-in-Valid.new.out) c.put_text-in-Valid.result ReadFault c.put_text-in-Valid.ensures.put other)
+returns-in-Valid-clause-quiet g c = λ other. c.valid_plan.ensures.quiet
+    (text_not_refused c.valid_plan.result (g.K.Sink.taken c.args.out.now) (g.K.Sink.taken c.put_text.new.out)
+    (g.K.Sink.faults c.args.out.now) (g.K.Sink.faults c.put_text.new.out) c.put_text.result ReadFault c.put_text.ensures.put other)
 
 pub returns-in-Plan-clause-quiet : goal.returns-in-Plan-clause-quiet
-returns-in-Plan-clause-quiet g c = λ other. c.plan_job.ensures.quiet (text_not_refused c.plan_job.result (g.K.Sink.taken c.args.out.now) (g.K.Sink.taken c.put_text-in-Plan.new.out)
+returns-in-Plan-clause-quiet g c = λ other. c.plan_job.ensures.quiet
+    (text_not_refused c.plan_job.result (g.K.Sink.taken c.args.out.now) (g.K.Sink.taken c.put_text-in-Plan.new.out)
     (g.K.Sink.faults c.args.out.now) (g.K.Sink.faults c.put_text-in-Plan.new.out) c.put_text-in-Plan.result ReadFault c.put_text-in-Plan.ensures.put other)
 
 pub returns-in-Simulate-clause-quiet : goal.returns-in-Simulate-clause-quiet
@@ -144,5 +148,6 @@ returns-in-Simulate-clause-quiet g c = λ other. c.simulate_planned.ensures.quie
     (g.K.Sink.faults c.args.out.now) (g.K.Sink.faults c.put.new.out) c.put.result ReadFault c.put.ensures.put other)
 
 pub returns-in-Replay-clause-quiet : goal.returns-in-Replay-clause-quiet
-returns-in-Replay-clause-quiet g c = λ other. c.replay_planned.ensures.quiet (text_not_refused c.replay_planned.result (g.K.Sink.taken c.args.out.now) (g.K.Sink.taken c.put_text-in-Replay.new.out)
+returns-in-Replay-clause-quiet g c = λ other. c.replay_planned.ensures.quiet
+    (text_not_refused c.replay_planned.result (g.K.Sink.taken c.args.out.now) (g.K.Sink.taken c.put_text-in-Replay.new.out)
     (g.K.Sink.faults c.args.out.now) (g.K.Sink.faults c.put_text-in-Replay.new.out) c.put_text-in-Replay.result ReadFault c.put_text-in-Replay.ensures.put other)

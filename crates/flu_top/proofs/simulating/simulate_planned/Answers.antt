@@ -1,8 +1,13 @@
-use Rattle.std.proofs.Common.{refl}
+use Rattle.std.proofs.Common.{refl, sym, subst}
+use Rattle.std.specs.Prelude.{Option}
+use Rattle.flu_outside.specs.Outside.{WhereTold}
 use Rattle.flu_deps.specs.Checking.{program_of}
 use Rattle.flu_deps.specs.Validated.{plan_of}
 use Rattle.flu_lemmas.proofs.Named.{fronts_then}
 use Rattle.flu_words.specs.Words.{Simulate}
+use Rattle.flu_lines.specs.declared.products.Said.{Said}
+use Rattle.flu_lines.specs.Products.{line_said}
+use Rattle.flu_command.specs.Done.{IsWritten}
 use Rattle.flu_top.proofs.Sequence.{report_refusal, only_ready}
 use Rattle.flu_top.proofs.AsValid.{simulation_reads, ready_as_valid, only_as_valid, refusal_as_valid}
 use Rattle.flu_top.proofs.Simulations.{is_simulated}
@@ -31,9 +36,11 @@ returns-in-Ok-text_of-clause-written g c =
     let p = program_of c.in-Ok.planned.checked in
     let ready = ready_as_valid (Simulate job plan seed c.args.traced) job plan p _ _
     (simulation_reads job plan seed c.args.traced) refl c.in-Ok.ensures.ready in
-    is_simulated job plan seed c.args.traced p (plan_of c.in-Ok.planned.valid).nodes c.in-Ok-text_of.text c.in-Ok-text_of.steps _ _ _
+    subst (λ (said : Option Said). WhereTold (g.F.Files.left c.args.files.now) (g.F.Files.left c.text_of.new.files)
+    (IsWritten (Simulate job plan seed c.args.traced) c.in-Ok-text_of.text (line_said said))) (sym c.saying.ensures)
+    (is_simulated job plan seed c.args.traced p (plan_of c.in-Ok.planned.valid).nodes c.in-Ok-text_of.text c.in-Ok-text_of.steps _ _ _
     c.in-Ok.ensures.accepted ready c.in-Ok.ensures.nodes
-    c.in-Ok-text_of.ensures.read c.in-Ok-text_of.ensures.text c.in-Ok-text_of.ensures.drawn c.text_of.ensures.others
+    c.in-Ok-text_of.ensures.read c.in-Ok-text_of.ensures.text c.in-Ok-text_of.ensures.drawn c.text_of.ensures.others)
 
 pub returns-in-Ok-text_of-clause-fronts : goal.returns-in-Ok-text_of-clause-fronts
 returns-in-Ok-text_of-clause-fronts g c = fronts_then _ _ _ c.in-Ok.ensures.fronts c.text_of.ensures.fronts
