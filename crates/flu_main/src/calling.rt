@@ -33,6 +33,7 @@ struct Hints {
 }
 
 /// What a person sees besides the report and the line of the answer.
+#[derive(Clone, Copy)]
 struct Seen<'t> {
     hints: Hints,
     /// What is shown of the reading.
