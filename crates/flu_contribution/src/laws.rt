@@ -16,9 +16,9 @@ pub fn merged_lists_agree()
     ensures { MergedListsAgree }
 {}
 
-/// A node need not send a contribution of no event, except the last one. The fold over the events that are inside none of the nodes, which
-/// joins what each node sent before the events that it names, and the last at the end, gives what the combined fold gives: the same state and
-/// the same outputs in the same order. The events rise strictly: no two have the same time and itag.
+/// A node sends its contributions in order, without those of no event, but always the last one. The fold over the events that are inside none of
+/// the nodes, which joins what each node sent before the events that it names, and the last one at the end, gives what the combined fold gives:
+/// the same state, and the same outputs in the same order. The events rise strictly, so no two have the same time and itag.
 pub fn what_is_sent_is_joined()
     ensures { WhatIsSentIsJoined }
 {
