@@ -1,0 +1,4 @@
+pub mod Alike
+pub mod Filled
+pub mod Named
+pub mod OfFamilies
