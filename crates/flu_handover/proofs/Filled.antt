@@ -38,10 +38,10 @@ all_kept p (k ∷ ks) = by_test (p k) refl (all_kept p ks)
     by_test true e more = both (p k) (list_all p (filter p ks)) e more
     by_test false e more = more
 
-abbrev is_held : Contents → Cell → Bool
+abbrev pub is_held : Contents → Cell → Bool
 is_held s c = is_some (s c)
 
-all_held : (s : Contents) (fs : List ℕ) → list_all (is_held s) (flat_map (cells_of_family s) fs) ≡ true
+pub all_held : (s : Contents) (fs : List ℕ) → list_all (is_held s) (flat_map (cells_of_family s) fs) ≡ true
 all_held s [] = refl
 all_held s (f ∷ fs) =
     let cells = cells_of_family s f in
@@ -49,7 +49,7 @@ all_held s (f ∷ fs) =
     let first : list_all (is_held s) cells ≡ true = list_all-map (is_held s) (cell f) (held_keys s f) ∙ all_kept (λ k. is_some (s (cell f k))) all_keys in
     list_all-append (is_held s) cells others ∙ both (list_all (is_held s) cells) (list_all (is_held s) others) first (all_held s fs)
 
-from_some : (o : Option Worth) → is_some o ≡ true → (w : Worth) × (o ≡ Some w)
+pub from_some : (o : Option Worth) → is_some o ≡ true → (w : Worth) × (o ≡ Some w)
 from_some None h = absurd cc
 from_some (Some w) h = (w, refl)
 
@@ -146,11 +146,11 @@ any_kept p q (k ∷ ks) h = by_test (q k) (p k) refl refl (any_kept p q ks)
         ∙ more (sym (ap (λ b. (b && p k) || list_any (λ j. q j && p j) ks) e ∙ ap (λ b. b || list_any (λ j. q j && p j) ks) f) ∙ h)
     by_test false b e f more = more (sym (ap (λ a. (a && p k) || list_any (λ j. q j && p j) ks) e) ∙ h)
 
-key_below : (o : Option Family) (key : ℕ) → key_is_in o key ≡ true → key < key_count
+pub key_below : (o : Option Family) (key : ℕ) → key_is_in o key ≡ true → key < key_count
 key_below None key h = absurd cc
 key_below (Some f) key h = grind (arith, common_steps)
 
-family_below : (families : List Family) (i key : ℕ) → key_is_in (slice_get families i) key ≡ true → i < length families
+pub family_below : (families : List Family) (i key : ℕ) → key_is_in (slice_get families i) key ≡ true → i < length families
 family_below [] i key h = absurd cc
 family_below (f ∷ fs) zero key h = omega arith
 family_below (f ∷ fs) (suc i) key h = omega (arith, family_below fs i key h)

@@ -2,3 +2,4 @@ pub mod Alike
 pub mod Filled
 pub mod Named
 pub mod OfFamilies
+pub mod Rising

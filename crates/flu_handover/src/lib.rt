@@ -9,6 +9,9 @@ mod sending;
 mod states;
 mod tags;
 
-pub use laws::{alike_contributions_join_alike, alike_outputs_have_one_report, lines_determine};
+pub use laws::{
+    alike_contributions_join_alike, alike_outputs_have_one_report, lines_determine,
+    sendable_have_lines,
+};
 pub use receiving::handed_of;
 pub use sending::line_of;
