@@ -1,3 +1,4 @@
 pub mod Selecting
 pub mod Selected
 pub mod Shared
+pub mod Laws

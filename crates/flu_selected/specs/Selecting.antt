@@ -1,9 +1,9 @@
 -- Files of which some names read as sources without a row.
-use Rattle.std.specs.Prelude.{◌≡◌, ℕ, Bool, ◌&&◌, List, [], ◌∷◌, drop, Option, Some, None, IsSome, is_some, option_map, unwrap_or, if◌then◌else◌}
+use Rattle.std.specs.Prelude.{ℕ, Bool, ◌&&◌, List, [], ◌∷◌, Option, Some, None, is_some, if◌then◌else◌}
 use Rattle.std.specs.Option.{option_or}
 use Rattle.std.specs.List.{list_any}
 use Rattle.std.specs.Str.{bytes_eq}
-use Rattle.flu_outside.specs.Outside.{Contents, ShareOneCount}
+use Rattle.flu_outside.specs.Outside.{Contents}
 
 -- THE LINE OF A SOURCE WITHOUT A ROW: `end` and a line feed
 abbrev pub end_line : List ℕ
@@ -23,7 +23,7 @@ whole_lines names name = if is_among names name then Some end_line else None
 
 -- before anything is taken: each of these names has the line, and all others have what they have
 abbrev pub closed_at : List (List ℕ) → Contents → Contents
-closed_at names left name = if is_among names name then Some end_line else left name
+closed_at names left = with_closed (whole_lines names) left
 
 -- the counts by name, where it is known what the names have left but for the closed ones, which never fail
 abbrev pub counts_beside : Option Contents → Contents → (List ℕ → ℕ) → List ℕ → ℕ

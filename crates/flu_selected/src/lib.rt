@@ -3,7 +3,9 @@
 
 mod closed;
 mod end_line;
+mod laws;
 mod selected;
 
 pub use closed::ClosedNames;
+pub use laws::selected_sources_are_read;
 pub use selected::Selected;

@@ -1,0 +1,8 @@
+use Rattle.flu_selected.proofs.Lists.{lists_law, length_law}
+use Rattle.flu_selected.proofs.laws.selected_sources_are_read.Goals as goal
+
+pub returns-clause-lists : goal.returns-clause-lists
+returns-clause-lists c = lists_law
+
+pub returns-clause-length : goal.returns-clause-length
+returns-clause-length c = length_law
