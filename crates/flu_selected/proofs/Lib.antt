@@ -1,3 +1,4 @@
 mod Ends
 mod Names
 mod Lists
+mod Faults

@@ -7,5 +7,5 @@ mod laws;
 mod selected;
 
 pub use closed::ClosedNames;
-pub use laws::selected_sources_are_read;
+pub use laws::{closed_sources_have_no_defect, selected_sources_are_read};
 pub use selected::Selected;
