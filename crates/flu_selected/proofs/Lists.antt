@@ -6,12 +6,15 @@ use Rattle.std.proofs.Math.ListN.{get_or-append}
 use Rattle.std.proofs.lemmas.List.{length-map, get_or-append_right}
 use Rattle.std.proofs.lemmas.List.FromFn.{length-map-range_with_len, get_or-map-range_with_len}
 use Rattle.std.proofs.lemmas.Bool.{cases_lt}
+use Rattle.flu_lemmas.proofs.Tests.{and_left, and_right, both}
 use Rattle.flu_model.specs.declared.events.Item.{Item}
 use Rattle.flu_model.specs.declared.events.Item.TheVariants.{End as EndItem}
 use Rattle.flu_model.specs.declared.events.Tag.{Tag}
 use Rattle.flu_model.specs.declared.jobs.Kind.{Kind}
 use Rattle.flu_model.specs.declared.jobs.Source.{Source}
 use Rattle.flu_model.specs.declared.jobs.Program.{Program}
+use Rattle.flu_model.specs.Itags.{count_of_itags, source_of_itag}
+use Rattle.flu_model.specs.Streaming.{is_stream_from, are_streams}
 use Rattle.flu_model.specs.Listing.{tag, tags_of_source, itags_of_sources}
 use Rattle.flu_outside.specs.Outside.{Contents}
 use Rattle.flu_outside.specs.Taking.{bytes_left}
@@ -26,7 +29,7 @@ use Rattle.flu_streams.specs.Tags.{width}
 use Rattle.flu_streams.specs.Tests.{rows_of}
 use Rattle.flu_selected.proofs.Ends.{end_read}
 use Rattle.flu_selected.proofs.Names.{ClosesOthers, closes_others}
-use Rattle.flu_selected.specs.Laws.{LawOfLists, LawOfLength, closed_files, selected}
+use Rattle.flu_selected.specs.Laws.{LawOfLists, LawOfLength, StreamsStay, closed_files, selected}
 use Rattle.flu_selected.specs.Selecting.{is_among, closed_at, end_line}
 
 -- ---- the rows of one source
@@ -138,3 +141,37 @@ lists_same form kinds is_read names left before (s ∷ rest) i closes lt =
 pub lists_law : LawOfLists
 lists_law p is_read left itag lt =
     lists_same (form_of p.version) p.kinds is_read (closed_files p is_read) left [] p.sources itag (closes_others p is_read) lt
+
+-- ---- streams
+streams_by_place : (from : ℕ) (lists others : List (List Item)) → length others ≡ length lists
+    → ((i : ℕ) → i < length lists → is_stream_from (from + i) 0 (get_or lists i []) ≡ true → is_stream_from (from + i) 0 (get_or others i []) ≡ true)
+    → are_streams from lists ≡ true → are_streams from others ≡ true
+streams_by_place from [] [] len each all = refl
+streams_by_place from [] (other ∷ others) len each all = absurd (omega arith)
+streams_by_place from (items ∷ rest) [] len each all = absurd (omega arith)
+streams_by_place from (items ∷ rest) (other ∷ others) len each all =
+    let here : from + 0 ≡ from = omega arith in
+    let first : is_stream_from (from + 0) 0 items ≡ true =
+    ap (λ itag. is_stream_from itag 0 items) here ∙ and_left (is_stream_from from 0 items) (are_streams (from + 1) rest) all in
+    let later : (i : ℕ) → i < length rest → is_stream_from (from + 1 + i) 0 (get_or rest i []) ≡ true
+    → is_stream_from (from + 1 + i) 0 (get_or others i []) ≡ true =
+    λ i lt is. let number : from + 1 + i ≡ from + suc i = omega arith in
+    ap (λ itag. is_stream_from itag 0 (get_or others i [])) number
+    ∙ each (suc i) (omega arith) (sym (ap (λ itag. is_stream_from itag 0 (get_or rest i [])) number) ∙ is) in
+    both (is_stream_from from 0 other) (are_streams (from + 1) others)
+    (ap (λ itag. is_stream_from itag 0 other) (sym here) ∙ each 0 (omega arith) first)
+    (streams_by_place (from + 1) rest others (omega arith) later (and_right (is_stream_from from 0 items) (are_streams (from + 1) rest) all))
+
+stream_if : (b : Bool) (itag : ℕ) (items : List Item) → is_stream_from itag 0 items ≡ true → is_stream_from itag 0 (list_if b items) ≡ true
+stream_if true itag items is = is
+stream_if false itag items is = refl
+
+pub streams_stay : StreamsStay
+streams_stay p is_read left all =
+    let now = selected p is_read left in
+    let len : length (lists_of p left) ≡ count_of_itags p = length_law p left in
+    let each : (i : ℕ) → i < length (lists_of p left) → is_stream_from (0 + i) 0 (get_or (lists_of p left) i []) ≡ true
+    → is_stream_from (0 + i) 0 (get_or (lists_of p now) i []) ≡ true =
+    λ i lt is. ap (is_stream_from (0 + i) 0) (lists_law p is_read left i (omega arith))
+    ∙ stream_if (is_read (source_of_itag p (record { 0 = i }))) (0 + i) (get_or (lists_of p left) i []) is in
+    streams_by_place 0 (lists_of p left) (lists_of p now) (length_law p now ∙ sym len) each all

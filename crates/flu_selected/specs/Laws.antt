@@ -1,5 +1,5 @@
 -- What is read of a job where the files of some of its sources are closed.
-use Rattle.std.specs.Prelude.{◌≡◌, ℕ, ◌<◌, Bool, Option, Some, None, option_map, List, [], ◌∷◌, length, slice_index_or, sum_by, if◌then◌else◌}
+use Rattle.std.specs.Prelude.{◌≡◌, ℕ, ◌<◌, Bool, true, Option, Some, None, option_map, List, [], ◌∷◌, length, slice_index_or, sum_by, if◌then◌else◌}
 use Rattle.std.specs.List.{filter_map}
 use Rattle.flu_model.specs.declared.events.Item.{Item}
 use Rattle.flu_model.specs.declared.events.Item.TheVariants.{End as EndItem}
@@ -7,6 +7,7 @@ use Rattle.flu_model.specs.declared.jobs.Kind.{Kind}
 use Rattle.flu_model.specs.declared.jobs.Source.{Source}
 use Rattle.flu_model.specs.declared.jobs.Program.{Program}
 use Rattle.flu_model.specs.Itags.{count_of_itags, source_of_itag}
+use Rattle.flu_model.specs.Streaming.{are_streams}
 use Rattle.flu_outside.specs.Outside.{Contents}
 use Rattle.flu_outside.specs.Taking.{bytes_left}
 use Rattle.flu_rows.specs.declared.row.RowForm.{RowForm}
@@ -39,6 +40,11 @@ LawOfLists = (p : Program) (is_read : ℕ → Bool) (left : Contents) (itag : �
 -- THERE IS A LIST FOR EACH ITAG, whatever the files have
 abbrev pub LawOfLength : Type 0
 LawOfLength = (p : Program) (left : Contents) → length (lists_of p left) ≡ count_of_itags p
+
+-- where all lists are streams, they are if only some sources are read
+abbrev pub StreamsStay : Type 0
+StreamsStay = (p : Program) (is_read : ℕ → Bool) (left : Contents) → are_streams 0 (lists_of p left) ≡ true
+    → are_streams 0 (lists_of p (selected p is_read left)) ≡ true
 
 -- ---- defects
 -- how many items the rows of a source have, if it is read
