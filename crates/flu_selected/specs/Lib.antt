@@ -1,4 +1,5 @@
 pub mod Selecting
+pub mod Closed
 pub mod Selected
 pub mod Shared
 pub mod Laws

@@ -1,15 +1,11 @@
 -- What files of which some names are closed consist of.
 use Rattle.std.specs.Prelude.{List, ℕ, Option, option_map}
-use Rattle.std.specs.BTreeMap.{get_by_text}
 use Rattle.flu_outside.specs.Outside.{Contents}
-use Rattle.flu_selected.specs.declared.closed.ClosedNames.{ClosedNames}
 use Rattle.flu_selected.specs.declared.selected.Selected.{Selected}
+use Rattle.flu_selected.specs.Closed.{lines_in}
 use Rattle.flu_selected.specs.Selecting.{with_closed, counts_beside}
 
 -- what is left of the line under each closed name
-abbrev pub lines_in : ClosedNames → Contents
-lines_in closed name = get_by_text closed.lines name
-
 abbrev pub lines_of : {F : Type 0} → Selected F → Contents
 lines_of s = lines_in s.closed
 

@@ -10,18 +10,18 @@ use std::collections::BTreeMap;
 
 /// Names that read as sources without a row.
 ///
-/// Contracts see what is left of the line `end` under each of them (`lines_in` of `specs/Selected.antt`).
+/// Contracts see what is left of the line `end` under each of them (`lines_in` of `specs/Closed.antt`).
 #[derive(Drop)]
 pub struct ClosedNames {
     lines: BTreeMap<String, EndLine>,
 }
 
 impl ClosedNames {
-    ghost use Rattle.flu_selected.specs.Selected.{lines_in};
+    ghost use Rattle.flu_selected.specs.Closed.{lines_in};
 
     /// These names, of which nothing was taken yet.
     pub fn new(alloc: Global, names: &[Text]) -> Result<ClosedNames, AllocError>
-        ensures { IfOk result (λ closed. (name : List ℕ) → lines_in closed name ≡ whole_lines names.now name) }
+        ensures { IfOk result (λ closed. lines_in closed ≡ whole_lines names.now) }
     {
         let mut lines = BTreeMap::new(alloc);
         for name in names {
@@ -38,6 +38,7 @@ impl ClosedNames {
         ensures amount { IfSome result (λ n. n ≡ min (length buf.old) (length (unwrap_or (lines_in self.old name.now) []))) }
         ensures given { IfSome result (λ n. take n buf.new ≡ take n (unwrap_or (lines_in self.old name.now) [])) }
         ensures left { IfSome result (λ n. lines_in self.new name.now ≡ Some (drop n (unwrap_or (lines_in self.old name.now) []))) }
+        ensures same_names { (n : List ℕ) → is_some (lines_in self.new n) ≡ is_some (lines_in self.old n) }
         ensures others { (n : List ℕ) → n ≢ name.now → lines_in self.new n ≡ lines_in self.old n }
         ensures kept { result ≡ None → (n : List ℕ) → lines_in self.new n ≡ lines_in self.old n }
     {
