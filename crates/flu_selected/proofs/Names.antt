@@ -77,9 +77,11 @@ closes_more is_read names before s rest false here none other later =
     (λ (t : Source). is_among (names ++ s.file ∷ []) t.file ≡ false) rest (λ t a b. one_more names s.file t.file a b) none (all_apart s.file rest other) in
     let there : is_among (names ++ s.file ∷ closed) s.file ≡ true =
     list_any-append (bytes_eq s.file) names (s.file ∷ closed) ∙ ap (λ b. is_among names s.file || (b || is_among closed s.file)) (itself s.file)
-    ∙ or_true (is_among names s.file) in
-    (there, subst (λ all. ClosesOthers is_read all (with_before (before ++ s ∷ []) rest)) (append_assoc names (s.file ∷ []) closed)
-    (later (names ++ s.file ∷ []) apart_now))
+    ∙ or_true (is_among names s.file) in (
+      there,
+      subst (λ all. ClosesOthers is_read all (with_before (before ++ s ∷ []) rest)) (append_assoc names (s.file ∷ []) closed)
+          (later (names ++ s.file ∷ []) apart_now),
+    )
 
 closes : (is_read : ℕ → Bool) (names : List (List ℕ)) (before sources : List Source) → AreApart names sources
     → are_distinct is_same_text (files sources) ≡ true

@@ -1,5 +1,5 @@
 -- Files of which some names read as sources without a row.
-use Rattle.std.specs.Prelude.{ℕ, Bool, ◌&&◌, List, [], ◌∷◌, Option, Some, None, is_some, if◌then◌else◌}
+use Rattle.std.specs.Prelude.{ℕ, Bool, ◌&&◌, List, [], ◌∷◌, Option, Some, None, is_some, option_map, if◌then◌else◌}
 use Rattle.std.specs.Option.{option_or}
 use Rattle.std.specs.List.{list_any}
 use Rattle.std.specs.Str.{bytes_eq}
@@ -24,6 +24,10 @@ whole_lines names name = if is_among names name then Some end_line else None
 -- before anything is taken: each of these names has the line, and all others have what they have
 abbrev pub closed_at : List (List ℕ) → Contents → Contents
 closed_at names left = with_closed (whole_lines names) left
+
+-- what all names have left, if that is known of the files behind
+abbrev pub left_beside : Option Contents → Contents → Option Contents
+left_beside left lines = option_map (with_closed lines) left
 
 -- the counts by name, where it is known what the names have left but for the closed ones, which never fail
 abbrev pub counts_beside : Option Contents → Contents → (List ℕ → ℕ) → List ℕ → ℕ

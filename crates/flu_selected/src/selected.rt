@@ -1,72 +1,77 @@
 //! Files through which some names read as sources without a row.
 
+ghost use Rattle.std.specs.Prelude.{◌≡◌, List, ℕ, true, is_some};
+ghost use Rattle.flu_selected.specs.Closed.{lines_in};
+ghost use Rattle.flu_selected.specs.Selecting.{left_beside, counts_beside};
+ghost use Rattle.flu_selected.specs.Origin.{ClosedStay, CountsRise, ClosedCountsStay, ClosedCountsFollow};
+
 use crate::closed::ClosedNames;
+use crate::lent::Lent;
+use crate::origin::Origin;
 use flu_outside::{Files, PutFault, TakeFault};
+use std::marker::PhantomData;
 
 /// Files through which some names, the closed ones, read as sources without a row: each of them has the line `end` and nothing more,
 /// and the files of these names are not touched. All other names are read and put as they are.
+///
+/// Whatever is read and put, what `Origin` fixes stays: which files these are, which names are closed, and that each closed name of the
+/// files has what it had.
 #[derive(Drop)]
-pub struct Selected<'f, F> {
-    files: &'f mut F,
-    closed: ClosedNames,
+pub struct Selected<'f, F: Files, K: Origin> {
+    pub files: &'f mut F,
+    pub closed: ClosedNames,
+    origin: PhantomData<K>,
+    pub ghost same_reference: { files.ghost_name ≡ K.reference },
+    pub ghost same_names: { (name : List ℕ) → is_some (lines_in closed name) ≡ K.is_closed name },
+    pub ghost told: { is_some (F.left files.now) ≡ is_some K.left },
+    pub ghost left: { ClosedStay K.is_closed K.left (F.left files.now) },
+    pub ghost rise: { CountsRise K.faults (F.faults files.now) },
+    pub ghost apart: { ClosedCountsStay K.is_closed K.left K.faults (F.faults files.now) },
+    pub ghost follow: { ClosedCountsFollow K.is_closed K.faults (F.faults files.now) },
 }
 
-impl<'f, F: Files> Selected<'f, F> {
-    ghost use Rattle.std.specs.Prelude.{◌≡◌, List, ℕ, option_map};
-    ghost use Rattle.flu_selected.specs.Closed.{lines_in};
-    ghost use Rattle.flu_selected.specs.Selected.{lines_of, behind, left_of};
-    ghost use Rattle.flu_selected.specs.Selecting.{whole_lines, closed_at};
-
+impl<'f, F: Files, K: Origin> Selected<'f, F, K> {
     /// These files, of which these names are closed.
-    pub fn new(files: &'f mut F, closed: ClosedNames) -> Selected<'f, F>
-        ensures files { behind result ≡ files.old }
-        ensures lines { lines_of result ≡ lines_in closed }
-        ensures left { (names : List (List ℕ)) → lines_in closed ≡ whole_lines names → left_of F.left result ≡ option_map (closed_at names) (F.left files.old) }
-        ensures same_reference { result.files.ghost_name ≡ files.entry.ghost_name }
+    pub fn new(lent: Lent<'f, F>, closed: ClosedNames) -> Selected<'f, F, K>
+        requires reference { lent.files.ghost_name ≡ K.reference }
+        requires names { (name : List ℕ) → is_some (lines_in closed name) ≡ K.is_closed name }
+        requires left { F.left lent.files.now ≡ K.left }
+        requires faults { F.faults lent.files.now ≡ K.faults }
+        ensures files { result.files.now ≡ lent.entry.files.now }
+        ensures closed { result.closed ≡ closed }
     {
-        Selected { files, closed }
+        let Lent { files } = lent;
+        Selected {
+            files,
+            closed,
+            origin: PhantomData,
+        }
+    }
+
+    /// The files behind.
+    pub fn into_lent(self) -> Lent<'f, F>
+        ensures now { result.files.now ≡ self.entry.files.now }
+        ensures same_reference { result.files.ghost_name ≡ K.reference }
+    {
+        let Selected { files, .. } = self;
+        Lent { files }
     }
 }
 
-impl<F: Files> Files for Selected<'_, F> {
-    ghost use Rattle.std.specs.Prelude.{◌≡◌, ◌≢◌, ◌<◌, ◌≤◌, List, ℕ, [], length, min, Ok, None, IfOk, IsOk, OnOk, OnErr, IsErrOf, IsSome, is_some, unwrap_or};
-    ghost use Rattle.flu_outside.specs.Outside.{Contents, Rose, Takes, Puts, OthersStay, WhereTold, SameLeft, SameCounts, CountApart};
-    ghost use Rattle.flu_selected.specs.Selected.{left_of, counts_of, behind, lines_of};
+impl<F: Files, K: Origin> Files for Selected<'_, F, K> {
     ghost use Rattle.flu_selected.specs.Shared.{share_beside, share_puts};
 
-    ghost left = { left_of F.left };
+    ghost left = { λ s. left_beside (F.left s.files.now) (lines_in s.closed) };
 
-    ghost faults = { counts_of F.left F.faults };
+    ghost faults = { λ s. counts_beside (F.left s.files.now) (lines_in s.closed) (F.faults s.files.now) };
 
-    ghost put_faults = { λ s. F.put_faults (behind s) };
+    ghost put_faults = { λ s. F.put_faults s.files.now };
 
-    ghost shared = { λ s. share_beside (F.left (behind s)) (lines_of s) (F.faults (behind s)) (F.shared (behind s)) };
+    ghost shared = { λ s. share_beside (F.left s.files.now) (lines_in s.closed) (F.faults s.files.now) (F.shared s.files.now) };
 
-    ghost shared_puts = { λ s. share_puts (F.left (behind s)) (lines_of s) (F.put_faults (behind s)) (F.shared_puts (behind s)) };
+    ghost shared_puts = { λ s. share_puts (F.left s.files.now) (lines_in s.closed) (F.put_faults s.files.now) (F.shared_puts s.files.now) };
 
-    fn take(&mut self, name: &str, buf: &mut [u8]) -> Result<usize, TakeFault>
-        requires { 0 < length buf.old }
-
-        ensures bound { IfOk result (λ n. n ≤ length buf.old) }
-        ensures taken { IfOk result (λ n. WhereTold (left_of F.left self.old) (left_of F.left self.new) (λ old new. Takes old new name.now n buf.new)) }
-        ensures quiet { OnOk result (SameCounts (counts_of F.left F.faults self.old) (counts_of F.left F.faults self.new)) }
-
-        ensures kept { OnErr result (WhereTold (left_of F.left self.old) (left_of F.left self.new) SameLeft) }
-        ensures failed { IsErrOf result TakeFault.Failed → Rose (counts_of F.left F.faults self.old name.now) (counts_of F.left F.faults self.new name.now) }
-        ensures no_memory { IsErrOf result TakeFault.NoMemory → SameCounts (counts_of F.left F.faults self.old) (counts_of F.left F.faults self.new) }
-
-        ensures counts { (n : List ℕ) → counts_of F.left F.faults self.old n ≤ counts_of F.left F.faults self.new n }
-        ensures others { (n : List ℕ) → CountApart (left_of F.left self.old) name.now n → counts_of F.left F.faults self.new n ≡ counts_of F.left F.faults self.old n }
-        ensures puts { SameCounts (F.put_faults (behind self.old)) (F.put_faults (behind self.new)) }
-
-        // A closed name gives as many bytes of its line as it can, and nothing is taken of the files behind; of another name it is their answer
-        // alone. The same names are closed.
-        ensures closed { IsSome (lines_of self.old name.now) → behind self.new ≡ behind self.old }
-        ensures amount { IsSome (lines_of self.old name.now) → result ≡ Ok (min (length buf.old) (length (unwrap_or (lines_of self.old name.now) []))) }
-        ensures open { lines_of self.old name.now ≡ None → (n : List ℕ) → lines_of self.new n ≡ lines_of self.old n }
-        ensures same_names { (n : List ℕ) → is_some (lines_of self.new n) ≡ is_some (lines_of self.old n) }
-        ensures same_reference { self.new.files.ghost_name ≡ self.old.files.ghost_name }
-    {
+    fn take(&mut self, name: &str, buf: &mut [u8]) -> Result<usize, TakeFault> {
         match self.closed.take(name, buf) {
             Some(count) => Ok(count),
             None => self.files.take(name, buf),
