@@ -1,0 +1,5 @@
+mod Ends
+mod Keeping
+mod Names
+mod Lists
+mod Faults
