@@ -143,6 +143,9 @@ module _ (families : List Family) (keyed has_value : Bool) (x : Event) (key : �
   expr_word (Two' op p a q b) s fits words = result_word op (value_of_expr a s x key) (value_of_expr b s x key)
       (expr_word a s (and_left (expr_fits families keyed has_value a) _ fits) words)
 
+  good_fits : (e : Expr) → is_good_expr families keyed has_value e ≡ true → expr_fits families keyed has_value e ≡ true
+  good_fits e good = and_left (expr_fits families keyed has_value e) (nat_le (height e) 32) good
+
   act_words : (a : Act) (s : Contents) → act_fits families keyed has_value a ≡ true → AreWords s → AreWords (effect_of_act families a s x key).cells
   act_words (Add r e) s fits words =
       changed_words s (cell_of r key (item_of x)) (added (s (cell_of r key (item_of x))) (value_of_expr e s x key)) words
@@ -150,11 +153,10 @@ module _ (families : List Family) (keyed has_value : Bool) (x : Event) (key : �
   act_words (Raise r e) s fits words =
       changed_words s (cell_of r key (item_of x)) (raised (s (cell_of r key (item_of x))) (value_of_expr e s x key)) words
       (raised_width (s (cell_of r key (item_of x))) (value_of_expr e s x key) (words (cell_of r key (item_of x)))
-      (expr_word e s (and_left (expr_fits families keyed has_value e) (nat_le (height e) 32) (and_right _ (is_good_expr families keyed has_value e) fits)) words))
+      (expr_word e s (good_fits e (and_right _ (is_good_expr families keyed has_value e) fits)) words))
   act_words (Set r e) s fits words =
       changed_words s (cell_of r key (item_of x)) (Some (Last (value_of_expr e s x key))) words (record {
-        sfits = expr_word e s (and_left (expr_fits families keyed has_value e) (nat_le (height e) 32) (and_right _ (is_good_expr families keyed has_value e) fits))
-            words;
+        sfits = expr_word e s (good_fits e (and_right _ (is_good_expr families keyed has_value e) fits)) words;
       })
   act_words (Clear r) s fits words = changed_words s (cell_of r key (item_of x)) None words tt
   act_words (ClearFamily f) s fits words = without_words s f words

@@ -135,9 +135,11 @@ fn is_idle(k: &Handed) -> bool
 }
 
 /// Appends the lines of what a node apart sends of the streams that it has read, which have one list for each itag of the job: in their order
-/// the contributions of some event, and the last one, which has the last time of the streams. The streams have all events of the itags that
-/// the node or one below it owns, or a proper ancestor of it; others make no difference. A node that the plan does not have sends one
-/// contribution, of no event.
+/// the contributions of some event, and the last one, which has the last time of these streams.
+///
+/// Only events of the itags that the node or one below it owns, or a proper ancestor of it, make a difference to what is sent, so the others need
+/// not be read. A node that the plan does not have sends one contribution, of no event. The time is that of merging the streams and doing the
+/// events, and each closed contribution goes through the cells that it holds, by `Subtree::class_of`.
 ///
 /// # Errors
 ///
