@@ -1,0 +1,5 @@
+pub mod Behind
+pub mod Apart
+pub mod Alike
+pub mod Ranges
+pub mod Reading
