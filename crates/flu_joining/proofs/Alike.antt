@@ -1,25 +1,21 @@
 -- Queues that are alike for a report join alike.
-use Rattle.std.proofs.Common.{◌≡◌, ℕ, Bool, true, false, cond, not, Option, Some, None, List, [], ◌∷◌, ◌++◌, inl, inr, refl, sym, ap, ◌∙◌}
+use Rattle.std.proofs.Common.{◌≡◌, Bool, true, false, cond, not, Option, Some, None, List, [], ◌∷◌, ◌++◌, refl, sym, ap, ◌∙◌}
 use Rattle.std.specs.Prelude.{is_some, ◌==◌, ◌&&◌, map}
 use Rattle.std.specs.List.{list_all}
 use Rattle.std.proofs.lemmas.List.{map-append}
 use Rattle.flu_model.specs.declared.events.Event.{Event}
-use Rattle.flu_model.specs.declared.events.Item.{Item}
-use Rattle.flu_model.specs.declared.events.Out.{Out}
 use Rattle.flu_model.specs.declared.jobs.Program.{Program}
-use Rattle.flu_model.specs.declared.plans.Node.{Node}
-use Rattle.flu_model.specs.Contents.{Contents}
 use Rattle.flu_model.specs.Folding.{outputs_with}
-use Rattle.flu_model.specs.Reports.{Line, line_of as line_of_report}
+use Rattle.flu_model.specs.Reports.{line_of as line_of_report}
 use Rattle.flu_model.specs.Updates.{effect_of}
-use Rattle.flu_contribution.specs.Combining.{Combined, with_first, without_first, with_effect, with_contribution}
+use Rattle.flu_contribution.specs.Combining.{Combined, with_first, without_first, with_effect}
 use Rattle.flu_contribution.specs.Contributions.{Contribution}
 use Rattle.flu_contribution.specs.Sending.{is_named, is_due, with_due, without_due, with_last, joined_from, start_of}
 use Rattle.flu_contribution.specs.Sharing.{all_sent, PartsGiveTheReport}
-use Rattle.flu_handover.specs.Handing.{place_of, AreAlike}
+use Rattle.flu_handover.specs.Handing.{place_of}
 use Rattle.flu_handover.specs.Laws.{AreCombinedAlike, AlikeContributionsJoinAlike, AlikeOutputsHaveOneReport}
-use Rattle.flu_joining.specs.Joining.{is_last_alone, waiting_behind, are_used_up, events_of_none}
-use Rattle.flu_joining.specs.Laws.{AreAllAlike, AreQueuesAlike, JoinAlike, AlikeQueuesJoinAlike, PartsAreUsedUp, WhatWasSentGivesTheReport}
+use Rattle.flu_joining.specs.Joining.{is_last_alone, are_used_up, events_of_none}
+use Rattle.flu_joining.specs.Laws.{AreAllAlike, AreQueuesAlike, AlikeQueuesJoinAlike, PartsAreUsedUp, WhatWasSentGivesTheReport}
 
 -- ---- places that are the same
 same_named : (a b : Option Event) (y : Event) → place_of a None ≡ place_of b None → is_named a y ≡ is_named b y

@@ -1,6 +1,6 @@
 -- An event above one of some nodes apart is inside none of them, so what the nodes send is used up.
-use Rattle.std.proofs.Common.{◌≡◌, ◌<◌, ◌≤◌, ℕ, Bool, true, false, not, Some, None, List, [], ◌∷◌, ◌++◌, ◌⊎◌, inl, inr, length, refl, sym, ap, subst, ◌∙◌, arith}
-use Rattle.std.specs.Prelude.{Option, ◌==◌, ◌&&◌, map}
+use Rattle.std.proofs.Common.{◌≡◌, ◌<◌, ℕ, true, false, not, Some, List, [], ◌∷◌, ◌⊎◌, inl, inr, length, refl, sym, ap, subst, ◌∙◌, arith}
+use Rattle.std.specs.Prelude.{◌==◌, ◌&&◌, map}
 use Rattle.std.specs.List.{list_all, list_any, filter, AllByRecursion}
 use Rattle.std.proofs.lemmas.Bool.{or_from}
 use Rattle.flu_lemmas.proofs.Elements.{all_map, all_of_both}
@@ -16,10 +16,10 @@ use Rattle.flu_model.specs.Owners.{owner_of, subtree_owns, ancestors_own, is_wit
 use Rattle.flu_deps.specs.Owners.{ItagsAreOwned}
 use Rattle.flu_deps.specs.Trees.{AreApart, NodesAreOrdered}
 use Rattle.flu_contribution.specs.Combining.{is_of_none}
-use Rattle.flu_contribution.specs.Contributions.{is_inside, is_above, Contribution, contributions}
-use Rattle.flu_contribution.specs.Laws.{AreInRange, AreNodesApart, IsApart, IsSetting, NoneIsWithin, ContributionsHavePlaces}
+use Rattle.flu_contribution.specs.Contributions.{is_inside, is_above, contributions}
+use Rattle.flu_contribution.specs.Laws.{AreInRange, IsApart, IsSetting, NoneIsWithin, ContributionsHavePlaces}
 use Rattle.flu_contribution.specs.Sending.{sent}
-use Rattle.flu_joining.specs.Joining.{is_last_alone, waiting_behind, are_used_up}
+use Rattle.flu_joining.specs.Joining.{is_last_alone}
 use Rattle.flu_joining.specs.Laws.{WhatIsSentIsUsedUp}
 use Rattle.flu_joining.proofs.Behind.{rest_behind, behind_each, sent_last_alone}
 

@@ -3,3 +3,4 @@ pub mod Apart
 pub mod Alike
 pub mod Ranges
 pub mod Reading
+pub mod Tables

@@ -1,5 +1,5 @@
 -- WHAT IS LEFT OF QUEUES: what waits in each of them behind the events that one who combines goes through, and which queues are used up.
-use Rattle.std.specs.Prelude.{◌≡◌, ℕ, Bool, true, false, not, is_some, position, Some, List, [], ◌∷◌, ⊤}
+use Rattle.std.specs.Prelude.{◌≡◌, ℕ, Bool, false, not, is_some, position, Some, List, [], ◌∷◌, ⊤}
 use Rattle.std.specs.List.{list_all, filter}
 use Rattle.flu_model.specs.declared.events.Event.{Event}
 use Rattle.flu_model.specs.declared.events.Item.{Item}

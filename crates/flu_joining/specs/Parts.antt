@@ -1,5 +1,5 @@
 -- What the code of the fold holds.
-use Rattle.std.specs.Prelude.{◌≡◌, ℕ, Bool, Option, Some, None, List, [], ◌∷◌, map, slice_index_or, false}
+use Rattle.std.specs.Prelude.{◌≡◌, Bool, Option, Some, None, List, [], ◌∷◌, map, slice_index_or, false}
 use Rattle.flu_model.specs.declared.events.Event.{Event}
 use Rattle.flu_contribution.specs.declared.contributing.Handed.{Handed}
 use Rattle.flu_contribution.specs.Contributions.{Contribution}

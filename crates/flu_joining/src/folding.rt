@@ -101,7 +101,7 @@ pub(crate) fn join_last(fold: &mut Combining, queues: &mut Vec<Queue>) -> Result
 
 // The place of the first queue that is not used up.
 pub(crate) fn first_left_over(queues: &[Queue]) -> Option<usize>
-    ensures { result ≡ position (λ ks. not (is_last_alone ks)) (waiting_in_each queues.now) }
+    ensures { result ≡ position (λ q. not (is_last_alone (waiting_in q))) queues.now }
 {
     queues.iter().position(|queue| !queue.is_last_alone())
 }
