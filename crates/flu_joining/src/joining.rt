@@ -27,12 +27,13 @@ use std::alloc::Global;
 /// Before each event the first contribution of each queue is joined if it names the event, by its time and itag, and at the end the one
 /// that is left in each. `laws` says when that is the state and the report of all events.
 ///
-/// The time is that of the number of events by the logarithm of the number of itags, and by the number of queues.
+/// The time is that of `merge` of `flu_seq`, and for each event that is inside none of the nodes that of the number of queues; and once, for
+/// each itag and each of the nodes, that of `is_within` of `flu_deps`.
 ///
 /// # Errors
 ///
-/// `LeftOver` exactly where a queue is not used up: behind the last event something else waits in it than one contribution that names no
-/// event. `NoMemory` only if memory runs out.
+/// `LeftOver` only where a queue is not used up: behind the last event something else waits in it than one contribution that names no
+/// event; and then there is no Ok. `NoMemory` only if memory runs out.
 pub fn join_sent(
     alloc: Global,
     c: &Checked,
