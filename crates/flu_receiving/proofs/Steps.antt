@@ -15,14 +15,14 @@ use Rattle.flu_partial.specs.Laws.{LawOfHeads, LawOfContributions}
 use Rattle.flu_partial.specs.Order.{may_come, reached_with, AreRest}
 use Rattle.flu_partial.specs.Partial.{head_text, contribution_text, line_of}
 use Rattle.flu_receiving.specs.declared.fault.PartialFault.{PartialFault}
-use Rattle.flu_receiving.specs.declared.fault.PartialFault.TheVariants.{Incomplete}
+use Rattle.flu_receiving.specs.declared.fault.PartialFault.TheVariants.{Incomplete, NoMemory}
 use Rattle.flu_receiving.specs.declared.receiving.Received.{Received}
 use Rattle.flu_receiving.specs.declared.receiving.Sent.{Sent}
 use Rattle.flu_receiving.specs.declared.receiving.Taken.{Taken}
-use Rattle.flu_receiving.specs.Faults.{parts_of, IsFaultFrom, IsLineFault, IsNext}
+use Rattle.flu_receiving.specs.Faults.{parts_of, IsFaultFrom, IsFaultIn, IsFirstFault, IsLineFault, IsNext, IsUnread}
 use Rattle.flu_receiving.specs.Parts.{AreBetween, AreSent, IsRead, IsTaken}
-use Rattle.flu_receiving.specs.Receiving.{lines_text, last_of, last_time, HasLine, IsReceived, IsSentBy, IsWholePartial}
-use Rattle.flu_receiving.proofs.Faulty.{fault_join}
+use Rattle.flu_receiving.specs.Receiving.{lines_text, last_of, last_time, HasLine, IsReceived, IsSendableLine, IsSentBy, IsWholePartial}
+use Rattle.flu_receiving.proofs.Faulty.{fault_join, head_join, not_whole}
 use Rattle.flu_receiving.proofs.Wholes.{one_text}
 
 -- ---- one element more
@@ -138,3 +138,29 @@ found_of_read heads law p bytes h cs r (bs, whole, received) other =
       sent = subst (λ (xs : List Contribution). Pairs (IsSentBy p) xs r.sent.items) same.1 received.sent;
       last = received.last ∙ ap last_of same.1;
     }
+
+-- ---- answers that are errors
+abbrev pub IsMemoryOr : PartialFault → Type 0 → Type 0
+IsMemoryOr e P = (e ≡ NoMemory) ⊎ P
+
+pub memory_or : (e : PartialFault) (P Q : Type 0) → (P → Q) → IsMemoryOr e P → IsMemoryOr e Q
+memory_or e P Q f (inl h) = inl h
+memory_or e P Q f (inr h) = inr (f h)
+
+pub fault_of_head : (p : Program) (bytes line behind : List ℕ) (e : PartialFault) → parts_of bytes ≡ line ∷ parts_of behind → IsUnread IsHeadLine 1 line e
+    → IsFirstFault p bytes e
+fault_of_head p bytes line behind e cut f =
+    subst (λ (parts : List (List ℕ)). IsFaultIn p parts e) (sym cut) (head_join p line behind e (inl f))
+
+pub fault_behind_head : (p : Program) (bytes line behind : List ℕ) (h : PartialHead) (e : PartialFault) → parts_of bytes ≡ line ∷ parts_of behind
+    → IsHeadLine h line → IsFaultFrom p 2 Head (parts_of behind) e → IsFirstFault p bytes e
+fault_behind_head p bytes line behind h e cut is f =
+    subst (λ (parts : List (List ℕ)). IsFaultIn p parts e) (sym cut) (head_join p line behind e (inr (h, is, f)))
+
+pub no_head : (p : Program) (bytes : List ℕ) → parts_of bytes ≡ bytes ∷ [] → IsFirstFault p bytes Incomplete
+no_head p bytes none = subst (λ (parts : List (List ℕ)). IsFaultIn p parts Incomplete) (sym none) refl
+
+pub only_memory : LawOfContributions → (p : Program) (bytes : List ℕ) (e : PartialFault) (h : PartialHead) (cs : List Contribution)
+    → IsMemoryOr e (IsFirstFault p bytes e) → IsWholePartial h cs bytes → AllByRecursion (IsSendableLine p) cs → e ≡ NoMemory
+only_memory law p bytes e h cs (inl memory) whole sendable = memory
+only_memory law p bytes e h cs (inr fault) whole sendable = absurd (not_whole law p bytes e h cs fault whole sendable)
