@@ -1,22 +1,22 @@
 -- Bytes have one first fault at most, and those that have one are no whole partial of what can have been sent.
-use Rattle.std.proofs.Common.{◌≡◌, ◌≢◌, ℕ, ◌+◌, ◌⊎◌, inl, inr, Bool, true, false, cond, List, [], ◌∷◌, ◌++◌, length, refl, sym, ap, subst, ◌∙◌, arith}
+use Rattle.std.proofs.Common.{◌≡◌, ◌≢◌, ℕ, ◌+◌, ◌⊎◌, inl, inr, Bool, true, false, cond, List, [], ◌∷◌, refl, sym, ap, subst, ◌∙◌, arith}
 use Rattle.std.specs.Prelude.{IsTrue, ◌==◌}
-use Rattle.std.specs.List.{AllByRecursion, slice_split, onto_first}
+use Rattle.std.specs.List.{AllByRecursion, onto_first}
 use Rattle.flu_model.specs.declared.jobs.Program.{Program}
 use Rattle.flu_partial.specs.declared.fault.LineFault.{LineFault}
 use Rattle.flu_partial.specs.declared.fault.LineFault.TheVariants as line_fault
 use Rattle.flu_partial.specs.declared.order.Reached.{Reached}
-use Rattle.flu_partial.specs.declared.order.Reached.TheVariants.{Head, End as AtEnd}
+use Rattle.flu_partial.specs.declared.order.Reached.TheVariants.{Head}
 use Rattle.flu_partial.specs.declared.values.Contribution.{Contribution}
 use Rattle.flu_partial.specs.declared.values.PartialHead.{PartialHead}
 use Rattle.flu_partial.specs.Forms.{IsHeadLine, IsContributionLine, IsFaultOf}
 use Rattle.flu_partial.specs.Laws.{LawOfContributions}
 use Rattle.flu_partial.specs.Order.{may_come, reached_with, AreRest}
-use Rattle.flu_partial.specs.Partial.{head_text, contribution_text, line_of}
+use Rattle.flu_partial.specs.Partial.{head_text, contribution_text}
 use Rattle.flu_receiving.specs.declared.fault.PartialFault.{PartialFault}
-use Rattle.flu_receiving.specs.Faults.{parts_of, fault_at, IsUnread, IsUnfit, IsLineFault, IsNext, IsFaultFrom, IsFaultIn, IsFirstFault}
+use Rattle.flu_receiving.specs.Faults.{parts_of, fault_at, IsUnread, IsUnfit, IsLineFault, IsNext, IsFaultFrom, IsFaultIn}
 use Rattle.flu_receiving.specs.Laws.{BytesHaveOneFault, FaultyBytesAreNotWhole}
-use Rattle.flu_receiving.specs.Receiving.{lines_text, HasLine, IsSendableLine, IsWholePartial}
+use Rattle.flu_receiving.specs.Receiving.{lines_text, HasLine, IsSendableLine}
 use Rattle.flu_receiving.proofs.Unbroken.{parts_line, head_unbroken, contribution_unbroken}
 
 -- ---- the first part

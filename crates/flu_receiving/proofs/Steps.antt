@@ -19,9 +19,9 @@ use Rattle.flu_receiving.specs.declared.fault.PartialFault.TheVariants.{Incomple
 use Rattle.flu_receiving.specs.declared.receiving.Received.{Received}
 use Rattle.flu_receiving.specs.declared.receiving.Sent.{Sent}
 use Rattle.flu_receiving.specs.declared.receiving.Taken.{Taken}
-use Rattle.flu_receiving.specs.Faults.{parts_of, IsFaultFrom, IsFaultIn, IsFirstFault, IsLineFault, IsNext, IsUnread}
-use Rattle.flu_receiving.specs.Parts.{AreBetween, AreSent, IsRead, IsTaken}
-use Rattle.flu_receiving.specs.Receiving.{lines_text, last_of, last_time, HasLine, IsReceived, IsSendableLine, IsSentBy, IsWholePartial}
+use Rattle.flu_receiving.specs.Faults.{parts_of, IsFaultFrom, IsFaultIn, IsFirstFault, IsLineFault, IsUnread}
+use Rattle.flu_receiving.specs.Parts.{AreBetween, AreSent, IsTaken}
+use Rattle.flu_receiving.specs.Receiving.{lines_text, last_of, last_time, HasLine, IsRead, IsReceived, IsSendableLine, IsSentBy, IsWholePartial}
 use Rattle.flu_receiving.proofs.Faulty.{fault_join, head_join, not_whole}
 use Rattle.flu_receiving.proofs.Wholes.{one_text}
 

@@ -1,5 +1,6 @@
 -- The texts of heads and of contributions have no line feed.
-use Rattle.std.proofs.Common.{◌≡◌, ℕ, zero, suc, ◌+◌, ◌<◌, ◌≤◌, ◌^◌, Bool, true, false, eqb, Option, Some, None, List, [], ◌∷◌, ◌++◌, map, codes, refl, sym, ap, subst, ◌∙◌, inl, inr, arith}
+use Rattle.std.proofs.Common.{◌≡◌, ℕ, zero, suc, ◌<◌, ◌≤◌, ◌^◌, Bool, true, false, eqb, Option, Some, None, List, [], ◌∷◌, ◌++◌, map, codes}
+use Rattle.std.proofs.Common.{refl, sym, ap, ◌∙◌, inl, inr, arith}
 use Rattle.std.specs.Prelude.{◌&&◌, ◌==◌, not, ⊤}
 use Rattle.std.specs.Fmt.{decimal}
 use Rattle.std.specs.List.{AllByRecursion, onto_first}
@@ -11,7 +12,8 @@ use Rattle.std.proofs.lemmas.List.{append_cancel_left}
 use Rattle.std.proofs.lemmas.Str.Parse.{digit_from_value}
 use Rattle.json.specs.Print.{escape, escape_byte, quoted}
 use Rattle.json.proofs.Printed.Strings.{escape_byte_plain}
-use Rattle.serde_json.specs.Data.{Num, unsigned, negative, float, Data, null, boolean, number, string, array, object, Items, no_items, item, Members, no_members, member}
+use Rattle.serde_json.specs.Data.{Num, unsigned, negative, float, Data, null, boolean, number, string, array, object}
+use Rattle.serde_json.specs.Data.{Items, no_items, item, Members, no_members, member}
 use Rattle.serde_json.specs.View.{items_of}
 use Rattle.serde_json.specs.Written.{compact_text, items_text, members_text, comma_if}
 use Rattle.flu_lemmas.proofs.Tests.{and_left, and_right, both, not_true}
@@ -139,7 +141,8 @@ mutual
 
   items : (later : Bool) (ds : Items) → AreSimple ds → is_unbroken (items_text later ds) ≡ true
   items later no_items h = refl
-  items later (item d ds) h = comma later (compact_text d ++ items_text true ds) (append (compact_text d) (items_text true ds) (value d h.0) (items true ds h.1))
+  items later (item d ds) h =
+      comma later (compact_text d ++ items_text true ds) (append (compact_text d) (items_text true ds) (value d h.0) (items true ds h.1))
 
 members : (later : Bool) (ms : Members) → HaveSimple ms → is_unbroken (members_text later ms) ≡ true
 members later no_members h = refl

@@ -1,20 +1,20 @@
 -- Bytes are a whole partial of one head and one list of contributions at most, and no proper front of them is one.
-use Rattle.std.proofs.Common.{◌≡◌, ◌≢◌, ℕ, Bool, true, false, List, [], ◌∷◌, ◌++◌, refl, sym, ap, ap₂, subst, ◌∙◌, append_assoc}
+use Rattle.std.proofs.Common.{◌≡◌, ℕ, List, [], ◌∷◌, ◌++◌, refl, sym, ap, ap₂, subst, ◌∙◌, append_assoc}
 use Rattle.std.specs.Prelude.{IsTrue}
 use Rattle.std.specs.List.{AllByRecursion}
 use Rattle.flu_partial.specs.declared.order.Reached.{Reached}
-use Rattle.flu_partial.specs.declared.order.Reached.TheVariants.{Head, Event, End as AtEnd}
+use Rattle.flu_partial.specs.declared.order.Reached.TheVariants.{Head, End as AtEnd}
 use Rattle.flu_partial.specs.declared.values.Contribution.{Contribution}
 use Rattle.flu_partial.specs.declared.values.PartialHead.{PartialHead}
 use Rattle.flu_partial.specs.declared.values.Place.{Place}
 use Rattle.flu_partial.specs.declared.values.Place.TheVariants.{Before, End}
-use Rattle.flu_partial.specs.Forms.{IsHeadLine, IsContributionLine}
+use Rattle.flu_partial.specs.Forms.{IsHeadLine}
 use Rattle.flu_partial.specs.Laws.{LawOfHeads, LawOfContributions}
 use Rattle.flu_partial.specs.Order.{may_come, may_come_at, reached_with, AreRest}
 use Rattle.flu_partial.specs.Partial.{head_text, contribution_text, line_of}
 use Rattle.flu_receiving.specs.Laws.{PartialsHaveOneText, CutPartialsAreNotWhole, PrintedPartialsAreWhole}
-use Rattle.flu_receiving.specs.Receiving.{lines_text, partial_text, HasLine, IsWholePartial}
-use Rattle.flu_receiving.proofs.Unbroken.{is_unbroken, same_lines, AreSameLines, head_unbroken, contribution_unbroken}
+use Rattle.flu_receiving.specs.Receiving.{lines_text, HasLine}
+use Rattle.flu_receiving.proofs.Unbroken.{same_lines, AreSameLines, head_unbroken, contribution_unbroken}
 
 no_line : (text rest : List ℕ) → line_of text ++ rest ≡ [] → ⊥
 no_line [] rest e = cc
@@ -49,7 +49,8 @@ nothing_cut law r (c ∷ cs) (b ∷ bs) behind one two rest more same =
     let lines = same_first c b (lines_text cs ++ behind) (lines_text bs) one.0 two.0
     (sym (append_assoc (line_of (contribution_text c)) (lines_text cs) behind) ∙ same) in
     let first : c ≡ b = law c b one.0.contribution two.0.contribution lines.line in
-    nothing_cut law (reached_with c.place) cs bs behind one.1 two.1 rest.1 (subst (λ (x : Contribution). AreRest (reached_with x.place) bs) (sym first) more.1) lines.rest
+    let order = subst (λ (x : Contribution). AreRest (reached_with x.place) bs) (sym first) more.1 in
+    nothing_cut law (reached_with c.place) cs bs behind one.1 two.1 rest.1 order lines.rest
 
 -- ---- partials
 same_heads : (g h : PartialHead) (x y : List ℕ) → IsHeadLine g (head_text g) → IsHeadLine h (head_text h)

@@ -7,15 +7,10 @@ use Rattle.flu_partial.specs.declared.order.Reached.{Reached}
 use Rattle.flu_partial.specs.declared.order.Reached.TheVariants.{Head, End as AtEnd}
 use Rattle.flu_partial.specs.declared.values.Contribution.{Contribution}
 use Rattle.flu_partial.specs.Order.{may_come, reached_with}
-use Rattle.flu_receiving.specs.declared.receiving.Received.{Received}
 use Rattle.flu_receiving.specs.declared.receiving.Sent.{Sent}
 use Rattle.flu_receiving.specs.declared.receiving.Taken.{Taken}
 use Rattle.flu_receiving.specs.Faults.{IsNext}
-use Rattle.flu_receiving.specs.Receiving.{last_of, last_time, lines_text, HasLine, IsReceived, IsSentBy, IsWholePartial}
-
--- WHAT BYTES ARE READ AS: they are a whole partial, and this is what is read of it
-abbrev pub IsRead : Program → List ℕ → Received → Type 0
-IsRead p bytes r = (cs : List Contribution) × IsWholePartial r.head cs bytes × IsReceived p r.head cs r
+use Rattle.flu_receiving.specs.Receiving.{last_of, last_time, lines_text, HasLine, IsSentBy}
 
 -- what was sent by the next line
 abbrev pub IsTaken : Program → Reached → Reached → List ℕ → Taken → Type 0

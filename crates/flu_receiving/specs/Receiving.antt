@@ -63,3 +63,7 @@ pub record IsReceived (p : Program) (h : PartialHead) (cs : List Contribution) (
   pub head : r.head ≡ h
   pub sent : Pairs (IsSentBy p) cs r.sent.items
   pub last : r.last ≡ last_of cs
+
+-- WHAT BYTES ARE READ AS: they are a whole partial, and this is what is read of it
+abbrev pub IsRead : Program → List ℕ → Received → Type 0
+IsRead p bytes r = (cs : List Contribution) × IsWholePartial r.head cs bytes × IsReceived p r.head cs r

@@ -7,9 +7,9 @@ ghost use Rattle.flu_partial.specs.declared.values.Contribution.{Contribution};
 ghost use Rattle.flu_partial.specs.declared.values.PartialHead.{PartialHead};
 ghost use Rattle.flu_partial.specs.Forms.{IsHeadLine};
 ghost use Rattle.flu_receiving.specs.declared.fault.PartialFault.{PartialFault};
-ghost use Rattle.flu_receiving.specs.Receiving.{last_time, IsReceived, IsSendableLine, IsWholePartial};
+ghost use Rattle.flu_receiving.specs.Receiving.{last_time, IsRead, IsReceived, IsSendableLine, IsWholePartial};
 ghost use Rattle.flu_receiving.specs.Faults.{parts_of, IsFaultFrom, IsFirstFault, IsLineFault, IsUnread};
-ghost use Rattle.flu_receiving.specs.Parts.{AreSent, IsRead, IsTaken};
+ghost use Rattle.flu_receiving.specs.Parts.{AreSent, IsTaken};
 
 use crate::cutting::cut_line;
 use crate::fault::{PartialFault, fault_at};

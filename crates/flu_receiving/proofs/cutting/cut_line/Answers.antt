@@ -1,4 +1,4 @@
-use Rattle.std.proofs.Common.{◌≡◌, ◌+◌, ◌-◌, ◌∷◌, Option, Some, None, length, take, drop, ap, ◌∙◌, sym, arith}
+use Rattle.std.proofs.Common.{◌+◌, ◌∷◌, Option, Some, None, take, ap, ◌∙◌, sym, arith}
 use Rattle.std.specs.Prelude.{IfNone}
 use Rattle.std.proofs.lemmas.List.{take_rest}
 use Rattle.flu_receiving.specs.Faults.{parts_of}

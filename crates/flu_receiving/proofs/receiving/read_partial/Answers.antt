@@ -3,7 +3,7 @@ use Rattle.flu_partial.specs.declared.order.Reached.TheVariants.{Head}
 use Rattle.flu_partial.specs.Forms.{IsHeadLine}
 use Rattle.flu_receiving.specs.Faults.{parts_of, IsFaultFrom, IsFirstFault, IsUnread}
 use Rattle.flu_receiving.specs.declared.receiving.Received.{Received}
-use Rattle.flu_receiving.specs.Parts.{IsRead}
+use Rattle.flu_receiving.specs.Receiving.{IsRead}
 use Rattle.flu_receiving.proofs.Steps.{memory_or, no_head, fault_of_head, fault_behind_head, only_memory, whole_of_sent, found_of_read}
 use Rattle.std.proofs.Common.{inr, refl}
 use Rattle.flu_receiving.specs.declared.fault.PartialFault.TheVariants.{Incomplete}
@@ -11,8 +11,9 @@ use Rattle.flu_receiving.proofs.receiving.read_partial.Goals as goal
 
 pub returns-in_default-clause-found : goal.returns-in_default-clause-found
 returns-in_default-clause-found c h cs whole sendable =
+    let p = c.args.p.now in
     let bytes = c.args.bytes.now in
-    only_memory c.contributions_have_one_text.ensures c.args.p.now bytes Incomplete h cs (inr (no_head c.args.p.now bytes c.in_default.ensures.none)) whole sendable
+    only_memory c.contributions_have_one_text.ensures p bytes Incomplete h cs (inr (no_head p bytes c.in_default.ensures.none)) whole sendable
 
 pub returns-in_err-head-clause-found : goal.returns-in_err-head-clause-found
 returns-in_err-head-clause-found c h cs whole sendable =

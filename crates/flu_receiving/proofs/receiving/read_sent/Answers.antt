@@ -1,4 +1,4 @@
-use Rattle.std.proofs.Common.{◌≡◌, List, ◌++◌, ◌∷◌, sym, subst, arith}
+use Rattle.std.proofs.Common.{List, sym, subst, arith}
 use Rattle.std.proofs.lemmas.Result.{err_from_is_err_and}
 use Rattle.flu_contribution.specs.declared.contributing.Handed.{Handed}
 use Rattle.flu_partial.specs.declared.order.Reached.TheVariants.{Head}
@@ -27,9 +27,10 @@ lines-preserved c =
     let reached = c.take_line.new.lines in
     let taken = c.in_ok-taken.taken in
     let is = c.in_ok-taken.ensures.taken in
-    let came = next_came p bytes rest line behind c.lines.lines reached c.lines.sent.items c.lines.last taken c.lines.invariant.came c.in-Some.ensures.bytes is in
+    let old = c.lines.invariant in
+    let came = next_came p bytes rest line behind c.lines.lines reached c.lines.sent.items c.lines.last taken old.came c.in-Some.ensures.bytes is in
     record {
       came = subst (λ (handed : List Handed). HaveCome p bytes behind reached handed taken.last) (sym c.in_ok-push.ensures.items) came;
-      faults = faults_behind p bytes rest line behind c.lines.number c.lines.lines reached taken c.lines.invariant.faults c.in-Some.ensures.line is;
+      faults = faults_behind p bytes rest line behind c.lines.number c.lines.lines reached taken old.faults c.in-Some.ensures.line is;
       few = omega (arith, c.in-Some.ensures.fewer);
     }
