@@ -1,0 +1,5 @@
+pub mod Faulty
+pub mod Feeds
+pub mod Steps
+pub mod Unbroken
+pub mod Wholes
