@@ -12,9 +12,8 @@ use Rattle.flu_model.specs.declared.jobs.Program.{Program}
 use Rattle.flu_model.specs.declared.plans.Node.{Node}
 use Rattle.flu_model.specs.Itags.{count_of_itags, source_of_itag}
 use Rattle.flu_model.specs.Merging.{events_of}
-use Rattle.flu_model.specs.Streaming.{are_streams}
 use Rattle.flu_outside.specs.Outside.{Contents}
-use Rattle.flu_streams.specs.Good.{lists_of}
+use Rattle.flu_streams.specs.Good.{AreGood, lists_of}
 use Rattle.flu_apart.specs.Classes.{itag}
 use Rattle.flu_contribution.specs.Sharing.{AgreeOn, ArePartsFor}
 use Rattle.flu_selected.specs.Laws.{LawOfLists, LawOfLength, selected}
@@ -47,7 +46,7 @@ pub agree_on_read : LawOfLists → LawOfLength → (p : Program) (test : ℕ →
 agree_on_read lists lengths p test left = λ i is. ap events_of (same_list lists lengths p test left i is)
 
 -- what each of the nodes has read
-pub each_reads : ANodeReadsItsPart → (p : Program) (nodes : List Node) (left : Contents) → are_streams 0 (lists_of p left) ≡ true → (ws : List ℕ)
+pub each_reads : ANodeReadsItsPart → (p : Program) (nodes : List Node) (left : Contents) → AreGood p left → (ws : List ℕ)
     → ArePartsFor p nodes (lists_of p left) ws (map (part_read p nodes left) ws)
-each_reads node p nodes left streams [] = tt
-each_reads node p nodes left streams (w ∷ ws) = (node p nodes w left streams, each_reads node p nodes left streams ws)
+each_reads node p nodes left good [] = tt
+each_reads node p nodes left good (w ∷ ws) = (node p nodes w left good, each_reads node p nodes left good ws)
