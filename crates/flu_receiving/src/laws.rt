@@ -1,6 +1,7 @@
 //! Laws of partials that are read, each the contract of a function that does nothing.
 
-ghost use Rattle.flu_receiving.specs.Laws.{BytesHaveOneFault, CutPartialsAreNotWhole, FaultyBytesAreNotWhole, PartialsHaveOneText, PrintedPartialsAreWhole, WhatIsSentIsReceived};
+ghost use Rattle.flu_receiving.specs.Laws.{BytesHaveOneFault, CutPartialsAreNotWhole, FaultyBytesAreNotWhole, PartialsHaveOneText};
+ghost use Rattle.flu_receiving.specs.Laws.{PrintedPartialsAreWhole, WhatIsSentIsReceived};
 
 /// No bytes have two first faults.
 pub fn bytes_have_one_fault()
