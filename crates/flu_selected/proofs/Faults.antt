@@ -148,7 +148,7 @@ closed_sound form kinds s held few =
     ap (first_of kinds s held) (end_read form) ∙ rw fails refl
 
 -- ---- the items of the sources before
-before-push : {X : Type 0} (before xs : List X) (x : X) → with_before before (xs ++ x ∷ []) ≡ with_before before xs ++ (before ++ xs, x) ∷ []
+pub before-push : {X : Type 0} (before xs : List X) (x : X) → with_before before (xs ++ x ∷ []) ≡ with_before before xs ++ (before ++ xs, x) ∷ []
 before-push before [] x = ap (λ (front : List _). (front, x) ∷ []) (sym (append-nil before))
 before-push before (y ∷ ys) x =
     ap (λ rest. (before, y) ∷ rest) (before-push (before ++ y ∷ []) ys x ∙ ap (λ front. with_before (before ++ y ∷ []) ys ++ (front, x) ∷ []) (append_assoc before (y ∷ []) ys))

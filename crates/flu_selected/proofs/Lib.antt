@@ -3,3 +3,4 @@ mod Keeping
 mod Names
 mod Lists
 mod Faults
+mod ReadSources

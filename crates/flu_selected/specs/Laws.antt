@@ -1,5 +1,5 @@
 -- What is read of a job where the files of some of its sources are closed.
-use Rattle.std.specs.Prelude.{◌≡◌, ℕ, ◌<◌, Bool, true, Option, Some, None, option_map, List, [], ◌∷◌, length, slice_index_or, sum_by, if◌then◌else◌}
+use Rattle.std.specs.Prelude.{◌≡◌, ℕ, ◌<◌, Bool, true, false, Option, Some, None, option_map, List, [], ◌∷◌, length, slice_index_or, sum_by, if◌then◌else◌}
 use Rattle.std.specs.List.{filter_map}
 use Rattle.flu_model.specs.declared.events.Item.{Item}
 use Rattle.flu_model.specs.declared.events.Item.TheVariants.{End as EndItem}
@@ -17,7 +17,7 @@ use Rattle.flu_streams.specs.Before.{each_with_before, first_some}
 use Rattle.flu_streams.specs.Good.{rows_in, first_fault, AreGood, lists_of}
 use Rattle.flu_streams.specs.Tags.{width}
 use Rattle.flu_streams.specs.Tests.{items_of, first_defect}
-use Rattle.flu_selected.specs.Selecting.{closed_at}
+use Rattle.flu_selected.specs.Selecting.{with_closed, is_among, closed_at}
 
 -- the file of a source that is not read; a source's number is how many come before it
 abbrev pub closed_file : (ℕ → Bool) → List Source × Source → Option (List ℕ)
@@ -30,6 +30,14 @@ closed_files p is_read = filter_map (closed_file is_read) (each_with_before p.so
 -- what the names have left where these files are closed
 abbrev pub selected : Program → (ℕ → Bool) → Contents → Contents
 selected p is_read left = closed_at (closed_files p is_read) left
+
+-- a name that is not closed has what it has, whatever is left under the closed ones
+abbrev pub OpenNamesAgree : Type 0
+OpenNamesAgree = (lines left : Contents) (name : List ℕ) → lines name ≡ None → with_closed lines left name ≡ left name
+
+-- and before anything is taken, where the closed ones are known: a name that is not among them
+abbrev pub OpenNamesAgreeAtStart : Type 0
+OpenNamesAgreeAtStart = (names : List (List ℕ)) (left : Contents) (name : List ℕ) → is_among names name ≡ false → closed_at names left name ≡ left name
 
 -- LAW OF LISTS: the items of the itags of a read source are those that its file gives, and an itag of another source has its end alone
 abbrev pub LawOfLists : Type 0

@@ -3,3 +3,4 @@ pub mod Closed
 pub mod Origin
 pub mod Shared
 pub mod Laws
+pub mod Gathering

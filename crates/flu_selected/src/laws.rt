@@ -1,6 +1,12 @@
 //! Laws of what is read where files are closed, each the contract of a function that does nothing.
 
-ghost use Rattle.flu_selected.specs.Laws.{LawOfLists, LawOfLength, StreamsStay, LawOfDefects, GoodStayGood};
+ghost use Rattle.flu_selected.specs.Laws.{OpenNamesAgree, OpenNamesAgreeAtStart, LawOfLists, LawOfLength, StreamsStay, LawOfDefects, GoodStayGood};
+
+/// A name that is not closed has what the files behind have under it, at every moment.
+pub fn open_names_agree()
+    ensures always { OpenNamesAgree }
+    ensures at_start { OpenNamesAgreeAtStart }
+{}
 
 /// The law of lists: where the files of some sources are closed, the items of the itags of a source that is read are those that its file
 /// gives, and an itag of another source has its end alone. There is a list for each itag,
