@@ -1,8 +1,12 @@
 pub mod Using
 pub mod States
 pub mod Outputs
+pub mod Needed
 pub mod Steps
 pub mod Whole
 pub mod Streams
 pub mod Places
+pub mod Merged
+pub mod Sent
+pub mod Reading
 pub mod KeptLemmas

@@ -25,6 +25,7 @@ use Rattle.flu_apart.specs.Classes.{is_used}
 use Rattle.flu_contribution.specs.Contributions.{keeps, is_inside, is_above, opened, contributions}
 use Rattle.flu_contribution.specs.Combining.{Combined, Queue, with_effect, combined_from, is_of_none, is_kept_by_one, combined}
 use Rattle.flu_contribution.specs.Laws.{NoneIsWithin, IsApart, AreNodesApart, AreInRange, GivesTheFold}
+use Rattle.flu_contribution.proofs.Needed.{taken, passed}
 use Rattle.flu_contribution.proofs.Using.{Known, written_is_used, kept_unused, used_elsewhere, keeps_used}
 use Rattle.flu_contribution.proofs.States.{Open, total, joined_if, outer, stepped, closed_into, Holds, AllHold, AllApart, AllFree, AllElsewhere, stepped_node}
 use Rattle.flu_contribution.proofs.States.{outside_holds, within_holds, closed_holds, stepped_hold, closed_total, outside_total, all_neutral}
@@ -104,7 +105,7 @@ module _ (p : Program) (nodes : List Node) (known : Known p nodes) where
   apart_stays x [] a = tt
   apart_stays x (o ∷ os) a = (apart_from x o.node (stepped p nodes x o).node os (stepped_node p nodes known x o) a.0, apart_stays x os a.1)
 
-  nodes_stay : (x : Event) (os : List Open) → map (λ (o : Open). o.node) (map (stepped p nodes x) os) ≡ map (λ (o : Open). o.node) os
+  pub nodes_stay : (x : Event) (os : List Open) → map (λ (o : Open). o.node) (map (stepped p nodes x) os) ≡ map (λ (o : Open). o.node) os
   nodes_stay x [] = refl
   nodes_stay x (o ∷ os) = let here = stepped_node p nodes known x o in let more = nodes_stay x os in λ j. here j ∷ more j
 
@@ -115,7 +116,7 @@ module _ (p : Program) (nodes : List Node) (known : Known p nodes) where
     pub apart : AllApart p nodes os
     pub free : AllFree p nodes r os
 
-  good_inside : (x : Event) (r : Contents) (os : List Open) → x.itag.0 < count_of_itags p → Good r os → Good r (map (stepped p nodes x) os)
+  pub good_inside : (x : Event) (r : Contents) (os : List Open) → x.itag.0 < count_of_itags p → Good r os → Good r (map (stepped p nodes x) os)
   good_inside x r os lt g = record {
     sorts = g.sorts;
     hold = stepped_hold p nodes known x os lt g.hold;
@@ -123,7 +124,7 @@ module _ (p : Program) (nodes : List Node) (known : Known p nodes) where
     free = free_stays x r os g.free;
   }
 
-  good_outside : (x : Event) (r : Contents) (os : List Open) → x.itag.0 < count_of_itags p → AllElsewhere p nodes x os → Good r os
+  pub good_outside : (x : Event) (r : Contents) (os : List Open) → x.itag.0 < count_of_itags p → AllElsewhere p nodes x os → Good r os
       → Good (effect_of p (closed_into p nodes x r os) x).cells (map (stepped p nodes x) os)
   good_outside x r os lt out g = record {
     sorts = known.lawful.next_holds (closed_into p nodes x r os) x (closed_holds p nodes known x r os g.sorts g.hold);
@@ -138,7 +139,7 @@ module _ (p : Program) (nodes : List Node) (known : Known p nodes) where
     pub cells : result.cells ≡ state_after p s xs
     pub outputs : IsPermutation (b ++ outputs_of p s xs) result.outputs
 
-  all_elsewhere : (x : Event) (os : List Open) → is_in_one p nodes x os ≡ false → AllElsewhere p nodes x os
+  pub all_elsewhere : (x : Event) (os : List Open) → is_in_one p nodes x os ≡ false → AllElsewhere p nodes x os
   all_elsewhere x [] e = tt
   all_elsewhere x (o ∷ os) e = (
     false_if_not _ (λ h. not_both _ (or_left (is_inside p nodes o.node x) (is_in_one p nodes x os) h) e),
@@ -149,15 +150,9 @@ module _ (p : Program) (nodes : List Node) (known : Known p nodes) where
   any_node x [] = refl
   any_node x (o ∷ os) = let more = any_node x os in ap (λ b. is_inside p nodes o.node x || b) more
 
-  none_by : (x : Event) (os : List Open) (ws : List ℕ) (b : Bool) → map (λ (o : Open). o.node) os ≡ ws → is_in_one p nodes x os ≡ b
+  pub none_by : (x : Event) (os : List Open) (ws : List ℕ) (b : Bool) → map (λ (o : Open). o.node) os ≡ ws → is_in_one p nodes x os ≡ b
       → is_of_none p nodes ws x ≡ not b
   none_by x os ws b e f = ap not (ap (list_any (λ w. is_inside p nodes w x)) (sym e) ∙ any_node x os ∙ f)
-
-  passed : (test : Event → Bool) (x : Event) (xs : List Event) → test x ≡ false → filter test (x ∷ xs) ≡ filter test xs
-  passed test x xs e = ap (λ b. cond b (x ∷ filter test xs) (filter test xs)) e
-
-  taken : (test : Event → Bool) (x : Event) (xs : List Event) → test x ≡ true → filter test (x ∷ xs) ≡ x ∷ filter test xs
-  taken test x xs e = ap (λ b. cond b (x ∷ filter test xs) (filter test xs)) e
 
   after_inside : (x : Event) (xs : List Event) (r : Contents) (b : List Out) (os : List Open) (result : Combined) → InsideStep p nodes known x r os
       → Gives xs (total r (map (stepped p nodes x) os)) (outs b (map (stepped p nodes x) os)) result → Gives (x ∷ xs) (total r os) (outs b os) result
@@ -312,28 +307,32 @@ module _ (p : Program) (nodes : List Node) (known : Known p nodes) where
   start_outs opening [] = refl
   start_outs opening (w ∷ ws) = start_outs opening ws
 
-  start_nodes : (opening : Contents) (ws : List ℕ) → map (λ (o : Open). o.node) (map (start opening) ws) ≡ ws
+  pub start_nodes : (opening : Contents) (ws : List ℕ) → map (λ (o : Open). o.node) (map (start opening) ws) ≡ ws
   start_nodes opening [] = refl
   start_nodes opening (w ∷ ws) = ap (λ l. w ∷ l) (start_nodes opening ws)
 
-  start_queues : (opening : Contents) (ws : List ℕ) (xs : List Event)
+  pub start_queues : (opening : Contents) (ws : List ℕ) (xs : List Event)
       → map (queue_at p nodes xs) (map (start opening) ws) ≡ map (λ w. record { node = w; waiting = contributions p nodes w opening xs }) ws
   start_queues opening [] xs = refl
   start_queues opening (w ∷ ws) xs =
       let here : Queue = record { node = w; waiting = contributions p nodes w opening xs } in
       ap (λ l. here ∷ l) (start_queues opening ws xs)
 
+  pub good_start : (ws : List ℕ) (opening : Contents) → IsStateOf p.families opening → AreNodesApart p nodes ws
+      → Good (outside (is_kept_by_one p nodes ws) opening) (map (start opening) ws)
+  good_start ws opening sorts apart = record {
+    sorts = outside_holds p nodes known (is_kept_by_one p nodes ws) opening sorts;
+    hold = starts_hold opening ws sorts apart.each;
+    apart = starts_apart opening ws apart.none_within;
+    free = starts_free opening (outside (is_kept_by_one p nodes ws) opening) ws (λ c e. ap (λ b. cond b None (opening c)) e);
+  }
+
   pub gives_the_fold : (ws : List ℕ) (opening : Contents) (xs : List Event) → IsStateOf p.families opening → AreNodesApart p nodes ws → AreInRange p xs
       → GivesTheFold p nodes ws opening xs
   gives_the_fold ws opening xs sorts apart range =
       let left : Contents = outside (is_kept_by_one p nodes ws) opening in
       let r : Combined = record { cells = left; outputs = [] } in
-      let good : Good left (map (start opening) ws) = record {
-        sorts = outside_holds p nodes known (is_kept_by_one p nodes ws) opening sorts;
-        hold = starts_hold opening ws sorts apart.each;
-        apart = starts_apart opening ws apart.none_within;
-        free = starts_free opening left ws (λ c e. ap (λ b. cond b None (opening c)) e);
-      } in
+      let good : Good left (map (start opening) ws) = good_start ws opening sorts apart in
       let all = gives xs r (map (start opening) ws) ws (start_nodes opening ws) good range in
       let state = opening_total opening ws apart.none_within in
       let before = start_outs opening ws in

@@ -1,4 +1,6 @@
 pub mod Contributions
 pub mod Combining
 pub mod Laws
+pub mod Sending
+pub mod Sharing
 pub mod Parts

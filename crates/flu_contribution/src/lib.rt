@@ -7,6 +7,7 @@ ghost use Rattle.flu_contribution.specs.Laws.{ContributionsGiveTheFold, Contribu
 mod combining;
 mod contributing;
 mod kept;
+pub mod laws;
 
 pub use combining::Combining;
 pub use contributing::{Contributing, Handed};

@@ -1,0 +1,5 @@
+pub mod Alike
+pub mod Filled
+pub mod Named
+pub mod OfFamilies
+pub mod Rising

@@ -1,0 +1,3 @@
+pub mod Handing
+pub mod Laws
+pub mod Parts
