@@ -1,3 +1,4 @@
+pub mod Alike
 pub mod Faulty
 pub mod Feeds
 pub mod Steps

@@ -1,6 +1,7 @@
 //! Laws of partials that are read, each the contract of a function that does nothing.
 
-ghost use Rattle.flu_receiving.specs.Laws.{BytesHaveOneFault, CutPartialsAreNotWhole, FaultyBytesAreNotWhole, PartialsHaveOneText, PrintedPartialsAreWhole};
+ghost use Rattle.flu_receiving.specs.Laws.{BytesHaveOneFault, CutPartialsAreNotWhole, FaultyBytesAreNotWhole, PartialsHaveOneText};
+ghost use Rattle.flu_receiving.specs.Laws.{PrintedPartialsAreWhole, WhatIsSentIsReceived};
 
 /// No bytes have two first faults.
 pub fn bytes_have_one_fault()
@@ -35,4 +36,14 @@ pub fn cut_partials_are_not_whole()
     ensures { CutPartialsAreNotWhole }
 {
     flu_partial::contributions_have_one_text();
+}
+
+/// What is read of a whole partial whose lines are those of what was handed over is alike for a report, in order, and has the head and the
+/// last time with which it was sent.
+pub fn what_is_sent_is_received()
+    ensures { WhatIsSentIsReceived }
+{
+    flu_partial::heads_have_one_text();
+    flu_partial::contributions_have_one_text();
+    flu_handover::lines_determine();
 }
