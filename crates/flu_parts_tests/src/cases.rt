@@ -142,6 +142,7 @@ pub fn files_of(alloc: Global, case: Case, seed: u32) -> Result<HonestFiles, All
 }
 
 // The numbers that a seed draws, one after another.
+#[derive(Drop)]
 struct Draws {
     last: u32,
     ghost small: { last < 2 ^ 31 },

@@ -15,10 +15,11 @@ fn is_read(alloc: Global, program: &Program, bytes: &[u8]) -> bool {
 }
 
 /// Each proper prefix is refused: where it ends within a line or before the last one, as incomplete.
-fn cut<R: Abort>(rt: &R, alloc: Global, program: &Program, text: &[u8]) -> Result<(), Fail> {
-    assert!(rt; is_read(alloc, program, text));
-    for end in 0..text.len() {
-        let Err(fault) = read_partial(alloc, program, &text[..end]) else {
+fn cut<R: Abort>(rt: &R, alloc: Global, program: &Program, text: &str) -> Result<(), Fail> {
+    let bytes = text.as_bytes();
+    assert!(rt; is_read(alloc, program, bytes));
+    for end in 0..bytes.len() {
+        let Err(fault) = read_partial(alloc, program, &bytes[..end]) else {
             assert!(rt; false, "{end}");
             return Ok(());
         };
@@ -51,7 +52,6 @@ fn with_line(
 /// Each line that stands before the one before it, and each that stands twice, is refused at the first place where that is seen.
 fn moved<R: Abort>(rt: &R, alloc: Global, program: &Program, text: &str) -> Result<(), Fail> {
     let count = text.lines().count();
-    assert!(rt; count > 3, "{count}");
     for from in 1..count {
         let to = from.saturating_sub(1);
         let swapped = with_line(alloc, text, from, to, false)?;
@@ -68,32 +68,41 @@ fn moved<R: Abort>(rt: &R, alloc: Global, program: &Program, text: &str) -> Resu
     Ok(())
 }
 
+/// The texts that a node sends of rows that seeds draw are checked, of which some have three lines or more.
+fn each_text<R: Abort>(
+    rt: &R,
+    alloc: Global,
+    w: u32,
+    check: fn(&R, Global, &Program, &str) -> Result<(), Fail>,
+) -> Result<(), Fail> {
+    let both = judged(alloc, STATIONS)?;
+    assert!(rt; both.is_some());
+    let (checked, valid) = both.unwrap();
+    let mut long = 0u32;
+    for seed in 0..6 {
+        let drawn = Drawn {
+            case: STATIONS,
+            seed,
+        };
+        let text = partial(alloc, drawn, &checked, &valid, w)?;
+        let text = str::from_utf8(text.as_slice());
+        assert!(rt; text.is_ok());
+        let text = text.unwrap();
+        check(rt, alloc, checked.program(), text)?;
+        if text.lines().count() > 2 {
+            long = long.saturating_add(1);
+        }
+    }
+    assert!(rt; long > 2, "{long}");
+    Ok(())
+}
+
 #[test]
 fn a_text_that_is_cut(rt: HostRuntime) -> Result<(), Fail> {
-    let alloc = rt.alloc();
-    let both = judged(alloc, STATIONS)?;
-    assert!(&rt; both.is_some());
-    let (checked, valid) = both.unwrap();
-    let drawn = Drawn {
-        case: STATIONS,
-        seed: 3,
-    };
-    let text = partial(alloc, drawn, &checked, &valid, 1)?;
-    cut(&rt, alloc, checked.program(), text.as_slice())
+    each_text(&rt, rt.alloc(), 1, cut)
 }
 
 #[test]
 fn lines_in_another_order(rt: HostRuntime) -> Result<(), Fail> {
-    let alloc = rt.alloc();
-    let both = judged(alloc, STATIONS)?;
-    assert!(&rt; both.is_some());
-    let (checked, valid) = both.unwrap();
-    let drawn = Drawn {
-        case: STATIONS,
-        seed: 3,
-    };
-    let text = partial(alloc, drawn, &checked, &valid, 2)?;
-    let text = str::from_utf8(text.as_slice());
-    assert!(&rt; text.is_ok());
-    moved(&rt, alloc, checked.program(), text.unwrap())
+    each_text(&rt, rt.alloc(), 2, moved)
 }

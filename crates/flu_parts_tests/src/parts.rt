@@ -14,9 +14,9 @@ use flu_model::{Name, Program, Streams, Text};
 use flu_parse::print_job;
 use flu_partial::{PartialHead, push_head};
 use flu_plan::print_plan;
-use flu_readers::{SourcesRead, closed_names, sources_of_node, sources_of_rest};
+use flu_readers::{SourcesRead, sources_of_node, sources_of_rest};
 use flu_report::report_text;
-use flu_selected::Selected;
+use flu_selected::gather_selected;
 use flu_sending::{first_time, push_sent};
 use flu_seq::fold;
 use flu_streams::gather;
@@ -48,9 +48,16 @@ fn selected(
 ) -> Result<Streams, Fail>
     ensures { IfOk result (λ streams. length (listed streams) ≡ count_of_itags program.now) }
 {
-    let closed = closed_names(alloc, program, read)?;
     let mut files = files_of(alloc, drawn.case, drawn.seed)?;
-    Ok(gather(alloc, program, &mut Selected::new(&mut files, closed))?)
+    Ok(gather_selected(alloc, program, read.as_slice(), &mut files)?)
+}
+
+// The name of a node of a plan.
+fn name_of(valid: &Valid, w: u32) -> &str {
+    match valid.plan().nodes.items().get(w as usize) {
+        Some(node) => node.name.as_str(),
+        None => "",
+    }
 }
 
 /// The text of what a node apart sends, which reads only the sources that it needs.
@@ -70,7 +77,7 @@ pub fn partial(
     let head = PartialHead {
         first: first_time(program, &streams),
         job: print_job(alloc, program)?,
-        node: Name::of(String::from_str(alloc, "node")?),
+        node: Name::of(String::from_str(alloc, name_of(valid, w))?),
         plan: print_plan(alloc, program, valid.plan())?,
     };
     push_head(alloc, &mut text, &head)?;
