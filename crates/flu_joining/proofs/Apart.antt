@@ -23,7 +23,7 @@ use Rattle.flu_joining.specs.Joining.{is_last_alone}
 use Rattle.flu_joining.specs.Laws.{WhatIsSentIsUsedUp}
 use Rattle.flu_joining.proofs.Behind.{rest_behind, behind_each, sent_last_alone}
 
-inside_by : (p : Program) (nodes : List Node) (w v : ℕ) (i : Itag) → owner_of p nodes i ≡ Some v → subtree_owns p nodes w i ≡ is_within nodes w v
+pub inside_by : (p : Program) (nodes : List Node) (w v : ℕ) (i : Itag) → owner_of p nodes i ≡ Some v → subtree_owns p nodes w i ≡ is_within nodes w v
 inside_by p nodes w v i e = rw e refl
 
 above_by : (p : Program) (nodes : List Node) (w v : ℕ) (i : Itag) → owner_of p nodes i ≡ Some v

@@ -19,17 +19,15 @@ use Rattle.flu_contribution.specs.Laws.{AreInRange}
 use Rattle.flu_contribution.specs.Sharing.{is_itag_of_none}
 use Rattle.flu_joining.specs.Joining.{events_of_none}
 use Rattle.flu_joining.specs.Parts.{has_itag}
+use Rattle.flu_joining.proofs.Apart.{inside_by}
 use Rattle.flu_joining.proofs.Ranges.{merged_in_range}
 
 -- ---- itags
-inside_by : (p : Program) (nodes : List Node) (w v : ℕ) (i : Itag) → owner_of p nodes i ≡ Some v → is_within nodes w v ≡ subtree_owns p nodes w i
-inside_by p nodes w v i e = rw e refl
-
 pub inside_one : (p : Program) (nodes : List Node) (ws : List ℕ) (i : Itag) (v : ℕ) → owner_of p nodes i ≡ Some v
     → list_any (λ w. is_within nodes w v) ws ≡ list_any (λ w. subtree_owns p nodes w i) ws
 inside_one p nodes [] i v e = refl
 inside_one p nodes (w ∷ ws) i v e =
-    let here = inside_by p nodes w v i e in
+    let here = sym (inside_by p nodes w v i e) in
     let more = inside_one p nodes ws i v e in
     λ j. here j || more j
 

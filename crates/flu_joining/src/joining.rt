@@ -22,7 +22,7 @@ use flu_seq::merge;
 use std::alloc::Global;
 
 /// Joins what nodes apart sent to the fold of the events that are inside none of them, from the empty state: the state and the outputs.
-/// There is a queue for each node; the streams have one list for each itag, and their events inside a node are passed over.
+/// A queue has what one node sent. The streams have one list for each itag; their events inside one of the nodes are passed over.
 ///
 /// Before each event the first contribution of each queue is joined if it names the event, by its time and itag, and at the end the one
 /// that is left in each. `laws` says when that is the state and the report of all events.
@@ -32,8 +32,8 @@ use std::alloc::Global;
 ///
 /// # Errors
 ///
-/// `LeftOver` only where a queue is not used up: behind the last event something else waits in it than one contribution that names no
-/// event; and then there is no Ok. `NoMemory` only if memory runs out.
+/// `LeftOver` if a queue is not used up, with the first such: behind the last event something else waits in it than one contribution
+/// that names no event. `NoMemory` only if memory runs out.
 pub fn join_sent(
     alloc: Global,
     c: &Checked,

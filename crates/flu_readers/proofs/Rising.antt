@@ -1,5 +1,6 @@
 -- Rows whose times are all different rise once they are in order of time. The end of a source has no time, so it may stand anywhere.
-use Rattle.std.proofs.Common.{◌≡◌, ◌≤◌, ◌+◌, ℕ, Bool, true, false, List, [], ◌∷◌, ◌++◌, Option, Some, None, refl, sym, ap, subst, ◌∙◌, inl, inr, append_assoc, arith}
+use Rattle.std.proofs.Common.{◌≡◌, ◌≤◌, ◌+◌, ℕ, Bool, true, false, List, [], ◌∷◌, ◌++◌, Option, Some, None}
+use Rattle.std.proofs.Common.{refl, sym, ap, subst, ◌∙◌, inl, inr, append_assoc, arith}
 use Rattle.std.specs.Prelude.{◌==◌, ◌||◌, nat_lt, option_map, ⊤}
 use Rattle.std.specs.List.{list_any}
 use Rattle.std.proofs.lemmas.Bool.{cases_Bool, or_parts}
@@ -21,7 +22,8 @@ use Rattle.flu_streams.specs.declared.faults.Why.TheVariants.{AfterEnd}
 use Rattle.flu_streams.specs.Before.{with_before, or_else, first_some}
 use Rattle.flu_streams.specs.Good.{time_at, in_time_order}
 use Rattle.flu_streams.specs.Tags.{width}
-use Rattle.flu_streams.specs.Tests.{rows_of, row_in, has_ended, times_of, items_of, where_true, test_tag, test_fields, test_time, test_times, fault_of, defect_of, first_of}
+use Rattle.flu_streams.specs.Tests.{rows_of, row_in, has_ended, times_of, items_of}
+use Rattle.flu_streams.specs.Tests.{where_true, test_tag, test_fields, test_time, test_times, fault_of, defect_of, first_of}
 
 -- ---- rows that rise
 -- the times of events and heartbeats rise from `low` on
