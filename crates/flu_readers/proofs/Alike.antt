@@ -74,7 +74,8 @@ closed_alike names a b name same =
 all_alike : (a b : Contents) (sources : List Source) → ((name : List ℕ) → Contains (files_of sources) name → a name ≡ b name) → Alike a b sources
 all_alike a b [] same = tt
 all_alike a b (s ∷ sources) same =
-    (same s.file (contains_here s.file (files_of sources)), all_alike a b sources (λ name there. same name (contains_later s.file name (files_of sources) there)))
+    let files = files_of sources in
+    (same s.file (contains_here s.file files), all_alike a b sources (λ name there. same name (contains_later s.file name files there)))
 
 pub read_files_matter : LawOfDefects → FilesThatAreReadMatter
 read_files_matter defects p is_read left other same =
