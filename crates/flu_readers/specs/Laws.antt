@@ -1,5 +1,5 @@
 -- Where each reads its sources alone, each has what it needs, and what they send and join is the report of all sources.
-use Rattle.std.specs.Prelude.{ℕ, Bool, List, map, IsTrue}
+use Rattle.std.specs.Prelude.{◌≡◌, ℕ, Bool, List, map, IsTrue}
 use Rattle.flu_model.specs.declared.jobs.Program.{Program}
 use Rattle.flu_model.specs.declared.plans.Node.{Node}
 use Rattle.flu_model.specs.Contents.{Contents as Cells}
@@ -8,7 +8,16 @@ use Rattle.flu_outside.specs.Outside.{Contents}
 use Rattle.flu_streams.specs.Good.{AreGood, lists_of}
 use Rattle.flu_contribution.specs.Laws.{AreNodesApart, IsSetting}
 use Rattle.flu_contribution.specs.Sharing.{IsPartFor, IsRestFor, GivesTheReport}
+use Rattle.flu_selected.specs.Gathering.{IsRead}
+use Rattle.flu_selected.specs.Laws.{selected, first_read_fault}
 use Rattle.flu_readers.specs.Reading.{reads, reads_rest, part_read, rest_read, IsReadGood, EachReadsGood}
+
+-- FILES THAT ARE READ MATTER: where these have the same bytes, so have their lists the same items, and the same defect is the first, whatever
+-- the other files have
+abbrev pub FilesThatAreReadMatter : Type 0
+FilesThatAreReadMatter =
+    (p : Program) (is_read : ℕ → Bool) (left other : Contents) → ((name : List ℕ) → IsRead p is_read name → left name ≡ other name)
+    → (lists_of p (selected p is_read left) ≡ lists_of p (selected p is_read other)) × (first_read_fault p is_read left ≡ first_read_fault p is_read other)
 
 -- GOOD SOURCES GIVE STREAMS: where no source has a defect, the lists of the itags are streams
 abbrev pub GoodSourcesGiveStreams : Type 0

@@ -1,7 +1,15 @@
 //! Laws of what is read where nodes of a plan are apart. Each law is the contract of a function that does nothing.
 
-ghost use Rattle.flu_readers.specs.Laws.{GoodSourcesGiveStreams, GoodWhereRead, GoodPartsGiveStreams, ANodeReadsItsPart, TheRestIsRead};
+ghost use Rattle.flu_readers.specs.Laws.{FilesThatAreReadMatter, GoodSourcesGiveStreams, GoodWhereRead, GoodPartsGiveStreams, ANodeReadsItsPart, TheRestIsRead};
 ghost use Rattle.flu_readers.specs.Laws.{SelectedPartsGiveTheReport, GoodSourcesGiveTheReport};
+
+/// Where the files of the sources that are read have the same bytes, what is read of them is the same, and the same defect is the first,
+/// whatever the other files have: each process may have files of its own.
+pub fn files_that_are_read_matter()
+    ensures { FilesThatAreReadMatter }
+{
+    flu_selected::closed_sources_have_no_defect();
+}
 
 /// Where no source has a defect, the lists of the itags are streams, and no source has a defect if only some are read.
 pub fn good_sources_give_streams()
