@@ -1,8 +1,11 @@
 //! The text of a partial that is cut, changed, doubled or put in another order is refused, or says the same, or says something else that
 //! a node could have sent.
 
+ghost use Rattle.std.specs.Prelude.{◌<◌, ◌^◌};
+
 use crate::cases::{STATIONS, judged};
 use crate::parts::{Drawn, partial};
+use flu_deps::Checked;
 use flu_model::Program;
 use flu_receiving::{PartialFault, read_partial};
 use std::alloc::Global;
@@ -68,41 +71,43 @@ fn moved<R: Abort>(rt: &R, alloc: Global, program: &Program, text: &str) -> Resu
     Ok(())
 }
 
-/// The texts that a node sends of rows that seeds draw are checked, of which some have three lines or more.
-fn each_text<R: Abort>(
-    rt: &R,
-    alloc: Global,
-    w: u32,
-    check: fn(&R, Global, &Program, &str) -> Result<(), Fail>,
-) -> Result<(), Fail> {
+/// The job, and the text that a node sends of rows that a seed draws.
+fn sent<R: Abort>(rt: &R, alloc: Global, seed: u32, w: u32) -> Result<(Checked, String), Fail>
+    requires { seed < 2 ^ 31 }
+{
     let both = judged(alloc, STATIONS)?;
     assert!(rt; both.is_some());
     let (checked, valid) = both.unwrap();
-    let mut long = 0u32;
-    for seed in 0..6 {
-        let drawn = Drawn {
-            case: STATIONS,
-            seed,
-        };
-        let text = partial(alloc, drawn, &checked, &valid, w)?;
-        let text = str::from_utf8(text.as_slice());
-        assert!(rt; text.is_ok());
-        let text = text.unwrap();
-        check(rt, alloc, checked.program(), text)?;
-        if text.lines().count() > 2 {
-            long = long.saturating_add(1);
-        }
-    }
-    assert!(rt; long > 2, "{long}");
-    Ok(())
+    let drawn = Drawn {
+        case: STATIONS,
+        seed,
+    };
+    let bytes = partial(alloc, drawn, &checked, &valid, w)?;
+    let text = str::from_utf8(bytes.as_slice());
+    assert!(rt; text.is_ok());
+    let text = String::from_str(alloc, text.unwrap())?;
+    Ok((checked, text))
 }
 
 #[test]
 fn a_text_that_is_cut(rt: HostRuntime) -> Result<(), Fail> {
-    each_text(&rt, rt.alloc(), 1, cut)
+    for seed in 0..6 {
+        let (checked, text) = sent(&rt, rt.alloc(), seed, 1)?;
+        cut(&rt, rt.alloc(), checked.program(), text.as_str())?;
+    }
+    Ok(())
 }
 
 #[test]
 fn lines_in_another_order(rt: HostRuntime) -> Result<(), Fail> {
-    each_text(&rt, rt.alloc(), 2, moved)
+    let mut long = 0u32;
+    for seed in 0..6 {
+        let (checked, text) = sent(&rt, rt.alloc(), seed, 2)?;
+        moved(&rt, rt.alloc(), checked.program(), text.as_str())?;
+        if text.lines().count() > 2 {
+            long = long.saturating_add(1);
+        }
+    }
+    assert!(&rt; long > 2, "{long}");
+    Ok(())
 }

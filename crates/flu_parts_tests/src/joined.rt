@@ -30,8 +30,10 @@ fn queues<R: Abort>(
 {
     let mut queues = Vec::new(alloc);
     for w in nodes {
-        assert!(rt; apart(checked, valid, *w).is_ok(), "node {w} may be apart");
-        let text = partial(alloc, drawn, checked, valid, *w)?;
+        let w = *w;
+        assert!(rt; w < valid.count(), "{w}");
+        assert!(rt; apart(checked, valid, w).is_ok(), "node {w} may be apart");
+        let text = partial(alloc, drawn, checked, valid, w)?;
         let received = read_partial(alloc, checked.program(), text.as_slice())?;
         queues.push(Queue::of(received.sent))?;
     }
