@@ -1,0 +1,6 @@
+mod Ends
+mod Keeping
+mod Names
+mod Lists
+mod Faults
+mod ReadSources

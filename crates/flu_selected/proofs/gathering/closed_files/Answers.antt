@@ -1,0 +1,31 @@
+use Rattle.std.proofs.Common.{◌≡◌, ◌∙◌, sym, ap, ◌<◌, ◌++◌, ◌∷◌, [], length, get_or, take, true, false, List, ℕ}
+use Rattle.std.specs.Prelude.{vec_len}
+use Rattle.std.specs.List.{filter_map}
+use Rattle.flu_model.specs.declared.jobs.Source.{Source}
+use Rattle.flu_streams.specs.Before.{each_with_before}
+use Rattle.flu_selected.proofs.ReadSources.{files_skipped, files_added}
+use Rattle.flu_selected.specs.Gathering.{reads}
+use Rattle.flu_selected.specs.Laws.{closed_file}
+use Rattle.flu_selected.proofs.gathering.closed_files.Goals as goal
+use Rattle.flu_selected.proofs.gathering.closed_files.Goals.{then-not-is_selected+in_ok-name+in_ok-push, else-not-is_selected}
+
+pub loop-number-preserved : goal.loop-number-preserved
+loop-number-preserved c =
+    let sources = c.args.p.now.sources in
+    let i = c.loop-number.number in
+    let x : Source = c.source-item.result in
+    let lt : i < length sources = rw c.items-source-items.ensures at c.loop-number-test.true in
+    let is : x ≡ get_or sources i x = rw c.items-source-items.ensures at c.source-item.is in
+    elim c.if-not-is_selected.branch [
+      | then-not-is_selected+in_ok-name+in_ok-push w ↦
+          let unread : reads c.args.is_read.now i ≡ false = sym w.if-not-is_selected.ensures in
+          let kept : c.if-not-is_selected.names.items ≡ w.push.new.self.items = ap (λ v. v.items) w.names-is in
+          let text : w.of.result ≡ x.file = cc (w.of.ensures, w.in_ok-name.ensures.ok, w.as_str.ensures) in
+          kept ∙ w.in_ok-push.ensures.items ∙ ap (λ (file : List ℕ). c.loop-number.names.items ++ file ∷ []) text
+          ∙ ap (λ (names : List (List ℕ)). names ++ x.file ∷ []) c.loop-number.invariant
+          ∙ sym (files_added c.args.is_read.now sources i x lt is unread)
+      | else-not-is_selected w ↦
+          let read : reads c.args.is_read.now i ≡ true = sym w.if-not-is_selected.ensures in
+          let kept : c.if-not-is_selected.names.items ≡ c.loop-number.names.items = ap (λ v. v.items) w.names-is in
+          kept ∙ c.loop-number.invariant ∙ sym (files_skipped c.args.is_read.now sources i x lt is read)
+    ]

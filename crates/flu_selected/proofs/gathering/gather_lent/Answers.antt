@@ -1,0 +1,105 @@
+use Rattle.std.proofs.Common.{◌≡◌, ◌≤◌, ◌∙◌, sym, ap, subst, ℕ, List, true, Option}
+use Rattle.std.specs.Prelude.{is_some, if◌then◌else◌, Some, None}
+use Rattle.flu_lemmas.specs.Told.{WhereTold}
+use Rattle.flu_model.specs.declared.streams.Streams.{Streams}
+use Rattle.flu_model.specs.Listed.{listed}
+use Rattle.flu_outside.specs.Outside.{Contents}
+use Rattle.flu_streams.specs.Faults.{IsFirstFault}
+use Rattle.flu_streams.specs.Good.{lists_of}
+use Rattle.flu_selected.proofs.ReadSources.{on_ok, if_ok, if_err, counts_open, good_read, of_read, fault_read, out_read, fronts_read, others_read, counts_read}
+use Rattle.flu_selected.proofs.ReadSources.{closed_of_lines}
+use Rattle.flu_selected.specs.Closed.{lines_in}
+use Rattle.flu_selected.specs.Gathering.{reads, IsFirstReadFault}
+use Rattle.flu_selected.specs.Laws.{closed_files, selected}
+use Rattle.flu_selected.specs.Origin.{left_at, ClosedStay}
+use Rattle.flu_selected.specs.Selecting.{is_among, whole_lines, left_beside, counts_beside}
+use Rattle.flu_selected.proofs.gathering.gather_lent.Given.{Over}
+use Rattle.flu_selected.proofs.gathering.gather_lent.Goals as goal
+
+pub new-selected-requires-clause-names : goal.new-selected-requires-clause-names
+new-selected-requires-clause-names g c = λ name.
+    ap (λ (lines : Contents). is_some (lines name)) c.requires.lines ∙ closed_of_lines (closed_files c.args.p.now (reads c.args.is_read.now)) name
+    ∙ c.requires.names name
+
+-- ---- what is known of the files behind at the start and at the end
+start_is : (g : Over) (c : goal.After-into_lent g) → left_beside (g.F.Files.left c.new-selected.result.files.now) (lines_in c.new-selected.result.closed)
+    ≡ left_beside g.K.Origin.left (whole_lines (closed_files c.args.p.now (reads c.args.is_read.now)))
+start_is g c =
+    let made = c.new-selected.result in
+    ap (λ files. left_beside (g.F.Files.left files) (lines_in made.closed)) c.new-selected.ensures.files
+    ∙ ap (λ left. left_beside left (lines_in made.closed)) c.requires.left
+    ∙ ap (λ closed. left_beside g.K.Origin.left (lines_in closed)) c.new-selected.ensures.closed
+    ∙ ap (λ lines. left_beside g.K.Origin.left lines) c.requires.lines
+
+final_is : (g : Over) (c : goal.After-into_lent g)
+    → left_beside (g.F.Files.left c.gather.new.files.files.now) (lines_in c.gather.new.files.closed)
+    ≡ left_beside (g.F.Files.left c.into_lent.result.files.now) (lines_in c.gather.new.files.closed)
+final_is g c = ap (λ files. left_beside (g.F.Files.left files) (lines_in c.gather.new.files.closed)) (sym c.into_lent.ensures.now)
+
+closed_now : (g : Over) (c : goal.After-into_lent g) (n : List ℕ)
+    → is_some (lines_in c.gather.new.files.closed n) ≡ is_among (closed_files c.args.p.now (reads c.args.is_read.now)) n
+closed_now g c n = c.gather.new.files.same_names n ∙ sym (c.requires.names n)
+
+stay : (g : Over) (c : goal.After-into_lent g)
+    → ClosedStay (is_among (closed_files c.args.p.now (reads c.args.is_read.now))) g.K.Origin.left (g.F.Files.left c.into_lent.result.files.now)
+stay g c = λ n closed.
+    ap (λ files. left_at (g.F.Files.left files) n) c.into_lent.ensures.now ∙ c.gather.new.files.left n (sym (c.requires.names n) ∙ closed)
+
+-- ---- the clauses
+pub returns-clause-good : goal.returns-clause-good
+returns-clause-good g c =
+    on_ok c.gather.result (good_read c.args.p.now (reads c.args.is_read.now) _ _ _ _ _ (start_is g c) (final_is g c) (closed_now g c) (stay g c))
+    c.gather.ensures.good
+
+pub returns-clause-lists : goal.returns-clause-lists
+returns-clause-lists g c =
+    let p = c.args.p.now in
+    let is_read = reads c.args.is_read.now in
+    let start = left_beside (g.F.Files.left c.new-selected.result.files.now) (lines_in c.new-selected.result.closed) in
+    let final = left_beside (g.F.Files.left c.gather.new.files.files.now) (lines_in c.gather.new.files.closed) in
+    if_ok (λ (streams : Streams). WhereTold start final (λ old new. listed streams ≡ lists_of p old))
+    (λ (streams : Streams). WhereTold g.K.Origin.left (g.F.Files.left c.into_lent.result.files.now) (λ old new. listed streams ≡ lists_of p (selected p is_read old)))
+    c.gather.result
+    (λ streams t. of_read p is_read _ _ _ _ _ (start_is g c) (final_is g c) (closed_now g c) (stay g c) (λ old. listed streams ≡ lists_of p old) t)
+    c.gather.ensures.lists
+
+pub returns-clause-read_out : goal.returns-clause-read_out
+returns-clause-read_out g c =
+    on_ok c.gather.result (out_read c.args.p.now (reads c.args.is_read.now) _ _ _ _ _ (start_is g c) (final_is g c) (closed_now g c) (stay g c))
+    c.gather.ensures.read_out
+
+pub returns-clause-fault : goal.returns-clause-fault
+returns-clause-fault g c =
+    let p = c.args.p.now in
+    let is_read = reads c.args.is_read.now in
+    let start = left_beside (g.F.Files.left c.new-selected.result.files.now) (lines_in c.new-selected.result.closed) in
+    let final = left_beside (g.F.Files.left c.gather.new.files.files.now) (lines_in c.gather.new.files.closed) in
+    if_err (IsFirstFault p start final) (IsFirstReadFault p is_read g.K.Origin.left (g.F.Files.left c.into_lent.result.files.now))
+    c.gather.result (fault_read p is_read _ _ _ _ _ (start_is g c) (final_is g c) (closed_now g c) (stay g c)) c.gather.ensures.fault
+
+pub returns-clause-fronts : goal.returns-clause-fronts
+returns-clause-fronts g c =
+    fronts_read c.args.p.now (reads c.args.is_read.now) _ _ _ _ _ (start_is g c) (final_is g c) (closed_now g c) (stay g c) c.gather.ensures.fronts
+
+pub returns-clause-others : goal.returns-clause-others
+returns-clause-others g c =
+    others_read c.args.p.now (reads c.args.is_read.now) _ _ _ _ _ (start_is g c) (final_is g c) (closed_now g c) (stay g c) c.gather.ensures.others
+
+pub returns-clause-counts : goal.returns-clause-counts
+returns-clause-counts g c =
+    let left = g.F.Files.left in
+    let faults = g.F.Files.faults in
+    let made = c.new-selected.result in
+    let ended = c.gather.new.files in
+    let back = c.into_lent.result.files.now in
+    let at_start : List ℕ → ℕ = counts_beside (left made.files.now) (lines_in made.closed) (faults made.files.now) in
+    let at_end : List ℕ → ℕ = counts_beside (left ended.files.now) (lines_in ended.closed) (faults ended.files.now) in
+    counts_read c.args.p.now (reads c.args.is_read.now) _ _ _ _ _ (start_is g c) (final_is g c) (closed_now g c) (stay g c) at_start at_end g.K.Origin.faults
+    (faults back) c.gather.ensures.counts
+    (λ n unclosed. counts_open (left made.files.now) (lines_in made.closed) (faults made.files.now) n
+    (made.same_names n ∙ sym (c.requires.names n) ∙ unclosed) ∙ ap (λ files. faults files n) c.new-selected.ensures.files
+    ∙ ap (λ counts. counts n) c.requires.faults)
+    (λ n unclosed. counts_open (left ended.files.now) (lines_in ended.closed) (faults ended.files.now) n (closed_now g c n ∙ unclosed)
+    ∙ ap (λ files. faults files n) (sym c.into_lent.ensures.now))
+    (λ n. subst (λ files. g.K.Origin.faults n ≤ faults files n) (sym c.into_lent.ensures.now) (ended.rise n))
+    (λ n closed there. ap (λ files. faults files n) c.into_lent.ensures.now ∙ ended.apart n (sym (c.requires.names n) ∙ closed) there)

@@ -1,0 +1,46 @@
+-- What reading the selected sources of a job does to the files.
+use Rattle.std.specs.Prelude.{◌≡◌, ℕ, ◌<◌, ◌≤◌, Bool, true, false, List, length, slice_index_or, Contains, Option, Some, IsSome, ⊤}
+use Rattle.flu_lemmas.specs.Named.{IsThere}
+use Rattle.flu_model.specs.declared.jobs.Program.{Program}
+use Rattle.flu_outside.specs.Outside.{Contents, WhereTold, Rose, CountApart}
+use Rattle.flu_outside.specs.Taking.{IsReadOut}
+use Rattle.flu_streams.specs.declared.faults.GatherFault.{GatherFault}
+use Rattle.flu_streams.specs.declared.faults.GatherFault.TheVariants.{Source as SourceFaulty, ReadFault, NoMemory}
+use Rattle.flu_streams.specs.Files.{files_of}
+use Rattle.flu_selected.specs.Laws.{closed_files, first_read_fault}
+use Rattle.flu_selected.specs.Selecting.{is_among}
+
+-- which sources are read: none past the end of the list is
+abbrev pub reads : List Bool → ℕ → Bool
+reads is_read number = slice_index_or is_read number false
+
+-- a name is the file of a source that is read
+abbrev pub IsRead : Program → (ℕ → Bool) → List ℕ → Type 0
+IsRead p is_read name = Contains (files_of p.sources) name × (is_among (closed_files p is_read) name ≡ false)
+
+-- all names but the files of the sources that are read have what they had
+abbrev pub LeavesUnread : Program → (ℕ → Bool) → Contents → Contents → Type 0
+LeavesUnread p is_read old new = (other : List ℕ) → ¬ IsRead p is_read other → new other ≡ old other
+
+-- nothing is left of the file of each source that is read
+abbrev pub ReadAreOut : Program → (ℕ → Bool) → Option Contents → Type 0
+ReadAreOut p is_read left = (name : List ℕ) → IsRead p is_read name → IsReadOut name left
+
+-- No count falls. If the bytes of names are known, that of a name that is not closed is as it was if it is apart from the counts of the
+-- files that are read, and that of a closed one if the name is there.
+pub record CountsOfRead (p : Program) (is_read : ℕ → Bool) (left : Option Contents) (old new : List ℕ → ℕ) : Type 0 where
+  pub rise : (n : List ℕ) → old n ≤ new n
+  pub apart : IsSome left → (n : List ℕ) → is_among (closed_files p is_read) n ≡ false
+      → ((name : List ℕ) → IsRead p is_read name → CountApart left name n) → new n ≡ old n
+  pub closed : (n : List ℕ) → is_among (closed_files p is_read) n ≡ true → IsThere left n → new n ≡ old n
+
+-- the count of the file of a source that is read rose
+abbrev pub OneReadRose : Program → (ℕ → Bool) → (List ℕ → ℕ) → (List ℕ → ℕ) → Type 0
+OneReadRose p is_read old new = (name : List ℕ) × IsRead p is_read name × Rose (old name) (new name)
+
+-- a fault of a source is the first of the read ones, and names a declared source
+abbrev pub IsFirstReadFault : Program → (ℕ → Bool) → Option Contents → Option Contents → GatherFault → Type 0
+IsFirstReadFault p is_read left left' (SourceFaulty f) =
+    (f.source < length p.sources) × WhereTold left left' (λ was now. first_read_fault p is_read was ≡ Some f)
+IsFirstReadFault p is_read left left' ReadFault = ⊤
+IsFirstReadFault p is_read left left' NoMemory = ⊤

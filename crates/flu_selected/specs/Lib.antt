@@ -1,0 +1,6 @@
+pub mod Selecting
+pub mod Closed
+pub mod Origin
+pub mod Shared
+pub mod Laws
+pub mod Gathering

@@ -1,0 +1,116 @@
+//! Reading the sources of a job that are selected.
+
+ghost use Rattle.std.specs.Prelude.{◌≡◌, ◌≢◌, List, ℕ, None, Bool, IsSome, OnOk, IfOk, IfErr, IsErrOf, Err, length};
+ghost use Rattle.flu_model.specs.Itags.{count_of_itags};
+ghost use Rattle.flu_model.specs.Listed.{listed};
+ghost use Rattle.flu_outside.specs.Outside.{WhereTold, SameCounts};
+ghost use Rattle.flu_outside.specs.Taking.{TookFronts};
+ghost use Rattle.flu_streams.specs.Files.{files_of, OneRose};
+ghost use Rattle.flu_streams.specs.Good.{lists_of};
+ghost use Rattle.flu_selected.specs.Closed.{lines_in};
+ghost use Rattle.flu_selected.specs.Laws.{closed_files, selected, first_read_fault};
+ghost use Rattle.flu_selected.specs.Selecting.{whole_lines, is_among};
+ghost use Rattle.flu_selected.specs.Gathering.{reads, LeavesUnread, ReadAreOut, CountsOfRead, OneReadRose, IsFirstReadFault};
+
+use crate::closed::ClosedNames;
+use crate::lent::Lent;
+use crate::origin::Origin;
+use crate::selected::Selected;
+use flu_model::{Program, Streams, Text};
+use flu_outside::Files;
+use flu_streams::{GatherFault, gather};
+use std::alloc::{AllocError, Global};
+use std::marker::Brand;
+
+/// The files of the sources of a job that are not read: `is_read` says by a source's number whether it is.
+pub fn closed_files(alloc: Global, p: &Program, is_read: &[bool]) -> Result<Vec<Text>, AllocError>
+    ensures { IfOk result (λ names. names.items ≡ closed_files p.now (reads is_read.now)) }
+{
+    let mut names = Vec::new(alloc);
+    for (number, source) in p.sources.items().iter().enumerate() {
+        if !is_selected(is_read, number) {
+            let name = String::from_str(alloc, source.file.as_str())?;
+            names.push(Text::of(name))?;
+        }
+    }
+    Ok(names)
+}
+
+// Whether the source with a number is read.
+fn is_selected(is_read: &[bool], number: usize) -> bool
+    ensures { result ≡ reads is_read.now number }
+{
+    number < is_read.len() && is_read[number]
+}
+
+/// Reads each source of a job that is read to its end, as `flu_streams::gather` does, and no other: of these an itag has its end alone.
+/// `is_read` says by a source's number whether it is read.
+///
+/// A source fault is the first defect of the first read source, as declared, that has one.
+pub fn gather_selected<F: Files>(
+    alloc: Global,
+    p: &Program,
+    is_read: &[bool],
+    files: &mut F,
+) -> Result<Streams, GatherFault>
+    ensures good { OnOk result (WhereTold (F.left files.old) (F.left files.new) (λ old new. first_read_fault p.now (reads is_read.now) old ≡ None)) }
+    ensures lists { IfOk result (λ streams. WhereTold (F.left files.old) (F.left files.new) (λ old new. listed streams ≡ lists_of p.now (selected p.now (reads is_read.now) old))) }
+    ensures itags { IfOk result (λ streams. length (listed streams) ≡ count_of_itags p.now) }
+    ensures read_out { OnOk result (ReadAreOut p.now (reads is_read.now) (F.left files.new)) }
+
+    ensures fault { IfErr result (IsFirstReadFault p.now (reads is_read.now) (F.left files.old) (F.left files.new)) }
+
+    // It only takes bytes from the front of the files of the sources that are read, and puts none; and a read fault has its cause there.
+    ensures fronts { WhereTold (F.left files.old) (F.left files.new) TookFronts }
+    ensures others { WhereTold (F.left files.old) (F.left files.new) (LeavesUnread p.now (reads is_read.now)) }
+    ensures counts { CountsOfRead p.now (reads is_read.now) (F.left files.old) (F.faults files.old) (F.faults files.new) }
+    ensures quiet { result ≢ Err GatherFault.ReadFault → SameCounts (F.faults files.old) (F.faults files.new) }
+    ensures puts { SameCounts (F.put_faults files.old) (F.put_faults files.new) }
+    ensures cause { IsErrOf result GatherFault.ReadFault → OneRose (files_of p.now.sources) (F.faults files.old) (F.faults files.new) }
+    ensures read_cause { IsErrOf result GatherFault.ReadFault → IsSome (F.left files.old) → OneReadRose p.now (reads is_read.now) (F.faults files.old) (F.faults files.new) }
+{
+    let Ok(names) = closed_files(alloc, p, is_read) else {
+        return Err(GatherFault::NoMemory);
+    };
+    let Ok(closed) = ClosedNames::new(alloc, names.as_slice()) else {
+        return Err(GatherFault::NoMemory);
+    };
+    let lent = Lent::new(files);
+    let mut gathered = Err(GatherFault::NoMemory);
+    let _ = gather_lent::<F, Brand>(alloc, p, is_read, lent, closed, &mut gathered);
+    gathered
+}
+
+// The same of files that are lent, and of which the files of the sources that are not read are closed. They come back alone: what a value
+// that owns memory holds beside it of a reference is not known.
+fn gather_lent<'f, F: Files, K: Origin>(
+    alloc: Global,
+    p: &Program,
+    is_read: &[bool],
+    lent: Lent<'f, F>,
+    closed: ClosedNames,
+    gathered: &mut Result<Streams, GatherFault>,
+) -> Lent<'f, F>
+    requires reference { lent.files.ghost_name ≡ K.reference }
+    requires names { (name : List ℕ) → is_among (closed_files p.now (reads is_read.now)) name ≡ K.is_closed name }
+    requires left { F.left lent.files.now ≡ K.left }
+    requires faults { F.faults lent.files.now ≡ K.faults }
+    requires lines { lines_in closed ≡ whole_lines (closed_files p.now (reads is_read.now)) }
+    ensures same_reference { result.files.ghost_name ≡ K.reference }
+    ensures good { OnOk gathered.new (WhereTold K.left (F.left result.files.now) (λ old new. first_read_fault p.now (reads is_read.now) old ≡ None)) }
+    ensures lists { IfOk gathered.new (λ streams. WhereTold K.left (F.left result.files.now) (λ old new. listed streams ≡ lists_of p.now (selected p.now (reads is_read.now) old))) }
+    ensures itags { IfOk gathered.new (λ streams. length (listed streams) ≡ count_of_itags p.now) }
+    ensures read_out { OnOk gathered.new (ReadAreOut p.now (reads is_read.now) (F.left result.files.now)) }
+    ensures fault { IfErr gathered.new (IsFirstReadFault p.now (reads is_read.now) K.left (F.left result.files.now)) }
+    ensures fronts { WhereTold K.left (F.left result.files.now) TookFronts }
+    ensures others { WhereTold K.left (F.left result.files.now) (LeavesUnread p.now (reads is_read.now)) }
+    ensures counts { CountsOfRead p.now (reads is_read.now) K.left K.faults (F.faults result.files.now) }
+    ensures quiet { gathered.new ≢ Err GatherFault.ReadFault → SameCounts K.faults (F.faults result.files.now) }
+    ensures puts { SameCounts (F.put_faults lent.entry.files.now) (F.put_faults result.files.now) }
+    ensures cause { IsErrOf gathered.new GatherFault.ReadFault → OneRose (files_of p.now.sources) K.faults (F.faults result.files.now) }
+    ensures read_cause { IsErrOf gathered.new GatherFault.ReadFault → IsSome K.left → OneReadRose p.now (reads is_read.now) K.faults (F.faults result.files.now) }
+{
+    let mut selected: Selected<'f, F, K> = Selected::new(lent, closed);
+    *gathered = gather(alloc, p, &mut selected);
+    selected.into_lent()
+}

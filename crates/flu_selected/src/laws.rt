@@ -1,0 +1,25 @@
+//! Laws of what is read where files are closed, each the contract of a function that does nothing.
+
+ghost use Rattle.flu_selected.specs.Laws.{OpenNamesAgree, OpenNamesAgreeAtStart, LawOfLists, LawOfLength, StreamsStay, LawOfDefects, GoodStayGood};
+
+/// A name that is not closed has what the files behind have under it, at every moment.
+pub fn open_names_agree()
+    ensures always { OpenNamesAgree }
+    ensures at_start { OpenNamesAgreeAtStart }
+{}
+
+/// The law of lists: where the files of some sources are closed, the items of the itags of a source that is read are those that its file
+/// gives, and an itag of another source has its end alone. There is a list for each itag,
+/// and the lists are streams if those of all sources are.
+pub fn selected_sources_are_read()
+    ensures lists { LawOfLists }
+    ensures length { LawOfLength }
+    ensures streams { StreamsStay }
+{}
+
+/// The law of defects: where the files of some sources are closed, the first fault is that of the read sources, where the items that
+/// are counted are those of the read ones alone. And if no source has a defect, none has one then.
+pub fn closed_sources_have_no_defect()
+    ensures first { LawOfDefects }
+    ensures good { GoodStayGood }
+{}
