@@ -1,0 +1,6 @@
+pub mod Chosen
+pub mod Determined
+pub mod Merged
+pub mod Sendable
+pub mod Sorts
+pub mod Widths

@@ -1,0 +1,28 @@
+//! Laws of what a node apart sends, each the contract of a function that does nothing.
+
+ghost use Rattle.flu_sending.specs.Laws.{SentByNeeded, SentByParts, WhatIsSentCanBeHandedOver};
+
+use flu_contribution::laws::{merged_lists_agree, only_needed_events_matter};
+use flu_laws::updates_are_changes;
+use flu_model::laws::itags_have_tags;
+
+/// Each contribution that a node sends of streams can be handed over, and its times and numbers are in the range of a line: the streams have one
+/// list for each itag of the job, with times below 2^63, values of 64 bits, and fewer than 2^64 events. So `flu_handover` makes of its line
+/// something alike.
+pub fn what_is_sent_can_be_handed_over()
+    ensures { WhatIsSentCanBeHandedOver }
+{
+    updates_are_changes();
+    itags_have_tags();
+}
+
+/// What a node sends is determined by the events inside it and above it, in their order. So streams that have all events of the itags that it
+/// needs are enough for it: it sends what it would send of all streams. Only the last time, which stands in the last line, is that of the
+/// streams that it has read.
+pub fn lines_are_determined()
+    ensures events { SentByNeeded }
+    ensures parts { SentByParts }
+{
+    only_needed_events_matter();
+    merged_lists_agree();
+}
