@@ -1,12 +1,11 @@
 -- What is read of a source without a row.
-use Rattle.std.proofs.Common.{◌≡◌, ℕ, List, [], ◌∷◌, refl}
+use Rattle.std.proofs.Common.{◌≡◌, [], ◌∷◌, refl}
 use Rattle.flu_lemmas.specs.Lines.{lines_of}
 use Rattle.csv.specs.Machine.{next_record}
 use Rattle.csv.specs.Reading.{strip_bom}
 use Rattle.flu_rows.specs.declared.row.RowForm.{RowForm}
 use Rattle.flu_rows.specs.declared.row.RowForm.TheVariants.{Older, WithItems}
 use Rattle.flu_rows.specs.declared.row.Row.TheVariants.{End}
-use Rattle.flu_rows.specs.declared.rows.Next.{Next}
 use Rattle.flu_rows.specs.declared.rows.Next.TheVariants.{Row, Done}
 use Rattle.flu_rows.specs.Lines.{line_of, line_of_fields}
 use Rattle.flu_rows.specs.Reading.{read_lines, read_file}

@@ -1,19 +1,17 @@
 -- The first fault where the files of some sources are closed.
-use Rattle.std.proofs.Common.{◌≡◌, ℕ, ◌+◌, ◌<◌, ◌≤◌, ◌∙◌, refl, sym, ap, subst, Bool, true, false, not, List, [], ◌∷◌, ◌++◌, length, append_assoc, arith, Option, Some, None}
+use Rattle.std.proofs.Common.{◌≡◌, ℕ, ◌+◌, ◌≤◌, ◌∙◌, refl, sym, ap, subst, Bool, true, false, not, List, [], ◌∷◌, ◌++◌, length, append_assoc, arith}
+use Rattle.std.proofs.Common.{Option, Some, None}
 use Rattle.std.specs.Prelude.{sum_by, if◌then◌else◌, unwrap_or, option_map, nat_lt}
-use Rattle.std.specs.List.{filter_map, cons_option}
 use Rattle.std.proofs.lemmas.Bool.Decides.{nat_tests}
 use Rattle.std.proofs.lemmas.List.Elements.{filter_map-append}
 use Rattle.std.proofs.lemmas.List.{append-nil}
 use Rattle.std.proofs.lemmas.List.Sums.{sum_by-append}
 use Rattle.flu_model.specs.declared.jobs.Kind.{Kind}
 use Rattle.flu_model.specs.declared.jobs.Source.{Source}
-use Rattle.flu_model.specs.declared.jobs.Program.{Program}
 use Rattle.flu_outside.specs.Outside.{Contents}
 use Rattle.flu_outside.specs.Taking.{bytes_left}
 use Rattle.flu_rows.specs.declared.row.RowForm.{RowForm}
 use Rattle.flu_rows.specs.declared.row.Row.{Row}
-use Rattle.flu_rows.specs.declared.row.Row.TheVariants.{End}
 use Rattle.flu_rows.specs.declared.rows.Next.{Next}
 use Rattle.flu_rows.specs.declared.rows.Next.TheVariants.{Row as RowNext, Bad, TooManyLines, Done}
 use Rattle.flu_rows.specs.Reading.{read_file}
@@ -22,13 +20,14 @@ use Rattle.flu_streams.specs.declared.faults.SourceFault.{SourceFault}
 use Rattle.flu_streams.specs.declared.faults.Why.{Why}
 use Rattle.flu_streams.specs.declared.faults.Why.TheVariants.{AfterEnd, TooMany}
 use Rattle.flu_streams.specs.Before.{with_before, each_with_before, or_else, first_some}
-use Rattle.flu_streams.specs.Good.{rows_in, items_held, fault_of_source, first_fault}
+use Rattle.flu_streams.specs.Good.{rows_in, items_held, fault_of_source}
 use Rattle.flu_streams.specs.Tags.{width}
-use Rattle.flu_streams.specs.Tests.{rows_of, row_in, has_ended, times_of, items_in, items_of, where_true, test_tag, test_fields, test_time, test_items, tests, fault_of, defect_of, first_of, first_defect}
+use Rattle.flu_streams.specs.Tests.{rows_of, row_in, has_ended, times_of, items_in, items_of, where_true, test_tag, test_fields, test_time}
+use Rattle.flu_streams.specs.Tests.{test_items, fault_of, defect_of, first_of, first_defect}
 use Rattle.flu_selected.proofs.Ends.{end_read}
 use Rattle.flu_selected.proofs.Lists.{open_left, closed_left, open_rows, closed_rows}
 use Rattle.flu_selected.proofs.Names.{ClosesOthers, closes_others}
-use Rattle.flu_selected.specs.Laws.{LawOfDefects, GoodStayGood, closed_files, selected, read_items_in, read_items, read_fault, first_read_fault}
+use Rattle.flu_selected.specs.Laws.{LawOfDefects, GoodStayGood, closed_files, read_items_in, read_items, read_fault}
 use Rattle.flu_selected.specs.Selecting.{is_among, closed_at, end_line}
 
 -- ---- what is not there
@@ -110,7 +109,8 @@ lines_few : (kinds : List Kind) (s : Source) (held : ℕ) (done read : List Next
     → first_some (λ e. defect_of kinds s held e.0 e.1) (with_before done read) ≡ None → held + items_of (width s) (rows_of (done ++ read)) ≤ 16777216
 lines_few kinds s held done [] few none = rw append-nil few
 lines_few kinds s held done (next ∷ rest) few none =
-    let both = no_first (defect_of kinds s held done next) (first_some (λ (e : List Next × Next). defect_of kinds s held e.0 e.1) (with_before (done ++ next ∷ []) rest)) none in
+    let both = no_first (defect_of kinds s held done next)
+    (first_some (λ (e : List Next × Next). defect_of kinds s held e.0 e.1) (with_before (done ++ next ∷ []) rest)) none in
     let later : held + items_of (width s) (rows_of ((done ++ next ∷ []) ++ rest)) ≤ 16777216 =
     lines_few kinds s held (done ++ next ∷ []) rest (defect_few kinds s held done next few both.0) both.1 in
     subst (λ (read : List Next). held + items_of (width s) (rows_of read) ≤ 16777216) (append_assoc done (next ∷ []) rest) later
@@ -121,7 +121,8 @@ defect_still kinds s fewer held done (RowNext line row) le none =
     let ended = has_ended (rows_of done) in
     let times = times_of (rows_of done) in
     let more = items_of (width s) (rows_of done) in
-    let passes : fault_of kinds s ended times (held + more) row ≡ None = no_mapped (λ (why : Why). (line, why)) (fault_of kinds s ended times (held + more) row) none in
+    let passes : fault_of kinds s ended times (held + more) row ≡ None =
+    no_mapped (λ (why : Why). (line, why)) (fault_of kinds s ended times (held + more) row) none in
     ap (option_map (λ (why : Why). (line, why))) (row_still kinds s ended times (fewer + more) (held + more) row (omega (arith, le)) passes)
 defect_still kinds s fewer held done (Bad line) le none = none
 defect_still kinds s fewer held done TooManyLines le none = none
@@ -132,7 +133,8 @@ lines_still : (kinds : List Kind) (s : Source) (fewer held : ℕ) (done read : L
     → first_some (λ e. defect_of kinds s fewer e.0 e.1) (with_before done read) ≡ None
 lines_still kinds s fewer held done [] le none = refl
 lines_still kinds s fewer held done (next ∷ rest) le none =
-    let both = no_first (defect_of kinds s held done next) (first_some (λ (e : List Next × Next). defect_of kinds s held e.0 e.1) (with_before (done ++ next ∷ []) rest)) none in
+    let both = no_first (defect_of kinds s held done next)
+    (first_some (λ (e : List Next × Next). defect_of kinds s held e.0 e.1) (with_before (done ++ next ∷ []) rest)) none in
     rw (defect_still kinds s fewer held done next le both.0) (lines_still kinds s fewer held (done ++ next ∷ []) rest le both.1)
 
 -- ---- a source
@@ -151,14 +153,16 @@ closed_sound form kinds s held few =
 pub before-push : {X : Type 0} (before xs : List X) (x : X) → with_before before (xs ++ x ∷ []) ≡ with_before before xs ++ (before ++ xs, x) ∷ []
 before-push before [] x = ap (λ (front : List _). (front, x) ∷ []) (sym (append-nil before))
 before-push before (y ∷ ys) x =
-    ap (λ rest. (before, y) ∷ rest) (before-push (before ++ y ∷ []) ys x ∙ ap (λ front. with_before (before ++ y ∷ []) ys ++ (front, x) ∷ []) (append_assoc before (y ∷ []) ys))
+    ap (λ rest. (before, y) ∷ rest) (before-push (before ++ y ∷ []) ys x
+    ∙ ap (λ front. with_before (before ++ y ∷ []) ys ++ (front, x) ∷ []) (append_assoc before (y ∷ []) ys))
 
 read_push : (form : RowForm) (is_read : ℕ → Bool) (left : Contents) (before : List Source) (s : Source)
     → read_items form is_read left (before ++ s ∷ []) ≡ read_items form is_read left before + read_items_in form is_read left (before, s)
 read_push form is_read left before s =
     let f = read_items_in form is_read left in
     let one : sum_by f ((before, s) ∷ []) ≡ f (before, s) = omega arith in
-    ap (sum_by f) (before-push [] before s) ∙ sum_by-append f (each_with_before before) ((before, s) ∷ []) ∙ ap (λ n. read_items form is_read left before + n) one
+    ap (sum_by f) (before-push [] before s) ∙ sum_by-append f (each_with_before before) ((before, s) ∷ [])
+    ∙ ap (λ n. read_items form is_read left before + n) one
 
 held_push : (form : RowForm) (left : Contents) (before : List Source) (s : Source)
     → items_held form left (before ++ s ∷ []) ≡ items_held form left before + items_of (width s) (rows_in form left s)
@@ -208,14 +212,17 @@ faults_same form kinds is_read names left before (s ∷ rest) closes same few =
     fault_by form kinds is_read names left before s (is_read (length before)) closes.0 same few in
     let items : items_of (width s) (rows_in form now s) ≡ read_items_in form is_read left (before, s) =
     items_by form names left s (is_read (length before)) closes.0 in
-    let all_now : Option SourceFault = first_some (λ (e : List Source × Source). fault_of_source form kinds now e.0 e.1) (with_before (before ++ s ∷ []) rest) in
-    let all_read : Option SourceFault = first_some (λ (e : List Source × Source). read_fault form kinds is_read left e.0 e.1) (with_before (before ++ s ∷ []) rest) in
+    let all_now : Option SourceFault =
+    first_some (λ (e : List Source × Source). fault_of_source form kinds now e.0 e.1) (with_before (before ++ s ∷ []) rest) in
+    let all_read : Option SourceFault =
+    first_some (λ (e : List Source × Source). read_fault form kinds is_read left e.0 e.1) (with_before (before ++ s ∷ []) rest) in
     let same_now : items_held form now (before ++ s ∷ []) ≡ read_items form is_read left (before ++ s ∷ []) =
     held_push form now before s ∙ ap (λ n. n + items_of (width s) (rows_in form now s)) same ∙ ap (λ n. read_items form is_read left before + n) items
     ∙ sym (read_push form is_read left before s) in
     let later : read_fault form kinds is_read left before s ≡ None → all_now ≡ all_read = λ none.
     let sound : first_defect form kinds s held (bytes_left now s.file) ≡ None =
-    no_mapped (λ (d : ℕ × Why). record { source = length before; row = d.0; why = d.1 }) (first_defect form kinds s held (bytes_left now s.file)) (here ∙ none) in
+    no_mapped (λ (d : ℕ × Why). record { source = length before; row = d.0; why = d.1 })
+    (first_defect form kinds s held (bytes_left now s.file)) (here ∙ none) in
     let few_now : items_held form now (before ++ s ∷ []) ≤ 16777216 = omega (arith, held_push form now before s, source_few form kinds now s held few sound) in
     faults_same form kinds is_read names left (before ++ s ∷ []) rest closes.1 same_now few_now in
     ap (λ fault. or_else fault all_now) here ∙ behind_same (read_fault form kinds is_read left before s) all_now all_read later
@@ -244,7 +251,8 @@ read_sound form kinds is_read left before (s ∷ rest) le none =
     let both = no_first (fault_of_source form kinds left before s)
     (first_some (λ (e : List Source × Source). fault_of_source form kinds left e.0 e.1) (with_before (before ++ s ∷ []) rest)) none in
     let sound : first_defect form kinds s (items_held form left before) bytes ≡ None =
-    no_mapped (λ (d : ℕ × Why). record { source = length before; row = d.0; why = d.1 }) (first_defect form kinds s (items_held form left before) bytes) both.0 in
+    no_mapped (λ (d : ℕ × Why). record { source = length before; row = d.0; why = d.1 })
+    (first_defect form kinds s (items_held form left before) bytes) both.0 in
     let still : first_defect form kinds s (read_items form is_read left before) bytes ≡ None =
     lines_still kinds s (read_items form is_read left before) (items_held form left before) [] (read_file form bytes) le sound in
     let fewer : read_items_in form is_read left (before, s) ≤ items_of (width s) (rows_in form left s) = read_few form left s (is_read (length before)) in

@@ -1,6 +1,7 @@
 -- What stays of files of which some names are closed, over one take.
-use Rattle.std.proofs.Common.{◌≡◌, ◌≢◌, ℕ, ◌<◌, ◌≤◌, ◌∙◌, refl, sym, ap, Bool, true, false, not, List, [], ◌∷◌, length, take, drop, arith, Option, Some, None, Result, Ok, Err, inl, inr}
-use Rattle.std.specs.Prelude.{IsSome, is_some, option_map, unwrap_or, IfOk, OnErr, min, ◌⊎◌}
+use Rattle.std.proofs.Common.{◌≡◌, ◌≢◌, ℕ, ◌<◌, ◌∙◌, refl, sym, ap, Bool, true, false, List, [], ◌∷◌, length, take, drop, arith, Option, Some, None}
+use Rattle.std.proofs.Common.{Result, Ok, Err, inl, inr}
+use Rattle.std.specs.Prelude.{IsSome, is_some, unwrap_or, IfOk, OnErr, min, ◌⊎◌}
 use Rattle.std.specs.Option.{option_or}
 use Rattle.std.specs.Str.{bytes_eq}
 use Rattle.std.proofs.lemmas.Slice.Eq.{bytes_eq-Decides}
@@ -11,7 +12,7 @@ use Rattle.flu_lemmas.specs.Named.{IsThere, CountApart}
 use Rattle.flu_outside.specs.declared.files.TakeFault.{TakeFault}
 use Rattle.flu_outside.specs.Outside.{Contents, Takes, OthersStay, SameLeft, ShareOneCount}
 use Rattle.flu_selected.specs.Origin.{left_at, ClosedStay, CountsRise, ClosedCountsStay, ClosedCountsFollow}
-use Rattle.flu_selected.specs.Selecting.{with_closed, left_beside}
+use Rattle.flu_selected.specs.Selecting.{left_beside}
 
 -- ---- what a take says of the names
 -- the same names are there
@@ -121,7 +122,8 @@ pub follow_still : (is_closed : List ℕ → Bool) (lines : Contents) (name : Li
 follow_still is_closed lines name a b first f g names none rise more apart told was now follow stay other closed =
     let before : (n : List ℕ) → is_closed n ≡ false → f n ≡ first n = λ n is_open. omega (arith, rise n, more n, stay n is_open) in
     let name_open : is_closed name ≡ false = open_name is_closed lines name names none in
-    count_follows name other a b f g (apart_from_open is_closed name other name_open closed) apart told was now (stay name name_open ∙ sym (before name name_open))
+    count_follows name other a b f g (apart_from_open is_closed name other name_open closed) apart told was now
+    (stay name name_open ∙ sym (before name name_open))
     ∙ follow before other closed
 
 -- ---- a take of a closed name

@@ -1,7 +1,8 @@
 -- The lists of the itags where the files of some sources are closed.
-use Rattle.std.proofs.Common.{◌≡◌, ℕ, zero, suc, ◌+◌, ◌-◌, ◌<◌, ◌≤◌, ◌∙◌, refl, sym, ap, subst, Bool, true, false, not, List, [], ◌∷◌, ◌++◌, length, map, length-append, get_or, arith, inl, inr}
-use Rattle.std.specs.Prelude.{sum_by, if◌then◌else◌, Some, None, unwrap_or}
-use Rattle.std.specs.List.{flat_map, range_with_len}
+use Rattle.std.proofs.Common.{◌≡◌, ℕ, zero, suc, ◌+◌, ◌-◌, ◌<◌, ◌∙◌, refl, sym, ap, Bool, true, false, not, List, [], ◌∷◌, ◌++◌, length, map}
+use Rattle.std.proofs.Common.{length-append, get_or, arith, inl, inr}
+use Rattle.std.specs.Prelude.{sum_by, if◌then◌else◌, Some, unwrap_or}
+use Rattle.std.specs.List.{flat_map}
 use Rattle.std.proofs.Math.ListN.{get_or-append}
 use Rattle.std.proofs.lemmas.List.{length-map, get_or-append_right}
 use Rattle.std.proofs.lemmas.List.FromFn.{length-map-range_with_len, get_or-map-range_with_len}
@@ -12,18 +13,16 @@ use Rattle.flu_model.specs.declared.events.Item.TheVariants.{End as EndItem}
 use Rattle.flu_model.specs.declared.events.Tag.{Tag}
 use Rattle.flu_model.specs.declared.jobs.Kind.{Kind}
 use Rattle.flu_model.specs.declared.jobs.Source.{Source}
-use Rattle.flu_model.specs.declared.jobs.Program.{Program}
 use Rattle.flu_model.specs.Itags.{count_of_itags, source_of_itag}
 use Rattle.flu_model.specs.Streaming.{is_stream_from, are_streams}
 use Rattle.flu_model.specs.Listing.{tag, tags_of_source, itags_of_sources}
 use Rattle.flu_outside.specs.Outside.{Contents}
-use Rattle.flu_outside.specs.Taking.{bytes_left}
 use Rattle.flu_rows.specs.declared.row.RowForm.{RowForm}
 use Rattle.flu_rows.specs.declared.row.Row.{Row}
 use Rattle.flu_rows.specs.declared.row.Row.TheVariants.{End}
 use Rattle.flu_rows.specs.Reading.{read_file}
 use Rattle.flu_rows.specs.Row.{form_of}
-use Rattle.flu_streams.specs.Before.{with_before, each_with_before}
+use Rattle.flu_streams.specs.Before.{with_before}
 use Rattle.flu_streams.specs.Good.{rows_in, items_at, lists_of_rows, lists_of}
 use Rattle.flu_streams.specs.Tags.{width}
 use Rattle.flu_streams.specs.Tests.{rows_of}
@@ -90,7 +89,8 @@ source_in n sources i = (get_or (itags_of_sources n sources) i (tag 0 0, 0)).1
 
 here_same : (form : RowForm) (kinds : List Kind) (names : List (List ℕ)) (left : Contents) (s : Source) (first i : ℕ) (b : Bool)
     → is_among names s.file ≡ not b → i < width s
-    → get_or (lists_of_rows kinds s first (rows_in form (closed_at names left) s)) i [] ≡ list_if b (get_or (lists_of_rows kinds s first (rows_in form left s)) i [])
+    → get_or (lists_of_rows kinds s first (rows_in form (closed_at names left) s)) i []
+    ≡ list_if b (get_or (lists_of_rows kinds s first (rows_in form left s)) i [])
 here_same form kinds names left s first i true is lt = ap (λ rows. get_or (lists_of_rows kinds s first rows) i []) (open_rows form names left s is)
 here_same form kinds names left s first i false is lt =
     ap (λ rows. get_or (lists_of_rows kinds s first rows) i []) (closed_rows form names left s is) ∙ end_alone kinds s first i lt
@@ -135,7 +135,8 @@ lists_same form kinds is_read names left before (s ∷ rest) i closes lt =
           get_or-append_right (front now) (back now) (width s) i [] (front_len now) past ∙ later
           ∙ ap (λ number. list_if (is_read (source_in number rest (i - width s))) (get_or (back left) (i - width s) [])) number
           ∙ ap (λ (pair : Tag × ℕ). list_if (is_read pair.1) (get_or (back left) (i - width s) [])) (sym there)
-          ∙ ap (λ items. list_if (is_read (source_in n (s ∷ rest) i)) items) (sym (get_or-append_right (front left) (back left) (width s) i [] (front_len left) past))
+          ∙ ap (λ items. list_if (is_read (source_in n (s ∷ rest) i)) items)
+          (sym (get_or-append_right (front left) (back left) (width s) i [] (front_len left) past))
     ]
 
 pub lists_law : LawOfLists

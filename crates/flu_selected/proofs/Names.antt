@@ -1,6 +1,6 @@
 -- Which files are closed: those of the sources that are not read, and no others, since sources have files of their own.
 use Rattle.std.proofs.Common.{◌≡◌, ℕ, ◌∙◌, refl, sym, ap, subst, Bool, true, false, not, List, [], ◌∷◌, ◌++◌, length, map, append_assoc}
-use Rattle.std.specs.Prelude.{◌&&◌, ◌||◌, Some, None, if◌then◌else◌}
+use Rattle.std.specs.Prelude.{◌||◌, Some, None, if◌then◌else◌}
 use Rattle.std.specs.List.{list_any, filter_map, AllByRecursion, cons_option}
 use Rattle.std.specs.Str.{bytes_eq}
 use Rattle.std.proofs.lemmas.Bool.{or_parts}
@@ -64,7 +64,8 @@ closes_more : (is_read : ℕ → Bool) (names : List (List ℕ)) (before : List 
     → is_among names s.file ≡ false → AreApart names rest → list_any (bytes_eq s.file) (files rest) ≡ false
     → ((more : List (List ℕ)) → AreApart more rest
     → ClosesOthers is_read (more ++ filter_map (closed_file is_read) (with_before (before ++ s ∷ []) rest)) (with_before (before ++ s ∷ []) rest))
-    → (is_among (names ++ cons_option (if b then None else Some s.file) (filter_map (closed_file is_read) (with_before (before ++ s ∷ []) rest))) s.file ≡ not b)
+    → (is_among (names ++ cons_option (if b then None else Some s.file) (filter_map (closed_file is_read) (with_before (before ++ s ∷ []) rest))) s.file
+    ≡ not b)
     × ClosesOthers is_read (names ++ cons_option (if b then None else Some s.file) (filter_map (closed_file is_read) (with_before (before ++ s ∷ []) rest)))
     (with_before (before ++ s ∷ []) rest)
 closes_more is_read names before s rest true here none other later =

@@ -1,6 +1,7 @@
 -- What reading the selected sources does to the files, from what it does to files of which the others are closed.
-use Rattle.std.proofs.Common.{◌≡◌, ◌≢◌, ℕ, ◌+◌, ◌<◌, ◌≤◌, ◌∙◌, refl, sym, ap, subst, Bool, true, false, List, [], ◌∷◌, ◌++◌, length, take, get_or, arith, Option, Some, None, Result, Ok, Err, inl, inr}
-use Rattle.std.specs.Prelude.{IsSome, is_some, option_map, OnOk, IfOk, IfErr, if◌then◌else◌}
+use Rattle.std.proofs.Common.{◌≡◌, ℕ, ◌+◌, ◌<◌, ◌≤◌, ◌∙◌, refl, sym, ap, subst, Bool, true, false, List, [], ◌∷◌, ◌++◌, length, take, get_or, arith}
+use Rattle.std.proofs.Common.{Option, Some, None, Result, Ok, Err, inl, inr}
+use Rattle.std.specs.Prelude.{IsSome, is_some, OnOk, IfOk, IfErr, if◌then◌else◌}
 use Rattle.std.specs.Option.{option_or}
 use Rattle.std.specs.List.{filter_map, cons_option, Contains}
 use Rattle.std.proofs.lemmas.Bool.{cases_Bool}
@@ -23,8 +24,8 @@ use Rattle.flu_selected.proofs.Keeping.{not_some}
 use Rattle.flu_selected.proofs.Lists.{open_left, closed_left}
 use Rattle.flu_selected.specs.Gathering.{reads, IsRead, LeavesUnread, ReadAreOut, CountsOfRead, IsFirstReadFault}
 use Rattle.flu_selected.specs.Laws.{closed_file, closed_files, selected, first_read_fault}
-use Rattle.flu_selected.specs.Origin.{left_at, ClosedStay}
-use Rattle.flu_selected.specs.Selecting.{end_line, with_closed, is_among, whole_lines, closed_at, left_beside, counts_beside}
+use Rattle.flu_selected.specs.Origin.{ClosedStay}
+use Rattle.flu_selected.specs.Selecting.{end_line, with_closed, is_among, whole_lines, left_beside, counts_beside}
 
 -- ---- the files that are closed
 pub files_more : (is_read : List Bool) (sources : List Source) (i : ℕ) (x : Source) → i < length sources → x ≡ get_or sources i x
@@ -36,7 +37,8 @@ files_more is_read sources i x lt is =
     ap (λ front. filter_map (closed_file (reads is_read)) (each_with_before front)) cut
     ∙ ap (filter_map (closed_file (reads is_read))) (before-push [] (take i sources) x)
     ∙ filter_map-append (closed_file (reads is_read)) (each_with_before (take i sources)) ((take i sources, x) ∷ [])
-    ∙ ap (λ (n : ℕ). filter_map (closed_file (reads is_read)) (each_with_before (take i sources)) ++ cons_option (if reads is_read n then None else Some x.file) []) size
+    ∙ ap (λ (n : ℕ). filter_map (closed_file (reads is_read)) (each_with_before (take i sources))
+    ++ cons_option (if reads is_read n then None else Some x.file) []) size
 
 pub files_skipped : (is_read : List Bool) (sources : List Source) (i : ℕ) (x : Source) → i < length sources → x ≡ get_or sources i x → reads is_read i ≡ true
     → filter_map (closed_file (reads is_read)) (each_with_before (take (i + 1) sources))
@@ -179,16 +181,17 @@ module _ (p : Program) (is_read : ℕ → Bool) (start a final b : Option Conten
   apart_at_start x n name unclosed there apart =
       elim (cases_Bool (is_among (closed_files p is_read) name)) as (λ c. CountApart (Some (selected p is_read x)) name n) [
         | inl closed ↦ (
-            (λ same. let is : is_among (closed_files p is_read) n ≡ true = sym (ap (is_among (closed_files p is_read)) same) ∙ closed in cc),
-            inl (ap is_some (closed_left (closed_files p is_read) x name closed)),
-          )
+          (λ same. let is : is_among (closed_files p is_read) n ≡ true = sym (ap (is_among (closed_files p is_read)) same) ∙ closed in cc),
+          inl (ap is_some (closed_left (closed_files p is_read) x name closed)),
+        )
         | inr open_name ↦
             let given = apart name (there, open_name) in
             (given.0, elim given.1 [ inl at_name ↦ inl (there_at_start x name at_name) | inr at_n ↦ inr (there_at_start x n at_n) ])
       ]
 
-  apart_by : (a' : Option Contents) → start ≡ left_beside a' (whole_lines (closed_files p is_read)) → (f g : List ℕ → ℕ) → CountsOfNames start (files_of p.sources) f g
-      → IsSome a' → (n : List ℕ) → is_among (closed_files p is_read) n ≡ false → ((name : List ℕ) → IsRead p is_read name → CountApart a' name n) → g n ≡ f n
+  apart_by : (a' : Option Contents) → start ≡ left_beside a' (whole_lines (closed_files p is_read)) → (f g : List ℕ → ℕ)
+      → CountsOfNames start (files_of p.sources) f g → IsSome a' → (n : List ℕ)
+      → is_among (closed_files p is_read) n ≡ false → ((name : List ℕ) → IsRead p is_read name → CountApart a' name n) → g n ≡ f n
   apart_by None is f g counts known n unclosed apart = absurd cc
   apart_by (Some x) is f g counts known n unclosed apart =
       counts.apart n (λ name there. subst (λ (s : Option Contents). CountApart s name n) (sym is) (apart_at_start x n name unclosed there apart))

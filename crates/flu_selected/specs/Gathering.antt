@@ -1,13 +1,16 @@
 -- What reading the selected sources of a job does to the files.
-use Rattle.std.specs.Prelude.{◌≡◌, ℕ, ◌<◌, ◌≤◌, Bool, true, false, List, length, slice_index_or, Contains, Option, Some, IsSome, ⊤}
+use Rattle.std.specs.Prelude.{◌≡◌, ℕ, ◌<◌, ◌≤◌, Bool, true, false, List, length, slice_index_or, Contains, Option, None, Some, IsSome, ⊤}
 use Rattle.flu_lemmas.specs.Named.{IsThere}
 use Rattle.flu_model.specs.declared.jobs.Program.{Program}
+use Rattle.flu_model.specs.declared.streams.Streams.{Streams}
+use Rattle.flu_model.specs.Listed.{listed}
 use Rattle.flu_outside.specs.Outside.{Contents, WhereTold, Rose, CountApart}
 use Rattle.flu_outside.specs.Taking.{IsReadOut}
 use Rattle.flu_streams.specs.declared.faults.GatherFault.{GatherFault}
 use Rattle.flu_streams.specs.declared.faults.GatherFault.TheVariants.{Source as SourceFaulty, ReadFault, NoMemory}
 use Rattle.flu_streams.specs.Files.{files_of}
-use Rattle.flu_selected.specs.Laws.{closed_files, first_read_fault}
+use Rattle.flu_streams.specs.Good.{lists_of}
+use Rattle.flu_selected.specs.Laws.{closed_files, selected, first_read_fault}
 use Rattle.flu_selected.specs.Selecting.{is_among}
 
 -- which sources are read: none past the end of the list is
@@ -17,6 +20,14 @@ reads is_read number = slice_index_or is_read number false
 -- a name is the file of a source that is read
 abbrev pub IsRead : Program → (ℕ → Bool) → List ℕ → Type 0
 IsRead p is_read name = Contains (files_of p.sources) name × (is_among (closed_files p is_read) name ≡ false)
+
+-- no source that is read has a defect
+abbrev pub ReadAreGood : Program → (ℕ → Bool) → Option Contents → Option Contents → Type 0
+ReadAreGood p is_read left left' = WhereTold left left' (λ old new. first_read_fault p is_read old ≡ None)
+
+-- the streams have the lists of the sources that are read
+abbrev pub AreReadLists : Program → (ℕ → Bool) → Option Contents → Option Contents → Streams → Type 0
+AreReadLists p is_read left left' streams = WhereTold left left' (λ old new. listed streams ≡ lists_of p (selected p is_read old))
 
 -- all names but the files of the sources that are read have what they had
 abbrev pub LeavesUnread : Program → (ℕ → Bool) → Contents → Contents → Type 0
@@ -34,9 +45,9 @@ pub record CountsOfRead (p : Program) (is_read : ℕ → Bool) (left : Option Co
       → ((name : List ℕ) → IsRead p is_read name → CountApart left name n) → new n ≡ old n
   pub closed : (n : List ℕ) → is_among (closed_files p is_read) n ≡ true → IsThere left n → new n ≡ old n
 
--- the count of the file of a source that is read rose
-abbrev pub OneReadRose : Program → (ℕ → Bool) → (List ℕ → ℕ) → (List ℕ → ℕ) → Type 0
-OneReadRose p is_read old new = (name : List ℕ) × IsRead p is_read name × Rose (old name) (new name)
+-- if the bytes of names are known, the count of the file of a source that is read rose
+abbrev pub ReadRose : Program → (ℕ → Bool) → Option Contents → (List ℕ → ℕ) → (List ℕ → ℕ) → Type 0
+ReadRose p is_read left old new = IsSome left → (name : List ℕ) × IsRead p is_read name × Rose (old name) (new name)
 
 -- a fault of a source is the first of the read ones, and names a declared source
 abbrev pub IsFirstReadFault : Program → (ℕ → Bool) → Option Contents → Option Contents → GatherFault → Type 0

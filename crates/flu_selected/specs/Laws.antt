@@ -1,7 +1,6 @@
 -- What is read of a job where the files of some of its sources are closed.
 use Rattle.std.specs.Prelude.{◌≡◌, ℕ, ◌<◌, Bool, true, false, Option, Some, None, option_map, List, [], ◌∷◌, length, slice_index_or, sum_by, if◌then◌else◌}
 use Rattle.std.specs.List.{filter_map}
-use Rattle.flu_model.specs.declared.events.Item.{Item}
 use Rattle.flu_model.specs.declared.events.Item.TheVariants.{End as EndItem}
 use Rattle.flu_model.specs.declared.jobs.Kind.{Kind}
 use Rattle.flu_model.specs.declared.jobs.Source.{Source}

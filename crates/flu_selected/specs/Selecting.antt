@@ -1,5 +1,5 @@
 -- Files of which some names read as sources without a row.
-use Rattle.std.specs.Prelude.{ℕ, Bool, ◌&&◌, List, [], ◌∷◌, Option, Some, None, is_some, option_map, if◌then◌else◌}
+use Rattle.std.specs.Prelude.{◌≡◌, ℕ, Bool, ◌&&◌, List, [], ◌∷◌, Option, Some, None, is_some, option_map, if◌then◌else◌}
 use Rattle.std.specs.Option.{option_or}
 use Rattle.std.specs.List.{list_any}
 use Rattle.std.specs.Str.{bytes_eq}
@@ -24,6 +24,10 @@ whole_lines names name = if is_among names name then Some end_line else None
 -- before anything is taken: each of these names has the line, and all others have what they have
 abbrev pub closed_at : List (List ℕ) → Contents → Contents
 closed_at names left = with_closed (whole_lines names) left
+
+-- if under the closed names is the whole line, the names have what `closed_at` says
+abbrev pub IsClosedAt : Contents → Option Contents → Option Contents → Type 0
+IsClosedAt lines behind now = (names : List (List ℕ)) → lines ≡ whole_lines names → now ≡ option_map (closed_at names) behind
 
 -- what all names have left, if that is known of the files behind
 abbrev pub left_beside : Option Contents → Contents → Option Contents

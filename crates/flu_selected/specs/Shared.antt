@@ -1,9 +1,8 @@
 -- Names that are not there share one count, of files of which some names are closed too.
-use Rattle.std.proofs.Common.{◌≡◌, ◌∙◌, refl, sym, ap, ℕ, List, Option, Some, None, Bool, true, false, cond}
-use Rattle.std.specs.Prelude.{IsSome, is_some, option_map, ◌&&◌}
+use Rattle.std.proofs.Common.{◌≡◌, ◌∙◌, refl, sym, ap, ℕ, List, Option, Some, None, false, cond}
+use Rattle.std.specs.Prelude.{IsSome, is_some, option_map}
 use Rattle.std.specs.Option.{option_or}
 use Rattle.flu_outside.specs.Outside.{Contents, ShareOneCount}
-use Rattle.flu_lemmas.specs.Named.{IsThere}
 use Rattle.flu_selected.specs.Selecting.{with_closed, counts_beside}
 
 -- what is neither closed nor there

@@ -1,16 +1,15 @@
 //! Reading the sources of a job that are selected.
 
-ghost use Rattle.std.specs.Prelude.{◌≡◌, ◌≢◌, List, ℕ, None, Bool, IsSome, OnOk, IfOk, IfErr, IsErrOf, Err, length};
+ghost use Rattle.std.specs.Prelude.{◌≡◌, ◌≢◌, List, ℕ, OnOk, IfOk, IfErr, IsErrOf, Err, length};
 ghost use Rattle.flu_model.specs.Itags.{count_of_itags};
 ghost use Rattle.flu_model.specs.Listed.{listed};
 ghost use Rattle.flu_outside.specs.Outside.{WhereTold, SameCounts};
 ghost use Rattle.flu_outside.specs.Taking.{TookFronts};
 ghost use Rattle.flu_streams.specs.Files.{files_of, OneRose};
-ghost use Rattle.flu_streams.specs.Good.{lists_of};
 ghost use Rattle.flu_selected.specs.Closed.{lines_in};
-ghost use Rattle.flu_selected.specs.Laws.{closed_files, selected, first_read_fault};
+ghost use Rattle.flu_selected.specs.Laws.{closed_files};
 ghost use Rattle.flu_selected.specs.Selecting.{whole_lines, is_among};
-ghost use Rattle.flu_selected.specs.Gathering.{reads, LeavesUnread, ReadAreOut, CountsOfRead, OneReadRose, IsFirstReadFault};
+ghost use Rattle.flu_selected.specs.Gathering.{reads, ReadAreGood, AreReadLists, LeavesUnread, ReadAreOut, CountsOfRead, ReadRose, IsFirstReadFault};
 
 use crate::closed::ClosedNames;
 use crate::lent::Lent;
@@ -53,8 +52,8 @@ pub fn gather_selected<F: Files>(
     is_read: &[bool],
     files: &mut F,
 ) -> Result<Streams, GatherFault>
-    ensures good { OnOk result (WhereTold (F.left files.old) (F.left files.new) (λ old new. first_read_fault p.now (reads is_read.now) old ≡ None)) }
-    ensures lists { IfOk result (λ streams. WhereTold (F.left files.old) (F.left files.new) (λ old new. listed streams ≡ lists_of p.now (selected p.now (reads is_read.now) old))) }
+    ensures good { OnOk result (ReadAreGood p.now (reads is_read.now) (F.left files.old) (F.left files.new)) }
+    ensures lists { IfOk result (AreReadLists p.now (reads is_read.now) (F.left files.old) (F.left files.new)) }
     ensures itags { IfOk result (λ streams. length (listed streams) ≡ count_of_itags p.now) }
     ensures read_out { OnOk result (ReadAreOut p.now (reads is_read.now) (F.left files.new)) }
 
@@ -67,7 +66,7 @@ pub fn gather_selected<F: Files>(
     ensures quiet { result ≢ Err GatherFault.ReadFault → SameCounts (F.faults files.old) (F.faults files.new) }
     ensures puts { SameCounts (F.put_faults files.old) (F.put_faults files.new) }
     ensures cause { IsErrOf result GatherFault.ReadFault → OneRose (files_of p.now.sources) (F.faults files.old) (F.faults files.new) }
-    ensures read_cause { IsErrOf result GatherFault.ReadFault → IsSome (F.left files.old) → OneReadRose p.now (reads is_read.now) (F.faults files.old) (F.faults files.new) }
+    ensures read { IsErrOf result GatherFault.ReadFault → ReadRose p.now (reads is_read.now) (F.left files.old) (F.faults files.old) (F.faults files.new) }
 {
     let Ok(names) = closed_files(alloc, p, is_read) else {
         return Err(GatherFault::NoMemory);
@@ -97,8 +96,8 @@ fn gather_lent<'f, F: Files, K: Origin>(
     requires faults { F.faults lent.files.now ≡ K.faults }
     requires lines { lines_in closed ≡ whole_lines (closed_files p.now (reads is_read.now)) }
     ensures same_reference { result.files.ghost_name ≡ K.reference }
-    ensures good { OnOk gathered.new (WhereTold K.left (F.left result.files.now) (λ old new. first_read_fault p.now (reads is_read.now) old ≡ None)) }
-    ensures lists { IfOk gathered.new (λ streams. WhereTold K.left (F.left result.files.now) (λ old new. listed streams ≡ lists_of p.now (selected p.now (reads is_read.now) old))) }
+    ensures good { OnOk gathered.new (ReadAreGood p.now (reads is_read.now) K.left (F.left result.files.now)) }
+    ensures lists { IfOk gathered.new (AreReadLists p.now (reads is_read.now) K.left (F.left result.files.now)) }
     ensures itags { IfOk gathered.new (λ streams. length (listed streams) ≡ count_of_itags p.now) }
     ensures read_out { OnOk gathered.new (ReadAreOut p.now (reads is_read.now) (F.left result.files.now)) }
     ensures fault { IfErr gathered.new (IsFirstReadFault p.now (reads is_read.now) K.left (F.left result.files.now)) }
@@ -108,7 +107,7 @@ fn gather_lent<'f, F: Files, K: Origin>(
     ensures quiet { gathered.new ≢ Err GatherFault.ReadFault → SameCounts K.faults (F.faults result.files.now) }
     ensures puts { SameCounts (F.put_faults lent.entry.files.now) (F.put_faults result.files.now) }
     ensures cause { IsErrOf gathered.new GatherFault.ReadFault → OneRose (files_of p.now.sources) K.faults (F.faults result.files.now) }
-    ensures read_cause { IsErrOf gathered.new GatherFault.ReadFault → IsSome K.left → OneReadRose p.now (reads is_read.now) K.faults (F.faults result.files.now) }
+    ensures read { IsErrOf gathered.new GatherFault.ReadFault → ReadRose p.now (reads is_read.now) K.left K.faults (F.faults result.files.now) }
 {
     let mut selected: Selected<'f, F, K> = Selected::new(lent, closed);
     *gathered = gather(alloc, p, &mut selected);

@@ -1,8 +1,8 @@
 //! Files through which some names read as sources without a row.
 
-ghost use Rattle.std.specs.Prelude.{◌≡◌, List, ℕ, is_some, option_map};
+ghost use Rattle.std.specs.Prelude.{◌≡◌, List, ℕ, is_some};
 ghost use Rattle.flu_selected.specs.Closed.{lines_in};
-ghost use Rattle.flu_selected.specs.Selecting.{whole_lines, closed_at, left_beside, counts_beside};
+ghost use Rattle.flu_selected.specs.Selecting.{IsClosedAt, left_beside, counts_beside};
 ghost use Rattle.flu_selected.specs.Origin.{ClosedStay, CountsRise, ClosedCountsStay, ClosedCountsFollow};
 
 use crate::closed::ClosedNames;
@@ -39,7 +39,7 @@ impl<'f, F: Files, K: Origin> Selected<'f, F, K> {
         requires faults { F.faults lent.files.now ≡ K.faults }
         ensures files { result.files.now ≡ lent.entry.files.now }
         ensures closed { result.closed ≡ closed }
-        ensures left { (closed_names : List (List ℕ)) → lines_in closed ≡ whole_lines closed_names → left_beside (F.left result.files.now) (lines_in result.closed) ≡ option_map (closed_at closed_names) (F.left lent.entry.files.now) }
+        ensures left { IsClosedAt (lines_in closed) (F.left lent.entry.files.now) (left_beside (F.left result.files.now) (lines_in result.closed)) }
     {
         let Lent { files } = lent;
         Selected {

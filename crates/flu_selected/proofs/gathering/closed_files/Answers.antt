@@ -1,11 +1,7 @@
-use Rattle.std.proofs.Common.{◌≡◌, ◌∙◌, sym, ap, ◌<◌, ◌++◌, ◌∷◌, [], length, get_or, take, true, false, List, ℕ}
-use Rattle.std.specs.Prelude.{vec_len}
-use Rattle.std.specs.List.{filter_map}
+use Rattle.std.proofs.Common.{◌≡◌, ◌∙◌, sym, ap, ◌<◌, ◌++◌, ◌∷◌, [], length, get_or, true, false, List, ℕ}
 use Rattle.flu_model.specs.declared.jobs.Source.{Source}
-use Rattle.flu_streams.specs.Before.{each_with_before}
 use Rattle.flu_selected.proofs.ReadSources.{files_skipped, files_added}
 use Rattle.flu_selected.specs.Gathering.{reads}
-use Rattle.flu_selected.specs.Laws.{closed_file}
 use Rattle.flu_selected.proofs.gathering.closed_files.Goals as goal
 use Rattle.flu_selected.proofs.gathering.closed_files.Goals.{then-not-is_selected+in_ok-name+in_ok-push, else-not-is_selected}
 

@@ -1,5 +1,5 @@
-use Rattle.std.proofs.Common.{◌≡◌, ◌≤◌, ◌∙◌, sym, ap, subst, ℕ, List, true, Option}
-use Rattle.std.specs.Prelude.{is_some, if◌then◌else◌, Some, None}
+use Rattle.std.proofs.Common.{◌≡◌, ◌≤◌, ◌∙◌, sym, ap, subst, ℕ, List}
+use Rattle.std.specs.Prelude.{is_some}
 use Rattle.flu_lemmas.specs.Told.{WhereTold}
 use Rattle.flu_model.specs.declared.streams.Streams.{Streams}
 use Rattle.flu_model.specs.Listed.{listed}
@@ -58,7 +58,8 @@ returns-clause-lists g c =
     let start = left_beside (g.F.Files.left c.new-selected.result.files.now) (lines_in c.new-selected.result.closed) in
     let final = left_beside (g.F.Files.left c.gather.new.files.files.now) (lines_in c.gather.new.files.closed) in
     if_ok (λ (streams : Streams). WhereTold start final (λ old new. listed streams ≡ lists_of p old))
-    (λ (streams : Streams). WhereTold g.K.Origin.left (g.F.Files.left c.into_lent.result.files.now) (λ old new. listed streams ≡ lists_of p (selected p is_read old)))
+    (λ (streams : Streams). WhereTold g.K.Origin.left (g.F.Files.left c.into_lent.result.files.now)
+    (λ old new. listed streams ≡ lists_of p (selected p is_read old)))
     c.gather.result
     (λ streams t. of_read p is_read _ _ _ _ _ (start_is g c) (final_is g c) (closed_now g c) (stay g c) (λ old. listed streams ≡ lists_of p old) t)
     c.gather.ensures.lists

@@ -1,4 +1,4 @@
-use Rattle.std.proofs.Common.{◌≡◌, ◌∙◌, sym, ap, ℕ, List, true, false, None, arith}
+use Rattle.std.proofs.Common.{◌≡◌, ◌∙◌, sym, ap, ℕ, List, true, None, arith}
 use Rattle.std.specs.Prelude.{is_some, length}
 use Rattle.flu_lemmas.specs.Told.{WhereTold}
 use Rattle.flu_outside.specs.Outside.{Contents, OthersStay}
@@ -37,5 +37,5 @@ pub returns-in-Some-clause-taken : goal.returns-in-Some-clause-taken
 returns-in-Some-clause-taken g c =
     let s = c.args.self.now in
     let closed : is_some (lines_in s.closed c.args.name.now) ≡ true = sym c.take.ensures.closed ∙ ap is_some c.in-Some.is in
-    line_taken (g.F.Files.left s.files.now) (lines_in s.closed) (lines_in c.take.new.self) c.args.name.now c.in-Some.count (length c.args.buf.now) c.take.new.buf
-    c.requires closed c.in-Some.ensures.amount c.in-Some.ensures.given c.in-Some.ensures.left c.take.ensures.others
+    line_taken (g.F.Files.left s.files.now) (lines_in s.closed) (lines_in c.take.new.self) c.args.name.now c.in-Some.count (length c.args.buf.now)
+    c.take.new.buf c.requires closed c.in-Some.ensures.amount c.in-Some.ensures.given c.in-Some.ensures.left c.take.ensures.others
