@@ -1,5 +1,5 @@
 -- Which sources are read where nodes of a plan are apart.
-use Rattle.std.specs.Prelude.{ℕ, Bool, false, ◌==◌, ◌&&◌, List, slice_index_or}
+use Rattle.std.specs.Prelude.{ℕ, Bool, ◌==◌, ◌&&◌, List}
 use Rattle.std.specs.List.{list_any, range_with_len}
 use Rattle.flu_model.specs.declared.events.Item.{Item}
 use Rattle.flu_model.specs.declared.jobs.Program.{Program}
@@ -10,10 +10,6 @@ use Rattle.flu_streams.specs.Good.{lists_of}
 use Rattle.flu_apart.specs.Classes.{itag}
 use Rattle.flu_contribution.specs.Sharing.{needs_itag, is_itag_of_none}
 use Rattle.flu_selected.specs.Laws.{selected}
-
--- which sources are read, by their numbers: a list says it, and none past its end is
-abbrev pub is_read_by : List Bool → ℕ → Bool
-is_read_by read s = slice_index_or read s false
 
 -- a source lists an itag that passes a test
 abbrev pub lists_one : Program → (ℕ → Bool) → ℕ → Bool

@@ -2,7 +2,7 @@
 
 ghost use Rattle.std.specs.Prelude.{◌≡◌, ◌<◌, ◌==◌, ◌&&◌, ◌||◌, ℕ, false};
 ghost use Rattle.flu_model.specs.Itags.{count_of_itags, source_of_itag};
-ghost use Rattle.flu_readers.specs.Reading.{is_read_by};
+ghost use Rattle.flu_selected.specs.Gathering.{reads as is_read_by};
 
 use flu_model::{Itag, Program, source_of};
 use std::marker::Model;
@@ -10,8 +10,8 @@ use std::marker::Model;
 /// How many sources a job has at most.
 const MAX_SOURCES: usize = 64;
 
-/// Which sources of a job are read. Contracts see a list that says it by the sources' numbers, and the test of a number that this list is
-/// (`is_read_by` of `specs/Reading.antt`).
+/// Which sources of a job are read. Contracts see a list that says it by the sources' numbers, as `gather_selected` of `flu_selected`
+/// takes it.
 #[derive(Drop)]
 pub struct SourcesRead {
     sources: [bool; MAX_SOURCES],

@@ -7,7 +7,8 @@ ghost use Rattle.flu_deps.specs.Checking.{program_of};
 ghost use Rattle.flu_deps.specs.Validated.{plan_of, IsValidFor};
 ghost use Rattle.flu_apart.specs.Classes.{inside};
 ghost use Rattle.flu_contribution.specs.Sharing.{needs_itag, is_itag_of_none};
-ghost use Rattle.flu_readers.specs.Reading.{is_read_by, reads, reads_rest};
+ghost use Rattle.flu_selected.specs.Gathering.{reads as is_read_by};
+ghost use Rattle.flu_readers.specs.Reading.{reads, reads_rest};
 
 use crate::read::SourcesRead;
 use flu_deps::nodes::is_within;

@@ -8,7 +8,8 @@ use Rattle.flu_model.specs.Itags.{count_of_itags, source_of_itag}
 use Rattle.flu_deps.specs.Validated.{plan_of}
 use Rattle.flu_apart.specs.Classes.{itag}
 use Rattle.flu_contribution.specs.Sharing.{needs_itag}
-use Rattle.flu_readers.specs.Reading.{is_read_by, reads}
+use Rattle.flu_selected.specs.Gathering.{reads as is_read_by}
+use Rattle.flu_readers.specs.Reading.{reads}
 use Rattle.flu_readers.proofs.readers.sources_of_node.Goals as goal
 
 -- an itag passes the test, and is of the source

@@ -5,7 +5,7 @@ use Rattle.flu_model.specs.Itags.{source_of_itag}
 use Rattle.flu_deps.specs.Validated.{plan_of}
 use Rattle.flu_apart.specs.Classes.{itag}
 use Rattle.flu_contribution.specs.Sharing.{is_itag_of_none}
-use Rattle.flu_readers.specs.Reading.{is_read_by}
+use Rattle.flu_selected.specs.Gathering.{reads as is_read_by}
 use Rattle.flu_readers.proofs.readers.sources_of_rest.Given as goal
 
 abbrev pub invariant-loop-i : goal.invariant-loop-i
