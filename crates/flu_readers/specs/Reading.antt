@@ -1,6 +1,6 @@
 -- Which sources are read where nodes of a plan are apart.
-use Rattle.std.specs.Prelude.{ℕ, Bool, ◌==◌, ◌&&◌, List}
-use Rattle.std.specs.List.{list_any, range_with_len}
+use Rattle.std.specs.Prelude.{◌≡◌, ℕ, Bool, ◌==◌, ◌&&◌, None, List}
+use Rattle.std.specs.List.{list_any, range_with_len, AllByRecursion}
 use Rattle.flu_model.specs.declared.events.Item.{Item}
 use Rattle.flu_model.specs.declared.jobs.Program.{Program}
 use Rattle.flu_model.specs.declared.plans.Node.{Node}
@@ -9,7 +9,7 @@ use Rattle.flu_outside.specs.Outside.{Contents}
 use Rattle.flu_streams.specs.Good.{lists_of}
 use Rattle.flu_apart.specs.Classes.{itag}
 use Rattle.flu_contribution.specs.Sharing.{needs_itag, is_itag_of_none}
-use Rattle.flu_selected.specs.Laws.{selected}
+use Rattle.flu_selected.specs.Laws.{selected, first_read_fault}
 
 -- a source lists an itag that passes a test
 abbrev pub lists_one : Program → (ℕ → Bool) → ℕ → Bool
@@ -30,3 +30,13 @@ part_read p nodes left w = lists_of p (selected p (reads p nodes w) left)
 -- what the one that combines has read
 abbrev pub rest_read : Program → List Node → List ℕ → Contents → List (List Item)
 rest_read p nodes ws left = lists_of p (selected p (reads_rest p nodes ws) left)
+
+-- ---- defects
+
+-- THE SOURCES THAT ARE READ HAVE NO DEFECT, where the items that are counted are those of the read ones alone
+abbrev pub IsReadGood : Program → (ℕ → Bool) → Contents → Type 0
+IsReadGood p is_read left = first_read_fault p is_read left ≡ None
+
+-- no source that one of the nodes reads has a defect for this node
+abbrev pub EachReadsGood : Program → List Node → Contents → List ℕ → Type 0
+EachReadsGood p nodes left ws = AllByRecursion (λ w. IsReadGood p (reads p nodes w) left) ws

@@ -1,36 +1,53 @@
 //! Laws of what is read where nodes of a plan are apart. Each law is the contract of a function that does nothing.
 
-ghost use Rattle.flu_readers.specs.Laws.{GoodSourcesGiveStreams, ANodeReadsItsPart, TheRestIsRead, SelectedPartsGiveTheReport};
+ghost use Rattle.flu_readers.specs.Laws.{GoodSourcesGiveStreams, GoodWhereRead, GoodPartsGiveStreams, ANodeReadsItsPart, TheRestIsRead};
+ghost use Rattle.flu_readers.specs.Laws.{SelectedPartsGiveTheReport, GoodSourcesGiveTheReport};
 
-/// Where no source has a defect, the lists of the itags are streams.
+/// Where no source has a defect, the lists of the itags are streams, and no source has a defect if only some are read.
 pub fn good_sources_give_streams()
-    ensures { GoodSourcesGiveStreams }
-{}
+    ensures streams { GoodSourcesGiveStreams }
+    ensures read { GoodWhereRead }
+{
+    flu_selected::closed_sources_have_no_defect();
+}
 
-/// A node apart that reads its sources alone has all events of the itags that it needs, where no source has a defect.
+/// Where none of the nodes apart finds a defect in the sources that it reads, nor the one that combines in its own, the lists of all itags are
+/// streams: each itag is read by one of them. Together the sources may have more items than one of them may hold.
+pub fn good_parts_give_streams()
+    ensures { GoodPartsGiveStreams }
+{
+    good_sources_give_streams();
+    flu_selected::selected_sources_are_read();
+    flu_selected::closed_sources_have_no_defect();
+}
+
+/// A node apart that reads its sources alone, and finds no defect in them, has all events of the itags that it needs.
 pub fn a_node_reads_its_part()
     ensures { ANodeReadsItsPart }
 {
     good_sources_give_streams();
     flu_selected::selected_sources_are_read();
+    flu_selected::closed_sources_have_no_defect();
 }
 
-/// One that combines and reads its sources alone has all events of the itags that are inside none of the nodes, where no source has a
-/// defect.
+/// One that combines and reads its sources alone, and finds no defect in them, has all events of the itags that are inside none of the nodes.
 pub fn the_rest_is_read()
     ensures { TheRestIsRead }
 {
     good_sources_give_streams();
     flu_selected::selected_sources_are_read();
+    flu_selected::closed_sources_have_no_defect();
 }
 
-/// Where the nodes may be apart, none is within another, and each of them and the one that combines reads its sources alone, what the
-/// nodes send and the rest of the events give the final state and the report of all sources. The plan is valid for an accepted job, and
-/// no source has a defect.
+/// Where the nodes may be apart, none is within another, and each of them and the one that combines reads its sources alone and finds no
+/// defect in them, what the nodes send and the rest of the events give the final state and the report of all sources. The plan is valid for
+/// an accepted job. So it is where no source has a defect.
 pub fn selected_parts_give_the_report()
-    ensures { SelectedPartsGiveTheReport }
+    ensures parts { SelectedPartsGiveTheReport }
+    ensures good { GoodSourcesGiveTheReport }
 {
     good_sources_give_streams();
+    good_parts_give_streams();
     flu_selected::selected_sources_are_read();
     a_node_reads_its_part();
     the_rest_is_read();

@@ -1,11 +1,19 @@
 use Rattle.std.specs.Prelude.{map}
 use Rattle.flu_streams.specs.Good.{lists_of}
-use Rattle.flu_readers.specs.Reading.{part_read, rest_read}
-use Rattle.flu_readers.proofs.Parts.{each_reads}
+use Rattle.flu_readers.specs.Laws.{SelectedPartsGiveTheReport}
+use Rattle.flu_readers.specs.Reading.{reads_rest, part_read, rest_read}
+use Rattle.flu_readers.proofs.Parts.{each_reads, each_good}
 use Rattle.flu_readers.proofs.laws.selected_parts_give_the_report.Goals as goal
 
 pub returns : goal.returns
-returns c = λ p nodes ws opening left setting apart good.
+returns c =
+    let parts : SelectedPartsGiveTheReport = λ p nodes ws opening left setting apart good rest.
     c.parts_give_the_report.ensures p nodes ws opening (lists_of p left) (map (part_read p nodes left) ws) (rest_read p nodes ws left) setting apart
-    (c.selected_sources_are_read.ensures.length p left) (c.good_sources_give_streams.ensures p left good)
-    (each_reads c.a_node_reads_its_part.ensures p nodes left good ws) (c.the_rest_is_read.ensures p nodes ws left good)
+    (c.selected_sources_are_read.ensures.length p left) (c.good_parts_give_streams.ensures p nodes ws left good rest)
+    (each_reads c.a_node_reads_its_part.ensures p nodes left ws good) (c.the_rest_is_read.ensures p nodes ws left rest) in
+    record {
+      parts = parts;
+      good = λ p nodes ws opening left setting apart good.
+          parts p nodes ws opening left setting apart (each_good c.good_sources_give_streams.ensures.read p nodes left good ws)
+          (c.good_sources_give_streams.ensures.read p (reads_rest p nodes ws) left good);
+    }
