@@ -1,5 +1,5 @@
 -- Laws of what a node apart sends.
-use Rattle.std.specs.Prelude.{◌≡◌, ℕ, ◌<◌, ◌^◌, Option, List, length, FitsSigned, IsTrue}
+use Rattle.std.specs.Prelude.{◌≡◌, ℕ, ◌<◌, ◌^◌, Option, List, map, length, FitsSigned, IsTrue}
 use Rattle.std.specs.Int.{w64}
 use Rattle.std.specs.List.{filter, AllByRecursion}
 use Rattle.flu_model.specs.declared.events.Event.{Event}
@@ -10,9 +10,11 @@ use Rattle.flu_model.specs.Itags.{count_of_itags}
 use Rattle.flu_model.specs.Merging.{all_events, merged}
 use Rattle.flu_model.specs.Streaming.{are_streams}
 use Rattle.flu_contribution.specs.Contributions.{Contribution}
-use Rattle.flu_contribution.specs.Sharing.{is_needed, IsPartFor}
+use Rattle.flu_contribution.specs.Sharing.{is_needed, IsPartFor, RiseStrictly}
+use Rattle.flu_partial.specs.declared.order.Reached.TheVariants.{Head}
+use Rattle.flu_partial.specs.Order.{AreRest}
 use Rattle.flu_partial.specs.Partial.{IsTime}
-use Rattle.flu_handover.specs.Handing.{IsSendable}
+use Rattle.flu_handover.specs.Handing.{line_of, IsSendable}
 use Rattle.flu_handover.specs.Laws.{IsInRange}
 use Rattle.flu_sending.specs.Lines.{all_times, last_time, sent_by}
 
@@ -47,3 +49,9 @@ SentByParts =
     (p : Program) (nodes : List Node) (w : ℕ) (whole part : List (List Item))
     → length whole ≡ count_of_itags p → IsTrue (are_streams 0 whole) → IsPartFor p nodes whole w part
     → sent_by p nodes w part ≡ sent_by p nodes w whole
+
+-- WHAT IS SENT MAY COME in its order: where the merged events rise strictly, its lines are the rest of a partial behind the head, up to the end
+abbrev pub SentLinesMayCome : Type 0
+SentLinesMayCome =
+    (p : Program) (nodes : List Node) (w : ℕ) (last : Option ℕ) (lists : List (List Item))
+    → RiseStrictly (merged lists) → AreRest Head (map (line_of p last) (sent_by p nodes w lists))

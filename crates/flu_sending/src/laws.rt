@@ -1,6 +1,6 @@
 //! Laws of what a node apart sends, each the contract of a function that does nothing.
 
-ghost use Rattle.flu_sending.specs.Laws.{SentByNeeded, SentByParts, WhatIsSentCanBeHandedOver};
+ghost use Rattle.flu_sending.specs.Laws.{SentByNeeded, SentByParts, SentLinesMayCome, WhatIsSentCanBeHandedOver};
 
 use flu_contribution::laws::{merged_lists_agree, only_needed_events_matter};
 use flu_laws::updates_are_changes;
@@ -26,3 +26,9 @@ pub fn lines_are_determined()
     only_needed_events_matter();
     merged_lists_agree();
 }
+
+/// The lines of what a node sends come in the order of a partial, where the merged events rise strictly: each names a later event than the one
+/// before it and contributes something, and the last one is for the end.
+pub fn sent_lines_may_come()
+    ensures { SentLinesMayCome }
+{}
