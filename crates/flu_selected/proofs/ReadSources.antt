@@ -16,7 +16,7 @@ use Rattle.flu_outside.specs.Outside.{Contents}
 use Rattle.flu_streams.specs.declared.faults.GatherFault.{GatherFault}
 use Rattle.flu_streams.specs.declared.faults.GatherFault.TheVariants.{Source as SourceFaulty, ReadFault, NoMemory}
 use Rattle.flu_streams.specs.Before.{each_with_before}
-use Rattle.flu_streams.specs.Faults.{IsFirstFault}
+use Rattle.flu_streams.specs.Faults.{IsFirstFault, HidesNothing}
 use Rattle.flu_streams.specs.Files.{files_of, LeavesOthers, CountsOfNames, AreReadOut}
 use Rattle.flu_streams.specs.Good.{AreGood, first_fault}
 use Rattle.flu_selected.proofs.Faults.{defects_law, before-push}
@@ -91,6 +91,14 @@ pub counts_open : (left : Option Contents) (lines : Contents) (counts : List ℕ
     → counts_beside left lines counts name ≡ counts name
 counts_open None lines counts name none = refl
 counts_open (Some left) lines counts name none = rw none refl
+
+pub hides_along : (p : Program) (a b c d : Option Contents) (e f g h : List ℕ → ℕ) → a ≡ b → c ≡ d → e ≡ f → g ≡ h → HidesNothing p a c e g
+    → HidesNothing p b d f h
+hides_along p a b c d e f g h ab cd ef gh hides =
+    subst (λ (x : Option Contents). HidesNothing p x d f h) ab
+    (subst (λ (x : Option Contents). HidesNothing p a x f h) cd
+    (subst (λ (x : List ℕ → ℕ). HidesNothing p a c x h) ef
+    (subst (λ (x : List ℕ → ℕ). HidesNothing p a c e x) gh hides)))
 
 closed_pairs : (is_closed : List ℕ → Bool) (x y : Contents) → ClosedStay is_closed (Some x) (Some y) → (name : List ℕ) → is_closed name ≡ true → y name ≡ x name
 closed_pairs is_closed x y stay name closed = let both = stay name closed in cc

@@ -1,5 +1,6 @@
 -- What reading the selected sources of a job does to the files.
-use Rattle.std.specs.Prelude.{◌≡◌, ℕ, ◌<◌, ◌≤◌, Bool, true, false, List, length, slice_index_or, Contains, Option, None, Some, IsSome, ⊤}
+use Rattle.std.specs.Prelude.{◌≡◌, ℕ, ◌<◌, ◌≤◌, Bool, true, false, List, length, slice_index_or, Contains}
+use Rattle.std.specs.Prelude.{Option, None, Some, IsSome, is_some, Result, IsErrOf, ⊤}
 use Rattle.flu_lemmas.specs.Named.{IsThere}
 use Rattle.flu_model.specs.declared.jobs.Program.{Program}
 use Rattle.flu_model.specs.declared.streams.Streams.{Streams}
@@ -8,10 +9,11 @@ use Rattle.flu_outside.specs.Outside.{Contents, WhereTold, Rose, CountApart}
 use Rattle.flu_outside.specs.Taking.{IsReadOut}
 use Rattle.flu_streams.specs.declared.faults.GatherFault.{GatherFault}
 use Rattle.flu_streams.specs.declared.faults.GatherFault.TheVariants.{Source as SourceFaulty, ReadFault, NoMemory}
+use Rattle.flu_streams.specs.Faults.{HidesNothing}
 use Rattle.flu_streams.specs.Files.{files_of}
 use Rattle.flu_streams.specs.Good.{lists_of}
 use Rattle.flu_selected.specs.Laws.{closed_files, selected, first_read_fault}
-use Rattle.flu_selected.specs.Selecting.{is_among}
+use Rattle.flu_selected.specs.Selecting.{is_among, whole_lines, left_beside, counts_beside}
 
 -- which sources are read: none past the end of the list is
 abbrev pub reads : List Bool → ℕ → Bool
@@ -55,3 +57,14 @@ IsFirstReadFault p is_read left left' (SourceFaulty f) =
     (f.source < length p.sources) × WhereTold left left' (λ was now. first_read_fault p is_read was ≡ Some f)
 IsFirstReadFault p is_read left left' ReadFault = ⊤
 IsFirstReadFault p is_read left left' NoMemory = ⊤
+
+-- a read fault hides nothing that was taken, where the files of the sources that are not read are closed, at the end with these lines left
+pub record HidesNoReadDefect (p : Program) (is_read : ℕ → Bool) (left left' : Option Contents) (old new : List ℕ → ℕ) : Type 0 where
+  pub now : Contents
+  pub names : (name : List ℕ) → is_some (now name) ≡ is_among (closed_files p is_read) name
+  pub hides : HidesNothing p (left_beside left (whole_lines (closed_files p is_read))) (left_beside left' now)
+      (counts_beside left (whole_lines (closed_files p is_read)) old) (counts_beside left' now new)
+
+-- a read fault, if there is one, hides no defect of a source that is read
+abbrev pub HidesNone : Result Streams GatherFault → Program → (ℕ → Bool) → Option Contents → Option Contents → (List ℕ → ℕ) → (List ℕ → ℕ) → Type 0
+HidesNone result p is_read left left' old new = IsErrOf result ReadFault → HidesNoReadDefect p is_read left left' old new

@@ -9,7 +9,7 @@ ghost use Rattle.flu_streams.specs.Files.{files_of, OneRose};
 ghost use Rattle.flu_selected.specs.Closed.{lines_in};
 ghost use Rattle.flu_selected.specs.Laws.{closed_files};
 ghost use Rattle.flu_selected.specs.Selecting.{whole_lines, is_among};
-ghost use Rattle.flu_selected.specs.Gathering.{reads, ReadAreGood, AreReadLists, LeavesUnread, ReadAreOut, CountsOfRead, ReadRose, IsFirstReadFault};
+ghost use Rattle.flu_selected.specs.Gathering.{reads, HidesNone, ReadAreGood, AreReadLists, LeavesUnread, ReadAreOut, CountsOfRead, ReadRose, IsFirstReadFault};
 
 use crate::closed::ClosedNames;
 use crate::lent::Lent;
@@ -65,6 +65,7 @@ pub fn gather_selected<F: Files>(
     ensures counts { CountsOfRead p.now (reads is_read.now) (F.left files.old) (F.faults files.old) (F.faults files.new) }
     ensures quiet { result ≢ Err GatherFault.ReadFault → SameCounts (F.faults files.old) (F.faults files.new) }
     ensures puts { SameCounts (F.put_faults files.old) (F.put_faults files.new) }
+    ensures hides { HidesNone result p.now (reads is_read.now) (F.left files.old) (F.left files.new) (F.faults files.old) (F.faults files.new) }
     ensures cause { IsErrOf result GatherFault.ReadFault → OneRose (files_of p.now.sources) (F.faults files.old) (F.faults files.new) }
     ensures read { IsErrOf result GatherFault.ReadFault → ReadRose p.now (reads is_read.now) (F.left files.old) (F.faults files.old) (F.faults files.new) }
 {
@@ -106,6 +107,7 @@ fn gather_lent<'f, F: Files, K: Origin>(
     ensures counts { CountsOfRead p.now (reads is_read.now) K.left K.faults (F.faults result.files.now) }
     ensures quiet { gathered.new ≢ Err GatherFault.ReadFault → SameCounts K.faults (F.faults result.files.now) }
     ensures puts { SameCounts (F.put_faults lent.entry.files.now) (F.put_faults result.files.now) }
+    ensures hides { HidesNone gathered.new p.now (reads is_read.now) K.left (F.left result.files.now) K.faults (F.faults result.files.now) }
     ensures cause { IsErrOf gathered.new GatherFault.ReadFault → OneRose (files_of p.now.sources) K.faults (F.faults result.files.now) }
     ensures read { IsErrOf gathered.new GatherFault.ReadFault → ReadRose p.now (reads is_read.now) K.left K.faults (F.faults result.files.now) }
 {

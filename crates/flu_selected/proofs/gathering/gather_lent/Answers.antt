@@ -7,7 +7,7 @@ use Rattle.flu_outside.specs.Outside.{Contents}
 use Rattle.flu_streams.specs.Faults.{IsFirstFault}
 use Rattle.flu_streams.specs.Good.{lists_of}
 use Rattle.flu_selected.proofs.ReadSources.{on_ok, if_ok, if_err, counts_open, good_read, of_read, fault_read, out_read, fronts_read, others_read, counts_read}
-use Rattle.flu_selected.proofs.ReadSources.{closed_of_lines}
+use Rattle.flu_selected.proofs.ReadSources.{closed_of_lines, hides_along}
 use Rattle.flu_selected.specs.Closed.{lines_in}
 use Rattle.flu_selected.specs.Gathering.{reads, IsFirstReadFault}
 use Rattle.flu_selected.specs.Laws.{closed_files, selected}
@@ -104,3 +104,30 @@ returns-clause-counts g c =
     ∙ ap (λ files. faults files n) (sym c.into_lent.ensures.now))
     (λ n. subst (λ files. g.K.Origin.faults n ≤ faults files n) (sym c.into_lent.ensures.now) (ended.rise n))
     (λ n closed there. ap (λ files. faults files n) c.into_lent.ensures.now ∙ ended.apart n (sym (c.requires.names n) ∙ closed) there)
+
+-- the counts at the start and at the end
+counts_start_is : (g : Over) (c : goal.After-into_lent g)
+    → counts_beside (g.F.Files.left c.new-selected.result.files.now) (lines_in c.new-selected.result.closed) (g.F.Files.faults c.new-selected.result.files.now)
+    ≡ counts_beside g.K.Origin.left (whole_lines (closed_files c.args.p.now (reads c.args.is_read.now))) g.K.Origin.faults
+counts_start_is g c =
+    let made = c.new-selected.result in
+    ap (λ files. counts_beside (g.F.Files.left files) (lines_in made.closed) (g.F.Files.faults files)) c.new-selected.ensures.files
+    ∙ ap (λ left. counts_beside left (lines_in made.closed) (g.F.Files.faults c.args.lent.files.now)) c.requires.left
+    ∙ ap (λ closed. counts_beside g.K.Origin.left (lines_in closed) (g.F.Files.faults c.args.lent.files.now)) c.new-selected.ensures.closed
+    ∙ ap (λ lines. counts_beside g.K.Origin.left lines (g.F.Files.faults c.args.lent.files.now)) c.requires.lines
+    ∙ ap (λ counts. counts_beside g.K.Origin.left (whole_lines (closed_files c.args.p.now (reads c.args.is_read.now))) counts) c.requires.faults
+
+counts_final_is : (g : Over) (c : goal.After-into_lent g)
+    → counts_beside (g.F.Files.left c.gather.new.files.files.now) (lines_in c.gather.new.files.closed) (g.F.Files.faults c.gather.new.files.files.now)
+    ≡ counts_beside (g.F.Files.left c.into_lent.result.files.now) (lines_in c.gather.new.files.closed) (g.F.Files.faults c.into_lent.result.files.now)
+counts_final_is g c =
+    ap (λ files. counts_beside (g.F.Files.left files) (lines_in c.gather.new.files.closed) (g.F.Files.faults files)) (sym c.into_lent.ensures.now)
+
+pub returns-clause-hides : goal.returns-clause-hides
+returns-clause-hides g c = λ is_fault.
+    let p = c.args.p.now in
+    record {
+      now = lines_in c.gather.new.files.closed;
+      names = closed_now g c;
+      hides = hides_along p _ _ _ _ _ _ _ _ (start_is g c) (final_is g c) (counts_start_is g c) (counts_final_is g c) (c.gather.ensures.hides is_fault);
+    }
