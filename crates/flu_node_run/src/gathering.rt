@@ -1,6 +1,6 @@
 //! Reading the sources that a node needs.
 
-ghost use Rattle.std.specs.Prelude.{◌≡◌, ◌≢◌, ◌<◌, None, IsSome, length, OnOk, IfOk, IfErr, IsErrOf, Err};
+ghost use Rattle.std.specs.Prelude.{◌≡◌, ◌≢◌, length, OnOk, IfOk, IfErr, IsErrOf, Err};
 ghost use Rattle.flu_model.specs.Itags.{count_of_itags};
 ghost use Rattle.flu_model.specs.Listed.{listed};
 ghost use Rattle.flu_outside.specs.Outside.{WhereTold, SameCounts};
@@ -8,9 +8,9 @@ ghost use Rattle.flu_outside.specs.Taking.{TookFronts};
 ghost use Rattle.flu_deps.specs.Checking.{program_of};
 ghost use Rattle.flu_deps.specs.Validated.{plan_of, IsValidFor};
 ghost use Rattle.flu_streams.specs.Files.{files_of, OneRose};
-ghost use Rattle.flu_selected.specs.Gathering.{LeavesUnread, ReadAreOut, CountsOfRead, OneReadRose, IsFirstReadFault};
-ghost use Rattle.flu_selected.specs.Laws.{first_read_fault};
-ghost use Rattle.flu_readers.specs.Reading.{reads, part_read};
+ghost use Rattle.flu_selected.specs.Gathering.{ReadAreGood, AreReadLists, ReadAreOut, LeavesUnread, CountsOfRead, HidesNoReadDefect, ReadRose};
+ghost use Rattle.flu_selected.specs.Gathering.{IsFirstReadFault};
+ghost use Rattle.flu_node_run.specs.Partials.{read_by};
 
 use flu_deps::{Checked, Valid};
 use flu_model::Streams;
@@ -29,24 +29,21 @@ pub(crate) fn gather_needed<F: Files>(
     w: u32,
 ) -> Result<Streams, GatherFault>
     requires { IsValidFor (program_of c.now) v.now }
-    ensures good { OnOk result (WhereTold (F.left files.old) (F.left files.new)
-        (λ old new. first_read_fault (program_of c.now) (reads (program_of c.now) (plan_of v.now).nodes w) old ≡ None)) }
-    ensures lists { IfOk result (λ streams. WhereTold (F.left files.old) (F.left files.new)
-        (λ old new. listed streams ≡ part_read (program_of c.now) (plan_of v.now).nodes old w)) }
+    ensures good { OnOk result (ReadAreGood (program_of c.now) (read_by c.now v.now w) (F.left files.old) (F.left files.new)) }
+    ensures lists { IfOk result (AreReadLists (program_of c.now) (read_by c.now v.now w) (F.left files.old) (F.left files.new)) }
     ensures itags { IfOk result (λ streams. length (listed streams) ≡ count_of_itags (program_of c.now)) }
-    ensures read_out { OnOk result (ReadAreOut (program_of c.now) (reads (program_of c.now) (plan_of v.now).nodes w) (F.left files.new)) }
-    ensures fault { IfErr result (IsFirstReadFault (program_of c.now) (reads (program_of c.now) (plan_of v.now).nodes w)
-        (F.left files.old) (F.left files.new)) }
+    ensures read_out { OnOk result (ReadAreOut (program_of c.now) (read_by c.now v.now w) (F.left files.new)) }
+    ensures fault { IfErr result (IsFirstReadFault (program_of c.now) (read_by c.now v.now w) (F.left files.old) (F.left files.new)) }
     ensures fronts { WhereTold (F.left files.old) (F.left files.new) TookFronts }
-    ensures others { WhereTold (F.left files.old) (F.left files.new)
-        (LeavesUnread (program_of c.now) (reads (program_of c.now) (plan_of v.now).nodes w)) }
-    ensures counts { CountsOfRead (program_of c.now) (reads (program_of c.now) (plan_of v.now).nodes w) (F.left files.old)
-        (F.faults files.old) (F.faults files.new) }
+    ensures others { WhereTold (F.left files.old) (F.left files.new) (LeavesUnread (program_of c.now) (read_by c.now v.now w)) }
+    ensures counts { CountsOfRead (program_of c.now) (read_by c.now v.now w) (F.left files.old) (F.faults files.old) (F.faults files.new) }
     ensures quiet { result ≢ Err GatherFault.ReadFault → SameCounts (F.faults files.old) (F.faults files.new) }
     ensures puts { SameCounts (F.put_faults files.old) (F.put_faults files.new) }
+    ensures hides { IsErrOf result GatherFault.ReadFault → HidesNoReadDefect (program_of c.now) (read_by c.now v.now w) (F.left files.old) (F.left files.new)
+        (F.faults files.old) (F.faults files.new) }
     ensures cause { IsErrOf result GatherFault.ReadFault → OneRose (files_of (program_of c.now).sources) (F.faults files.old) (F.faults files.new) }
-    ensures read_cause { IsErrOf result GatherFault.ReadFault → IsSome (F.left files.old)
-        → OneReadRose (program_of c.now) (reads (program_of c.now) (plan_of v.now).nodes w) (F.faults files.old) (F.faults files.new) }
+    ensures read { IsErrOf result GatherFault.ReadFault → ReadRose (program_of c.now) (read_by c.now v.now w) (F.left files.old)
+        (F.faults files.old) (F.faults files.new) }
 {
     let read = sources_of_node(c, v, w);
     gather_selected(alloc, c.program(), read.as_slice(), files)

@@ -1,4 +1,3 @@
-use Rattle.flu_model.specs.Listed.{listed}
 use Rattle.flu_deps.specs.Checking.{program_of}
 use Rattle.flu_deps.specs.Validated.{plan_of}
 use Rattle.flu_node_run.proofs.Assembled.{is_partial}
@@ -6,5 +5,5 @@ use Rattle.flu_node_run.proofs.writing.partial_of.Goals as goal
 
 pub returns-in-Ok-text_of_partial-clause-text : goal.returns-in-Ok-text_of_partial-clause-text
 returns-in-Ok-text_of_partial-clause-text g c =
-    is_partial (program_of c.args.c.now) (plan_of c.args.v.now).nodes c.args.w _ (listed c.in-Ok.streams) _ _ c.in-Ok.ensures.good c.in-Ok.ensures.lists
+    is_partial (program_of c.args.c.now) (plan_of c.args.v.now).nodes c.args.w _ c.in-Ok.streams _ _ c.in-Ok.ensures.good c.in-Ok.ensures.lists
     c.in-Ok.ensures.read_out c.in-Ok-text_of_partial.ensures
