@@ -1,11 +1,11 @@
 -- Partials, and the sources beside them.
-use Rattle.std.proofs.Common.{◌≡◌, ◌≢◌, inl, inr, ℕ, zero, suc, ◌<◌, ◌+◌, Bool, true, false, Option, Some, None, List, [], ◌∷◌, length, refl, sym, ap, subst, ◌∙◌, cond}
+use Rattle.std.proofs.Common.{◌≡◌, inr, ℕ, zero, suc, ◌<◌, Bool, true, false, Option, Some, None, List, [], ◌∷◌, length, refl, sym, ap, subst, ◌∙◌, cond}
 use Rattle.std.proofs.Common.{arith, get_or}
-use Rattle.std.specs.Prelude.{◌||◌, IsSome, Contains, map, not, position}
+use Rattle.std.specs.Prelude.{◌||◌, IsSome, Contains, not}
 use Rattle.std.specs.List.{list_any}
 use Rattle.std.specs.Str.{bytes_eq}
 use Rattle.std.proofs.lemmas.Bool.{false≢true}
-use Rattle.std.proofs.lemmas.List.{get_or_default, length-map}
+use Rattle.std.proofs.lemmas.List.{length-map}
 use Rattle.std.proofs.lemmas.Map.Views.{Contains-from_any}
 use Rattle.std.proofs.lemmas.Slice.Eq.{bytes_eq-Decides}
 use Rattle.flu_lemmas.proofs.Places.{position_below}
@@ -29,7 +29,7 @@ use Rattle.flu_combine.specs.declared.fault.CombineFault.{CombineFault}
 use Rattle.flu_combine.specs.declared.fault.CombineFault.TheVariants as combine
 use Rattle.flu_combine.specs.Names.{read_out}
 use Rattle.flu_combine.specs.Reading.{AreRead}
-use Rattle.flu_combine.specs.Combined.{AreAccepted, IsCombined, IsReadBeside, LeavesUnread}
+use Rattle.flu_combine.specs.Combined.{IsCombined, LeavesUnread}
 use Rattle.flu_combine.specs.Faults.{IsCause, IsFaultOfPartial, IsFaultOfSource, SourceRose}
 use Rattle.flu_combine.specs.Resting.{IsJoined, IsJoinFault, IsLeftOver, IsRest, IsRestLeftOver, IsRestFault}
 
@@ -141,22 +141,29 @@ pub cause_told : (p : Program) (nodes : List Node) (names : List (List ℕ)) (ws
     → WhereTold a b (AreRead p nodes names ws queues) → SameCounts before mid → WhereTold b c (λ x y. Unit {0})
     → IsRestFault p nodes ws queues b c mid now fault → IsCause p nodes names a c before now fault
 cause_told p nodes names ws queues (combine.Partial place defect) a b c before mid now apart many these same both is = (
-      subst (λ (n : ℕ). place < n) many is.1,
-      told_then (AreRead p nodes names ws queues) (λ was then. IsRestLeftOver p nodes ws queues place was) (λ was then. IsFaultOfPartial p nodes names was place defect)
-          a b c (λ was mid then h k. let moved = subst (IsRestLeftOver p nodes ws queues place) h.end k in
-          inr (is.0, record { ws = ws; queues = queues; accepted = record { partials = h.partials; apart = apart }; good = moved.good; first = moved.left_over }))
-          these is.2,
-    )
+  subst (λ (n : ℕ). place < n) many is.1,
+  told_then (AreRead p nodes names ws queues) (λ was then. IsRestLeftOver p nodes ws queues place was)
+      (λ was then. IsFaultOfPartial p nodes names was place defect)
+      a b c (λ was mid then h k. let moved = subst (IsRestLeftOver p nodes ws queues place) h.end k in
+      inr (is.0, record { ws = ws; queues = queues; accepted = record { partials = h.partials; apart = apart }; good = moved.good; first = moved.left_over }))
+      these is.2,
+)
 cause_told p nodes names ws queues (combine.Source fault) a b c before mid now apart many these same both is = (
-      is.0,
-      told_then (AreRead p nodes names ws queues) (λ was then. first_read_fault p (reads_rest p nodes ws) was ≡ Some fault)
-          (λ was then. IsFaultOfSource p nodes names was fault) a b c
-          (λ was mid then h k. record { ws = ws; queues = queues; accepted = record { partials = h.partials; apart = apart };
-          first = subst (λ (m : Contents). first_read_fault p (reads_rest p nodes ws) m ≡ Some fault) h.end k }) these is.1,
-    )
+  is.0,
+  told_then (AreRead p nodes names ws queues) (λ was then. first_read_fault p (reads_rest p nodes ws) was ≡ Some fault)
+      (λ was then. IsFaultOfSource p nodes names was fault) a b c
+      (λ was mid then h k. record {
+        ws = ws;
+        queues = queues;
+        accepted = record { partials = h.partials; apart = apart };
+        first = subst (λ (m : Contents). first_read_fault p (reads_rest p nodes ws) m ≡ Some fault) h.end k;
+      }) these is.1,
+)
 cause_told p nodes names ws queues combine.ReadFault a b c before mid now apart many these same both is =
-    inr ((is.0.0, is.0.1, subst (λ (n : ℕ). Rose n (now is.0.0)) (same is.0.0) is.0.2),
-    source_rose p nodes names ws queues a b c before mid now apart these same is.1 both)
+    inr (
+      (is.0.0, is.0.1, subst (λ (n : ℕ). Rose n (now is.0.0)) (same is.0.0) is.0.2),
+      source_rose p nodes names ws queues a b c before mid now apart these same is.1 both,
+    )
 cause_told p nodes names ws queues combine.WriteFault a b c before mid now apart many these same both is = tt
 cause_told p nodes names ws queues combine.NoMemory a b c before mid now apart many these same both is = tt
 
@@ -182,15 +189,15 @@ pub fault_told : (p : Program) (nodes : List Node) (ws : List ℕ) (queues : Lis
     → WhereTold a b (λ old new. lists ≡ rest_read p nodes ws old) → IsJoinFault queues (events_of_none p nodes ws lists) fault
     → IsRestFault p nodes ws queues a b before now fault
 fault_told p nodes ws queues (combine.Partial place defect) lists a b before now good is joined = (
-      joined.0,
-      left_over_below queues (events_of_none p nodes ws lists) place joined.1,
-      told_weaker (λ old new. (first_read_fault p (reads_rest p nodes ws) old ≡ None) × (lists ≡ rest_read p nodes ws old))
-          (λ was then. IsRestLeftOver p nodes ws queues place was) a b
-          (λ was then h. record {
-            good = h.0;
-            left_over = subst (λ (l : List (List Item)). IsLeftOver queues (events_of_none p nodes ws l) place) h.1 joined.1;
-          }) (told_both (λ old new. first_read_fault p (reads_rest p nodes ws) old ≡ None) (λ old new. lists ≡ rest_read p nodes ws old) a b good is),
-    )
+  joined.0,
+  left_over_below queues (events_of_none p nodes ws lists) place joined.1,
+  told_weaker (λ old new. (first_read_fault p (reads_rest p nodes ws) old ≡ None) × (lists ≡ rest_read p nodes ws old))
+      (λ was then. IsRestLeftOver p nodes ws queues place was) a b
+      (λ was then h. record {
+        good = h.0;
+        left_over = subst (λ (l : List (List Item)). IsLeftOver queues (events_of_none p nodes ws l) place) h.1 joined.1;
+      }) (told_both (λ old new. first_read_fault p (reads_rest p nodes ws) old ≡ None) (λ old new. lists ≡ rest_read p nodes ws old) a b good is),
+)
 fault_told p nodes ws queues (combine.Source fault) lists a b before now good is joined = absurd joined
 fault_told p nodes ws queues combine.ReadFault lists a b before now good is joined = absurd joined
 fault_told p nodes ws queues combine.WriteFault lists a b before now good is joined = absurd joined

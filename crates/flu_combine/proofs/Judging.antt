@@ -33,7 +33,8 @@ none_related nodes w (u ∷ us) none =
     (none_related nodes w us)
   where
     by_test : (b : Bool) → are_related nodes u w ≡ b → (o : Option ℕ) → position (λ u. are_related nodes u w) us ≡ o
-        → cond b (Some 0) (option_map (λ i. i + 1) o) ≡ None → (position (λ u. are_related nodes u w) us ≡ None → AllByRecursion (λ u. AreApart nodes u w) us)
+        → cond b (Some 0) (option_map (λ i. i + 1) o) ≡ None
+        → (position (λ u. are_related nodes u w) us ≡ None → AllByRecursion (λ u. AreApart nodes u w) us)
         → AllByRecursion (λ u. AreApart nodes u w) (u ∷ us)
     by_test true is o later h more = cc
     by_test false is (Some i) later h more = cc
@@ -69,13 +70,15 @@ defect_of_head p nodes ws bytes r (Within place) read d = (r, read, d)
 defect_of_head p nodes ws bytes r LeftOver read d = (r, read, d)
 
 -- ---- what was sent
-pub sent_by_lines : (p : Program) (cs : List partial.Contribution) (hs : List Handed) → Pairs (IsSentBy p) cs hs → Pairs (IsLineOf p) cs (map contribution_of hs)
+pub sent_by_lines : (p : Program) (cs : List partial.Contribution) (hs : List Handed) → Pairs (IsSentBy p) cs hs
+    → Pairs (IsLineOf p) cs (map contribution_of hs)
 sent_by_lines p [] [] pairs = tt
 sent_by_lines p [] (h ∷ hs) pairs = absurd pairs
 sent_by_lines p (c ∷ cs) [] pairs = absurd pairs
 sent_by_lines p (c ∷ cs) (h ∷ hs) pairs = (pairs.0, sent_by_lines p cs hs pairs.1)
 
-pub accepted : (p : Program) (nodes : List Node) (bytes : List ℕ) (w : ℕ) (r : Received) (sent : List Contribution) → length bytes ≤ most_bytes → IsRead p bytes r
+pub accepted : (p : Program) (nodes : List Node) (bytes : List ℕ) (w : ℕ) (r : Received) (sent : List Contribution) → length bytes ≤ most_bytes
+    → IsRead p bytes r
     → IsOfNode p nodes r.head w → sent ≡ map contribution_of r.sent.items → IsPartialOf p nodes bytes w sent
 accepted p nodes bytes w r sent few read of_node is = record {
   head = r.head;

@@ -45,7 +45,7 @@ one_alike : PartialsHaveOneText → LinesDetermine → (p : Program) (nodes : Li
 one_alike one_text determine p nodes bytes v w js ks one other =
     let same = one_text bytes one.head other.head one.lines other.lines one.whole other.whole in
     let node : Some v ≡ Some w =
-      sym one.of_node.node ∙ ap (λ (h : PartialHead). node_named nodes h.node) same.0 ∙ other.of_node.node in
+    sym one.of_node.node ∙ ap (λ (h : PartialHead). node_named nodes h.node) same.0 ∙ other.of_node.node in
     let number : v ≡ w = cc in
     let lines : Pairs (IsLineOf p) one.lines ks = subst (λ (cs : List partial.Contribution). Pairs (IsLineOf p) cs ks) (sym same.1) other.said in
     (number, pairs_alike determine p one.lines js ks one.said lines)
@@ -80,13 +80,15 @@ pub partials_combined : PartialsHaveOneText → LinesDetermine → LawOfLength �
 partials_combined one_text determine size files streams reads_part reads_others start gives p nodes ws names text left old new setting apart each good partials
     same_files combined =
     let alike = all_alike one_text determine p nodes old names combined.ws ws combined.queues (sent_of_each p nodes left ws)
-      combined.accepted.partials partials in
-    let rest : rest_read p nodes ws (read_out names old) ≡ rest_read p nodes ws left = (files p (reads_rest p nodes ws) (read_out names old) left same_files).0 in
+    combined.accepted.partials partials in
+    let rest : rest_read p nodes ws (read_out names old) ≡ rest_read p nodes ws left =
+    (files p (reads_rest p nodes ws) (read_out names old) left same_files).0 in
     let whole = gives p nodes ws nothing_held (lists_of p left) (map (part_read p nodes left) ws) (rest_read p nodes ws left) combined.queues setting apart
-      (size p left) (streams p nodes ws left each good) (parts_are reads_part p nodes left ws each) (reads_others p nodes ws left good) alike.1 in
+    (size p left) (streams p nodes ws left each good) (parts_are reads_part p nodes left ws each) (reads_others p nodes ws left good) alike.1 in
     combined.is
-    ∙ ap (λ (vs : List ℕ). report p (joined_from p nothing_joined combined.queues (events_of_none p nodes vs (rest_read p nodes vs (read_out names old)))).outputs)
-      alike.0
+    ∙ ap (λ (vs : List ℕ). report p (joined_from p nothing_joined combined.queues (events_of_none p nodes vs
+    (rest_read p nodes vs (read_out names old)))).outputs)
+    alike.0
     ∙ ap (λ (l : List (List Item)). report p (joined_from p nothing_joined combined.queues (events_of_none p nodes ws l)).outputs) rest
     ∙ ap (λ (r : Combined). report p (joined_from p r combined.queues (events_of_none p nodes ws (rest_read p nodes ws left))).outputs) (sym (start p nodes ws))
     ∙ whole.same_report

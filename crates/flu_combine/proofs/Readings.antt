@@ -1,8 +1,8 @@
 -- Partials that are read one after another.
-use Rattle.std.proofs.Common.{◌≡◌, ◌≢◌, ℕ, ◌<◌, ◌≤◌, ◌+◌, Bool, true, false, Option, Some, None, List, [], ◌∷◌, ◌++◌, length, refl, sym, ap, subst, ◌∙◌, cond}
+use Rattle.std.proofs.Common.{◌≡◌, ℕ, ◌<◌, ◌≤◌, ◌+◌, Bool, true, false, Option, Some, List, [], ◌∷◌, ◌++◌, length, refl, sym, ap, subst, ◌∙◌, cond}
 use Rattle.std.proofs.Common.{inl, arith, take, get_or}
-use Rattle.std.specs.Prelude.{◌||◌, is_some, slice_index_or, unwrap_or, Contains}
-use Rattle.std.specs.List.{AllByRecursion, list_any}
+use Rattle.std.specs.Prelude.{◌||◌, slice_index_or, unwrap_or, Contains}
+use Rattle.std.specs.List.{AllByRecursion}
 use Rattle.std.specs.Str.{bytes_eq}
 use Rattle.std.proofs.lemmas.Bool.{false≢true}
 use Rattle.std.proofs.lemmas.List.{append-nil, get_or_default, length-append, take_more}
@@ -26,7 +26,6 @@ use Rattle.flu_partial.specs.declared.values.PartialHead.{PartialHead}
 use Rattle.flu_partial.specs.Partial.{head_text, line_of}
 use Rattle.flu_receiving.specs.Receiving.{IsWholePartial, lines_text}
 use Rattle.flu_combine.specs.declared.fault.CombineFault.{CombineFault}
-use Rattle.flu_combine.specs.declared.fault.CombineFault.TheVariants as combine
 use Rattle.flu_combine.specs.declared.fault.PartialDefect.{PartialDefect}
 use Rattle.flu_combine.specs.declared.fault.Refused.{Refused}
 use Rattle.flu_combine.specs.declared.fault.Refused.TheVariants.{Defect, ReadFault, NoMemory}
@@ -79,7 +78,8 @@ all_more : {X : Type 0} (P : X → Type 0) (xs : List X) (x : X) → AllByRecurs
 all_more P [] x all one = (one, tt)
 all_more P (y ∷ ys) x all one = (all.0, all_more P ys x all.1 one)
 
-none_within_more : (nodes : List Node) (ws : List ℕ) (w : ℕ) → NoneIsWithin nodes ws → AllByRecursion (λ u. AreApart nodes u w) ws → NoneIsWithin nodes (ws ++ w ∷ [])
+none_within_more : (nodes : List Node) (ws : List ℕ) (w : ℕ) → NoneIsWithin nodes ws → AllByRecursion (λ u. AreApart nodes u w) ws
+    → NoneIsWithin nodes (ws ++ w ∷ [])
 none_within_more nodes [] w none all = (tt, tt)
 none_within_more nodes (u ∷ us) w none all = (all_more (AreApart nodes u) us w none.0 all.0, none_within_more nodes us w none.1 all.1)
 
@@ -91,7 +91,8 @@ apart_more p nodes ws w apart beside = record {
 }
 
 partials_more : (p : Program) (nodes : List Node) (left : Contents) (names : List (List ℕ)) (name : List ℕ) (ws : List ℕ) (w : ℕ)
-    (queues : List (List Contribution)) (sent : List Contribution) → ArePartials p nodes left names ws queues → IsPartialOf p nodes (bytes_left left name) w sent
+    (queues : List (List Contribution)) (sent : List Contribution) → ArePartials p nodes left names ws queues
+    → IsPartialOf p nodes (bytes_left left name) w sent
     → ArePartials p nodes left (names ++ name ∷ []) (ws ++ w ∷ []) (queues ++ sent ∷ [])
 partials_more p nodes left [] name [] w [] sent these one = (one, tt)
 partials_more p nodes left [] name [] w (q ∷ queues) sent these one = absurd these
@@ -102,7 +103,8 @@ partials_more p nodes left (n ∷ names) name (v ∷ ws) w (q ∷ queues) sent t
     (these.0, partials_more p nodes left names name ws w queues sent these.1 one)
 
 -- a whole partial is not empty
-not_empty : (h : PartialHead) (cs : List partial.Contribution) (b : Bool) (o : Option (List ℕ)) → IsWholePartial h cs (unwrap_or (cond b (Some []) o) []) → b ≡ false
+not_empty : (h : PartialHead) (cs : List partial.Contribution) (b : Bool) (o : Option (List ℕ)) → IsWholePartial h cs (unwrap_or (cond b (Some []) o) [])
+    → b ≡ false
 not_empty h cs false o whole = refl
 not_empty h cs true o whole =
     absurd (omega (arith, ap length whole.text, length-append (line_of (head_text h)) (lines_text cs), length-append (head_text h) (10 ∷ [])))
@@ -126,7 +128,7 @@ read_one_more : (p : Program) (nodes : List Node) (names : List (List ℕ)) (nam
 read_one_more p nodes names name ws w queues sent was mid then these one =
     let here : (mid name ≡ read_out names was name) = ap (λ (c : Contents). c name) these.end in
     let whole : IsWholePartial one.partial.head one.partial.lines (bytes_left (read_out names was) name) =
-      subst (λ (o : Option (List ℕ)). IsWholePartial one.partial.head one.partial.lines (unwrap_or o [])) here one.partial.whole in
+    subst (λ (o : Option (List ℕ)). IsWholePartial one.partial.head one.partial.lines (unwrap_or o [])) here one.partial.whole in
     let new : is_among names name ≡ false = not_empty one.partial.head one.partial.lines (is_among names name) (was name) whole in
     let same : mid name ≡ was name = here ∙ ap (λ (b : Bool). cond b (Some []) (was name)) new in
     record {
@@ -168,9 +170,13 @@ defect_behind : (p : Program) (nodes : List Node) (names : List (List ℕ)) (pla
     → AreRead p nodes (take place names) ws queues was mid → IsDefect p nodes ws (bytes_left mid name) d → IsFaultOfPartial p nodes names was place d
 defect_behind p nodes names place name ws queues d was mid at apart these is =
     let bytes : bytes_left mid name ≡ bytes_behind (take place names) was (slice_index_or names place []) =
-      ap (λ (c : Contents). bytes_left c name) these.end ∙ ap (bytes_behind (take place names) was) (sym at) in
-    inl (record { ws = ws; queues = queues; earlier = record { partials = these.partials; apart = apart };
-    has = subst (λ bs. IsDefect p nodes ws bs d) bytes is })
+    ap (λ (c : Contents). bytes_left c name) these.end ∙ ap (bytes_behind (take place names) was) (sym at) in
+    inl (record {
+      ws = ws;
+      queues = queues;
+      earlier = record { partials = these.partials; apart = apart };
+      has = subst (λ bs. IsDefect p nodes ws bs d) bytes is;
+    })
 
 pub cause_of : (p : Program) (nodes : List Node) (names : List (List ℕ)) (place : ℕ) (name : List ℕ) (ws : List ℕ) (queues : List (List Contribution))
     (refused : Refused) (fault : CombineFault) (a b c : Option Contents) (before mid now : List ℕ → ℕ)
@@ -179,10 +185,12 @@ pub cause_of : (p : Program) (nodes : List Node) (names : List (List ℕ)) (plac
     → IsCause p nodes names a c before now fault
 cause_of p nodes names place name ws queues (Defect d) fault a b c before mid now lt at is apart these same refusal =
     let here : slice_index_or names place [] ≡ name = get_or_default names place [] name lt ∙ sym at in
-    subst (IsCause p nodes names a c before now) (sym is) (lt,
-    told_then (AreRead p nodes (take place names) ws queues) (λ was then. IsDefect p nodes ws (bytes_left was name) d)
-    (λ was then. IsFaultOfPartial p nodes names was place d) a b c
-    (λ was mid then h k. defect_behind p nodes names place name ws queues d was mid here apart h k) these refusal)
+    subst (IsCause p nodes names a c before now) (sym is) (
+      lt,
+      told_then (AreRead p nodes (take place names) ws queues) (λ was then. IsDefect p nodes ws (bytes_left was name) d)
+          (λ was then. IsFaultOfPartial p nodes names was place d) a b c
+          (λ was mid then h k. defect_behind p nodes names place name ws queues d was mid here apart h k) these refusal,
+    )
 cause_of p nodes names place name ws queues ReadFault fault a b c before mid now lt at is apart these same refusal =
     subst (IsCause p nodes names a c before now) (sym is)
     (inl (name, subst (Contains names) (sym at) (Contains-get_or names place name lt), subst (λ (n : ℕ). Rose n (now name)) (same name) refusal))
@@ -206,7 +214,7 @@ pub read_step : (p : Program) (nodes : List Node) (names : List (List ℕ)) (pla
     → WhereTold a c (AreRead p nodes (take (place + 1) names) more_ws more_queues)
 read_step p nodes names place name ws more_ws w queues more_queues sent a b c lt at same_ws same_queues these one =
     let names_are : take (place + 1) names ≡ take place names ++ name ∷ [] =
-      take_more names place name lt ∙ ap (λ (n : List ℕ). take place names ++ n ∷ []) (sym at) in
+    take_more names place name lt ∙ ap (λ (n : List ℕ). take place names ++ n ∷ []) (sym at) in
     subst (λ (ns : List (List ℕ)). WhereTold a c (AreRead p nodes ns more_ws more_queues)) (sym names_are)
     (subst (λ (vs : List ℕ). WhereTold a c (AreRead p nodes (take place names ++ name ∷ []) vs more_queues)) (sym same_ws)
     (subst (λ (qs : List (List Contribution)). WhereTold a c (AreRead p nodes (take place names ++ name ∷ []) (ws ++ w ∷ []) qs)) (sym same_queues)

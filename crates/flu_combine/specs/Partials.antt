@@ -1,5 +1,5 @@
 -- WHAT A PARTIAL IS of a job and a plan, and what is wrong with another.
-use Rattle.std.specs.Prelude.{◌≡◌, ◌≢◌, ℕ, ◌<◌, ◌≤◌, Option, Some, None, List, [], ◌∷◌, ◌++◌, length, position, slice_index_or, ⊤}
+use Rattle.std.specs.Prelude.{◌≡◌, ◌≢◌, ℕ, ◌<◌, ◌≤◌, Option, Some, None, List, [], ◌∷◌, length, position, slice_index_or, ⊤}
 use Rattle.flu_lemmas.specs.Items.{Pairs}
 use Rattle.flu_model.specs.declared.jobs.Program.{Program}
 use Rattle.flu_model.specs.declared.plans.Node.{Node}
@@ -19,7 +19,7 @@ use Rattle.flu_receiving.specs.declared.receiving.Received.{Received}
 use Rattle.flu_receiving.specs.Faults.{IsFirstFault}
 use Rattle.flu_receiving.specs.Receiving.{IsRead, IsWholePartial}
 use Rattle.flu_combine.specs.declared.fault.PartialDefect.{PartialDefect}
-use Rattle.flu_combine.specs.declared.fault.PartialDefect.TheVariants.{TooLong, Text, OtherJob, OtherPlan, UnknownNode, NotApart, Twice, Within, LeftOver}
+use Rattle.flu_combine.specs.declared.fault.PartialDefect.TheVariants.{TooLong, Text, OtherJob, OtherPlan, UnknownNode, NotApart, Twice, Within}
 
 -- how many bytes a partial has at most
 abbrev pub most_bytes : ℕ

@@ -1,10 +1,8 @@
-use Rattle.std.proofs.Common.{ap, ◌∙◌, Ok}
-use Rattle.std.specs.Prelude.{OnOk, IfOk, IfErr, IsErrOf}
+use Rattle.std.proofs.Common.{ap, ◌∙◌}
+use Rattle.std.specs.Prelude.{OnOk, IfOk, IfErr}
 use Rattle.flu_outside.specs.Outside.{WhereTold}
 use Rattle.flu_selected.specs.Gathering.{reads}
 use Rattle.flu_selected.specs.Gathering.{ReadAreGood, AreReadLists, ReadAreOut, IsFirstReadFault, LeavesUnread, ReadRose}
-use Rattle.flu_streams.specs.declared.faults.GatherFault.{GatherFault}
-use Rattle.flu_streams.specs.declared.faults.GatherFault.TheVariants.{ReadFault}
 use Rattle.flu_combine.proofs.Combinings.{moved}
 use Rattle.flu_combine.proofs.gathering.gather_rest.Goals as goal
 

@@ -9,5 +9,6 @@ returns-clause-read g c =
     let few : length c.as_slice.result.now ≤ 536870912 = search rules in
     let took = rw (← c.as_slice.ensures.value) at c.in-Ok.ensures.whole in
     IfOk-weaker c.accept.result _ _
-    (λ a is. one_read _ _ c.args.name.now c.as_slice.result.now a.node _ (left c.args.files.now) (left c.read_whole.new.files) few took c.in-Ok.ensures.taken is)
+    (λ a is. one_read _ _ c.args.name.now c.as_slice.result.now a.node _ (left c.args.files.now)
+    (left c.read_whole.new.files) few took c.in-Ok.ensures.taken is)
     c.accept.ensures.partial

@@ -24,7 +24,8 @@ returns-in_err-add-in-Ok-clause-others g c =
     let place = c.partials.place in
     let name = c.as_str-in-partials-2.result.now in
     let at = at_place names place name c.index-names-place.result c.partials-test.true c.as_str-in-partials-2.ensures c.index-names-place.is in
-    others_more names name (left c.args.files.now) (left c.partials.files) (left c.read_one-read.new.files) (among_names names place name c.partials-test.true at)
+    others_more names name (left c.args.files.now) (left c.partials.files)
+    (left c.read_one-read.new.files) (among_names names place name c.partials-test.true at)
     c.partials.invariant.others c.read_one-read.ensures.taken
 
 pub returns-in-Err-clause-cause : goal.returns-in-Err-clause-cause
@@ -56,7 +57,8 @@ returns-in-Err-clause-others g c =
     let place = c.partials.place in
     let name = c.as_str-in-partials-2.result.now in
     let at = at_place names place name c.index-names-place.result c.partials-test.true c.as_str-in-partials-2.ensures c.index-names-place.is in
-    others_more names name (left c.args.files.now) (left c.partials.files) (left c.read_one-read.new.files) (among_names names place name c.partials-test.true at)
+    others_more names name (left c.args.files.now) (left c.partials.files)
+    (left c.read_one-read.new.files) (among_names names place name c.partials-test.true at)
     c.partials.invariant.others c.read_one-read.ensures.taken
 
 pub partials-preserved : goal.partials-preserved
@@ -80,7 +82,8 @@ partials-preserved g c =
       read = read_step p nodes names place name ws c.add.new.self.nodes.items w (waiting_in_each c.partials.partials.queues.items)
           (waiting_in_each c.add.new.self.queues.items) (waiting_in c.in-Ok.accepted.queue) (left old) (left mid) (left new) c.partials-test.true at
           c.in_ok-add-in-Ok.ensures.nodes c.in_ok-add-in-Ok.ensures.queues c.partials.invariant.read c.in-Ok.ensures.read;
-      many = ap length c.in_ok-add-in-Ok.ensures.queues ∙ length-append (waiting_in_each c.partials.partials.queues.items) (waiting_in c.in-Ok.accepted.queue ∷ [])
+      many = ap length c.in_ok-add-in-Ok.ensures.queues
+          ∙ length-append (waiting_in_each c.partials.partials.queues.items) (waiting_in c.in-Ok.accepted.queue ∷ [])
           ∙ ap (λ (n : ℕ). n + 1) c.partials.invariant.many;
       apart = subst (AreNodesApart p nodes) (sym c.in_ok-add-in-Ok.ensures.nodes) (apart_more p nodes ws w c.partials.invariant.apart beside);
       others = others_more names name (left old) (left mid) (left new) (among_names names place name c.partials-test.true at)
