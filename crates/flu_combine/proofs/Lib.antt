@@ -1,0 +1,4 @@
+mod Judging
+mod Readings
+mod Combinings
+mod Lawful

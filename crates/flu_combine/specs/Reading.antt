@@ -1,0 +1,52 @@
+-- What reading partials one after another does.
+use Rattle.std.specs.Prelude.{◌≡◌, ℕ, Option, List, [], ◌∷◌, ⊤}
+use Rattle.flu_model.specs.declared.jobs.Program.{Program}
+use Rattle.flu_model.specs.declared.plans.Node.{Node}
+use Rattle.flu_outside.specs.Outside.{Contents, Rose, WhereTold}
+use Rattle.flu_outside.specs.Taking.{bytes_left, TakesFrom, TookFronts}
+use Rattle.std.specs.List.{AllByRecursion}
+use Rattle.flu_contribution.specs.Contributions.{Contribution}
+use Rattle.flu_contribution.specs.Laws.{IsApart}
+use Rattle.flu_deps.specs.Trees.{AreApart}
+use Rattle.flu_combine.specs.declared.fault.CombineFault.{CombineFault}
+use Rattle.flu_combine.specs.declared.fault.CombineFault.TheVariants as combine
+use Rattle.flu_combine.specs.declared.fault.Refused.{Refused}
+use Rattle.flu_combine.specs.declared.fault.Refused.TheVariants.{Defect, ReadFault, NoMemory}
+use Rattle.flu_combine.specs.Names.{read_out}
+use Rattle.flu_combine.specs.Partials.{IsPartialOf, ArePartials, IsDefect}
+
+-- the node may be apart, beside these
+pub record IsApartBeside (p : Program) (nodes : List Node) (ws : List ℕ) (w : ℕ) : Type 0 where
+  pub apart : IsApart p nodes w
+  pub beside : AllByRecursion (λ u. AreApart nodes u w) ws
+
+-- a partial of a node was read to its end
+pub record IsOneRead (p : Program) (nodes : List Node) (name : List ℕ) (w : ℕ) (sent : List Contribution) (old new : Contents) : Type 0 where
+  pub partial : IsPartialOf p nodes (bytes_left old name) w sent
+  pub end : new ≡ read_out (name ∷ []) old
+  pub taken : TakesFrom name old new
+
+-- why bytes are not accepted as a partial
+abbrev pub IsRefusedAs : Program → List Node → List ℕ → List ℕ → Refused → Type 0
+IsRefusedAs p nodes ws bytes (Defect defect) = IsDefect p nodes ws bytes defect
+IsRefusedAs p nodes ws bytes ReadFault = ⊥
+IsRefusedAs p nodes ws bytes NoMemory = ⊤
+
+-- why a partial under a name is not accepted
+abbrev pub IsRefusal : Program → List Node → List ℕ → List ℕ → Option Contents → Option Contents → (List ℕ → ℕ) → (List ℕ → ℕ) → Refused → Type 0
+IsRefusal p nodes ws name old new before now (Defect defect) = WhereTold old new (λ was then. IsDefect p nodes ws (bytes_left was name) defect)
+IsRefusal p nodes ws name old new before now ReadFault = Rose (before name) (now name)
+IsRefusal p nodes ws name old new before now NoMemory = ⊤
+
+-- and what is said of it, with its place
+abbrev pub IsRefusedAt : ℕ → Refused → CombineFault → Type 0
+IsRefusedAt place (Defect defect) fault = fault ≡ combine.Partial place defect
+IsRefusedAt place ReadFault fault = fault ≡ combine.ReadFault
+IsRefusedAt place NoMemory fault = fault ≡ combine.NoMemory
+
+-- partials of nodes were read to their end
+pub record AreRead (p : Program) (nodes : List Node) (names : List (List ℕ)) (ws : List ℕ) (queues : List (List Contribution))
+    (old new : Contents) : Type 0 where
+  pub partials : ArePartials p nodes old names ws queues
+  pub end : new ≡ read_out names old
+  pub fronts : TookFronts old new
