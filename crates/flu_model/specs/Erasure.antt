@@ -1,5 +1,6 @@
 -- Jobs as plain data: without where the boxes of their expressions lie in memory. Two jobs are the same where their plain data is.
 use Rattle.std.specs.Prelude.{◌≡◌, ℕ, ℤ, Bool, List, map, Option, option_map}
+use Rattle.flu_calendar.specs.declared.unit.Unit.{Unit}
 use Rattle.flu_model.specs.declared.jobs.CellRef.{CellRef}
 use Rattle.flu_model.specs.declared.jobs.Op.{Op}
 use Rattle.flu_model.specs.declared.jobs.Piece.{Piece}
@@ -78,13 +79,14 @@ plain_kind k = record { name = k.name; keyed = k.keyed; has_item = k.has_item; h
 -- a job as it is written
 pub record Job : Type 0 where
   pub version : ℕ
+  pub iso : Option Unit
   pub families : List Family
   pub kinds : List PlainKind
   pub depends : List Depend
   pub sources : List Source
 
 abbrev pub job_of : Program → Job
-job_of p = record { version = p.version; families = p.families; kinds = map plain_kind p.kinds; depends = p.depends; sources = p.sources }
+job_of p = record { version = p.version; iso = p.iso; families = p.families; kinds = map plain_kind p.kinds; depends = p.depends; sources = p.sources }
 
 -- two programs are the same job
 abbrev pub IsSameJob : Program → Program → Type 0

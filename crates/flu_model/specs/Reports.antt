@@ -12,6 +12,7 @@ use Rattle.flu_model.specs.declared.events.Cell.{Cell}
 use Rattle.flu_model.specs.declared.jobs.Family.{Family}
 use Rattle.flu_model.specs.declared.jobs.Kind.{Kind}
 use Rattle.flu_model.specs.declared.jobs.Program.{Program}
+use Rattle.flu_model.specs.Texts.{Unit, shown_time}
 
 abbrev pub name_with_key : List ℕ → Bool → ℕ → List ℕ
 name_with_key name keyed key = if keyed then name ++ codes "[" ++ decimal key ++ codes "]" else name
@@ -45,17 +46,17 @@ line_of p o = record { time = o.time; tag = text_of_tag p o.tag; text = o.text }
 abbrev pub line_cmp : Line → Line → Ordering
 line_cmp a b = ordering_then (nat_cmp a.time b.time) (ordering_then (slice_cmp nat_cmp a.tag b.tag) (slice_cmp nat_cmp a.text b.text))
 
--- `time,tag,text` and a line feed
-abbrev pub line_bytes : Line → List ℕ
-line_bytes l = decimal l.time ++ 44 ∷ l.tag ++ 44 ∷ l.text ++ 10 ∷ []
+-- `time,tag,text` and a line feed, where the time is shown as this unit asks
+abbrev pub line_bytes : Option Unit → Line → List ℕ
+line_bytes iso l = shown_time iso l.time ++ 44 ∷ l.tag ++ 44 ∷ l.text ++ 10 ∷ []
 
 -- REPORT: the lines of the outputs, sorted, one after another; equal lines are kept
 pub record IsReport (p : Program) (outs : List Out) (bytes : List ℕ) : Type 0 where
   pub lines : List Line
   pub all : IsPermutation (map (line_of p) outs) lines
   pub sorted : IsSorted line_cmp lines
-  pub is : bytes ≡ flat_map line_bytes lines
+  pub is : bytes ≡ flat_map (line_bytes p.iso) lines
 
 -- the report by a plain, slow program
 abbrev pub report : Program → List Out → List ℕ
-report p outs = flat_map line_bytes (in_order (λ a b. is_lt (line_cmp a b)) (map (line_of p) outs))
+report p outs = flat_map (line_bytes p.iso) (in_order (λ a b. is_lt (line_cmp a b)) (map (line_of p) outs))

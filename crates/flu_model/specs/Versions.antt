@@ -2,6 +2,7 @@
 -- came with version 3. Each is a test, which computes.
 use Rattle.std.specs.Prelude.{ℕ, Bool, true, false, not, ◌==◌, ◌&&◌, ◌||◌, Option, Some, None, List, codes, if◌then◌else◌}
 use Rattle.std.specs.List.{list_all, list_any}
+use Rattle.flu_calendar.specs.declared.unit.Unit.{Unit}
 use Rattle.flu_model.specs.declared.jobs.Family.{Family}
 use Rattle.flu_model.specs.declared.jobs.At.{At}
 use Rattle.flu_model.specs.declared.jobs.At.TheVariants.{Alone, OwnKey, OwnItem, Fixed}
@@ -135,3 +136,8 @@ is_named_item f = is_same_text f.name (codes "item")
 abbrev pub fit_version : ℕ → List Family → List Kind → Bool
 fit_version version families kinds =
     list_all items_fit kinds && (if version == 3 then not (list_any is_named_item families) else list_all is_older_kind kinds)
+
+-- times as text came with version 3
+abbrev pub iso_fits : ℕ → Option Unit → Bool
+iso_fits version None = true
+iso_fits version (Some unit) = version == 3

@@ -2,11 +2,12 @@
 
 ghost use Rattle.std.specs.Prelude.{◌≤◌, length, IsTrue};
 ghost use Rattle.flu_model.specs.Listing.{itags_of_sources};
-ghost use Rattle.flu_model.specs.Versions.{fit_version};
+ghost use Rattle.flu_model.specs.Versions.{fit_version, iso_fits};
 ghost use Rattle.flu_model.specs.Rules.{is_version, are_families, are_kinds, are_depends, are_sources, have_own_names, have_own_files};
 
 use crate::lists::List;
 use crate::words::{Name, Text};
+use flu_calendar::Unit;
 
 /// What the cells of a family hold: sums of 128 bits, maxima, or last values of 64 bits.
 #[derive(Clone, Copy, PartialEq, Eq, Debug)]
@@ -160,15 +161,18 @@ pub struct Source {
 }
 
 /// A job. Its names, shapes and sizes keep the rules of the language (`docs/LANGUAGE.md`), so no caller can make another. The
-/// version of the language, 1 to 3, says how tags that only read a cell may share it, and whether there are items.
+/// version of the language, 1 to 3, says how tags that only read a cell may share it, and whether there are items. With a unit, `iso`,
+/// times count it from 1970-01-01T00:00:00 UTC on: rows may write them as text, and the report and `{time}` show them so.
 #[derive(Drop)]
 pub struct Program {
     pub version: u32,
+    pub iso: Option<Unit>,
     pub families: List<Family>,
     pub kinds: List<Kind>,
     pub depends: List<Depend>,
     pub sources: List<Source>,
     pub ghost known_version: { IsTrue (is_version version) },
+    pub ghost known_iso: { IsTrue (iso_fits version iso) },
     pub ghost few_families: { length families ≤ 64 },
     pub ghost few_kinds: { length kinds ≤ 64 },
     pub ghost few_depends: { length depends ≤ 4096 },

@@ -15,6 +15,7 @@ pub mod streams;
 pub mod words;
 
 pub use cells::{actions_of, cell_of, item_of};
+pub use flu_calendar::Unit;
 pub use events::{Cell, Event, Itag, Item, Out, Outs, Tag, Worth, before};
 pub use itags::{itag_count, key_count, source_of, tag_of};
 pub use jobs::{
