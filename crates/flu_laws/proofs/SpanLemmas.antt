@@ -75,12 +75,12 @@ is_mix p c m quiet = at_mode (mode_at p m.event c) refl quiet
 
     at_mode : (n : Mode) → mode_at p m.event c ≡ n → needs n ≡ false
         → (let g : Tag = tag_of_itag p m.event.itag in IsMix p.families c
-        (change_by p.families n (actions_of (slice_get p.kinds g.kind)) m.before m.event g.key c))
+        (change_by p.iso p.families n (actions_of (slice_get p.kinds g.kind)) m.before m.event g.key c))
     at_mode NoMode e q = tt
     at_mode AddMode e q = (added_sort p (tag_of_itag p m.event.itag) c e, added_may p m.before m.event c e)
     at_mode RaiseMode e q =
         let g : Tag = tag_of_itag p m.event.itag in
-        reached (level_reached p.families (actions_of (slice_get p.kinds g.kind)) m.before m.event g.key c)
+        reached (level_reached p.iso p.families (actions_of (slice_get p.kinds g.kind)) m.before m.event g.key c)
         (raised_sort p g c e, raised_may p m.before m.event c e)
     at_mode ReadMode e q = cc
     at_mode Own e q = cc

@@ -12,11 +12,12 @@ pub mod modes;
 pub mod names;
 pub mod plans;
 pub mod streams;
+pub mod times;
 pub mod words;
 
 pub use cells::{actions_of, cell_of, item_of};
-pub use flu_calendar::Unit;
 pub use events::{Cell, Event, Itag, Item, Out, Outs, Tag, Worth, before};
+pub use flu_calendar::Unit;
 pub use itags::{itag_count, key_count, source_of, tag_of};
 pub use jobs::{
     Act, Action, At, CellRef, Depend, Expr, Family, Keys, Kind, Op, Piece, Program, Sort, Source,
@@ -28,4 +29,5 @@ pub use modes::Mode;
 pub use names::tag_text;
 pub use plans::{Node, Plan, Pred, matches};
 pub use streams::Streams;
+pub use times::push_shown_time;
 pub use words::{Name, Text};
