@@ -44,7 +44,7 @@ settled_from slack (Some last) t e = (last, refl, by (nat_le slack last) e)
 
 -- the lines of files, by the source's number
 lines_of_files : (p : Program) (left : Files) (whole : ℕ → List Next) → LinesIn p left whole → LinesFit p whole
-lines_of_files p left whole is i s at = subst (AllByRecursion NextFits) (sym (is i s at)) (file_read (form_of p.version) (bytes_left left s.file))
+lines_of_files p left whole is i s at = subst (AllByRecursion NextFits) (sym (is i s at)) (file_read (form_of p.version p.iso) (bytes_left left s.file))
 
 -- a round with a border, and some border of it
 pub record RoundTo (p : Program) (rows : ℕ) (whole : ℕ → List Next) (above : Option ℕ) (before : ℕ → List Next) : Type 0 where
