@@ -21,6 +21,7 @@ use Rattle.flu_grammar.specs.Laws.{NormalFormIsShort, NormalFormIsUtf8}
 use Rattle.flu_outside.specs.Outside.{Contents}
 use Rattle.flu_outside.specs.Taking.{bytes_left}
 use Rattle.flu_rows.specs.declared.rows.Next.{Next}
+use Rattle.flu_rows.specs.Laws.{TimesAreInRange}
 use Rattle.flu_rows.specs.Row.{form_of}
 use Rattle.flu_rows.specs.Reading.{read_file}
 use Rattle.flu_streams.specs.declared.border.Border.TheVariants.{At, Closed}
@@ -49,6 +50,7 @@ use Rattle.flu_command.proofs.Rests.{RoundTo, round_to, round_fits, border_low, 
 
 -- ---- the laws that this rests on
 pub record LawsOfRests : Type 0 where
+  pub times : TimesAreInRange
   pub tags : TagsFit
   pub sorts : FoldKeepsSorts
   pub fronts : LawOfFronts
@@ -133,12 +135,12 @@ module _ (laws : LawsOfRests) (p : Program) (o : Opening) (left : Contents) (who
 
       pub border_fits : t < 2 ^ 63
       border_fits =
-          subst (λ (n : ℕ). n < 2 ^ 63) same_border (border_low p o.rows whole (fit p left whole lines sound) (Some t) before to)
+          subst (λ (n : ℕ). n < 2 ^ 63) same_border (border_low p o.rows whole (fit p left whole lines sound laws.times) (Some t) before to)
 
       pub cells_savable : IsSavable p.families cells
       cells_savable =
           state_savable early (merged_fit p o.border (At t) before
-          (round_fits p o.rows whole (fit p left whole lines sound) (Some t) before to))
+          (round_fits p o.rows whole (fit p left whole lines sound laws.times) (Some t) before to))
 
   -- ---- behind all rounds
   all_savable : IsSavable p.families (final_state p o.cells items)
@@ -147,13 +149,13 @@ module _ (laws : LawsOfRests) (p : Program) (o : Opening) (left : Contents) (who
       by : (border : Option ℕ) → AllByRecursion EventFits (merged (lists_above border (lists_of p left)))
       by None =
           subst (λ (lists : List (List Item)). AllByRecursion EventFits (merged lists)) (all_rows p left whole lines sound laws.last)
-          (merged_fit p None Closed whole (fit p left whole lines sound))
+          (merged_fit p None Closed whole (fit p left whole lines sound laws.times))
       by (Some start) =
           subst (AllByRecursion EventFits) (later_rows p left whole lines sound laws.later start)
-          (merged_fit p (Some start) Closed whole (fit p left whole lines sound))
+          (merged_fit p (Some start) Closed whole (fit p left whole lines sound laws.times))
 
   nothing_later : merged (beyond greatest_border (lists_of p left)) ≡ []
-  nothing_later = none_beyond p left whole lines sound laws.last laws.cut
+  nothing_later = none_beyond p left whole lines sound laws.times laws.last laws.cut
 
 -- ---- what was put
 -- the border and the state of a checkpoint that was put, and that what it opens is the rest, in rounds of any number of rows
