@@ -57,8 +57,8 @@ tag_then form bytes time behind name key rest t some comma g more second =
     field_then bytes (t.field ∷ []) (behind_one behind) g.field rest (time_first form bytes time behind t some comma) g.cuts more second
 
 -- a time and a tag
-pub usual_two : (form : RowForm) (bytes : List ℕ) (time : ℕ) (behind name : List ℕ) (key : Option ℕ) (rest : List ℕ) (size : ℕ) → CutsTime form bytes time behind
-    → 1 ≤ length behind → get_or behind 0 0 ≡ 44 → CutsTag (behind_one behind) name key rest → EndsLine bytes rest size
+pub usual_two : (form : RowForm) (bytes : List ℕ) (time : ℕ) (behind name : List ℕ) (key : Option ℕ) (rest : List ℕ) (size : ℕ)
+    → CutsTime form bytes time behind → 1 ≤ length behind → get_or behind 0 0 ≡ 44 → CutsTag (behind_one behind) name key rest → EndsLine bytes rest size
     → StartsWithRow form bytes (Event time name key Nothing) size
 usual_two form bytes time behind name key rest size t some comma g ends =
     last_field form bytes (t.field ∷ []) (behind_one behind) g.field rest (Event time name key Nothing) size
@@ -79,8 +79,9 @@ usual_three form bytes time behind name key mid item value rest fields size t so
     (three_is form t.field g.field n.field time name key fields t.is g.is (alone n.field n.item_is n.is)))
 
 -- and two numbers
-pub usual_four : (iso : Option Unit) (bytes : List ℕ) (time : ℕ) (behind name : List ℕ) (key : Option ℕ) (mid : List ℕ) (first : Option ℕ) (one : ℤ) (last : List ℕ)
-    (item : ℕ) (second : Option ℕ) (value : ℤ) (rest : List ℕ) (size : ℕ) → CutsTime (WithItems iso) bytes time behind → 1 ≤ length behind → get_or behind 0 0 ≡ 44
+pub usual_four : (iso : Option Unit) (bytes : List ℕ) (time : ℕ) (behind name : List ℕ) (key : Option ℕ) (mid : List ℕ) (first : Option ℕ) (one : ℤ)
+    (last : List ℕ) (item : ℕ) (second : Option ℕ) (value : ℤ) (rest : List ℕ) (size : ℕ) → CutsTime (WithItems iso) bytes time behind
+    → 1 ≤ length behind → get_or behind 0 0 ≡ 44
     → CutsTag (behind_one behind) name key mid → 1 ≤ length mid → get_or mid 0 0 ≡ 44 → CutsNumber (behind_one mid) first one last → first ≡ Some item
     → 1 ≤ length last → get_or last 0 0 ≡ 44 → CutsNumber (behind_one last) second value rest → EndsLine bytes rest size
     → StartsWithRow (WithItems iso) bytes (Event time name key (Two item value)) size
