@@ -6,3 +6,4 @@ pub mod Cycles
 pub mod Printed
 pub mod Agreed
 pub mod Ordered
+pub mod Computed

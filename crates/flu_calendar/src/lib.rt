@@ -15,8 +15,8 @@ mod read;
 mod unit;
 
 pub use laws::{
-    days_have_one_date, printed_texts_are_in_order, printed_texts_say_their_times,
-    texts_say_one_time,
+    computed_times_are_said, computed_times_have_an_end, days_have_one_date, ends_are_in_range,
+    printed_texts_are_in_order, printed_texts_say_their_times, texts_say_one_time,
 };
 pub use print::push_time;
 pub use read::read_time;

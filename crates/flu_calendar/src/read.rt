@@ -4,6 +4,7 @@ ghost use Rattle.std.specs.Prelude.{◌≡◌, ◌+◌, ◌*◌, ◌<◌, ◌≤
 ghost use Rattle.flu_calendar.specs.Units.{units_in_second, times_end};
 ghost use Rattle.flu_calendar.specs.Texts.{IsTimeText, IsFraction, units_in_fraction};
 ghost use Rattle.flu_calendar.specs.Places.{HasTwo, HasDay, HasClock, SaysFraction, IsWithoutZone};
+ghost use Rattle.flu_calendar.specs.TimeInText.{time_in_text};
 
 use crate::date::{day_of, is_date};
 use crate::unit::Unit;
@@ -18,6 +19,7 @@ const MOST_DIGITS: usize = 9;
 pub fn read_time(unit: Unit, bytes: &[u8]) -> Option<u64>
     ensures says { IfSome result (λ t. IsTimeText unit bytes.now t) }
     ensures says_none { IfNone result ((t : ℕ) → ¬ IsTimeText unit bytes.now t) }
+    ensures value { result ≡ time_in_text unit bytes.now }
     ensures below_end { IfSome result (λ t. t < times_end unit) }
 {
     if bytes.len() < SECOND_LEN {

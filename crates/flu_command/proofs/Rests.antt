@@ -15,6 +15,7 @@ use Rattle.flu_model.specs.declared.jobs.Program.{Program}
 use Rattle.flu_model.specs.Merging.{all_events, merged, is_before}
 use Rattle.flu_outside.specs.Outside.{Contents as Files}
 use Rattle.flu_outside.specs.Taking.{bytes_left}
+use Rattle.flu_rows.specs.Laws.{TimesAreInRange}
 use Rattle.flu_rows.specs.Row.{form_of}
 use Rattle.flu_rows.specs.declared.rows.Next.{Next}
 use Rattle.flu_streams.specs.declared.border.Border.TheVariants.{Closed}
@@ -43,8 +44,9 @@ settled_from slack (Some last) t e = (last, refl, by (nat_le slack last) e)
     by false f = absurd cc
 
 -- the lines of files, by the source's number
-lines_of_files : (p : Program) (left : Files) (whole : ℕ → List Next) → LinesIn p left whole → LinesFit p whole
-lines_of_files p left whole is i s at = subst (AllByRecursion NextFits) (sym (is i s at)) (file_read (form_of p.version) (bytes_left left s.file))
+lines_of_files : TimesAreInRange → (p : Program) (left : Files) (whole : ℕ → List Next) → LinesIn p left whole → LinesFit p whole
+lines_of_files times p left whole is i s at =
+    subst (AllByRecursion NextFits) (sym (is i s at)) (file_read times (form_of p.version p.iso) (bytes_left left s.file))
 
 -- a round with a border, and some border of it
 pub record RoundTo (p : Program) (rows : ℕ) (whole : ℕ → List Next) (above : Option ℕ) (before : ℕ → List Next) : Type 0 where
@@ -111,13 +113,13 @@ module _ (p : Program) (left : Files) (whole : ℕ → List Next) (lines : Lines
   pub later_rows : LawOfLastAbove → (t : ℕ) → merged (lists_between p (Some t) Closed whole) ≡ merged (beyond t (lists_of p left))
   later_rows later t = later p bound.0 None whole whole whole left t lines read_all
 
-  pub fit : LinesFit p whole
-  fit = lines_of_files p left whole lines
+  pub fit : TimesAreInRange → LinesFit p whole
+  fit times = lines_of_files times p left whole lines
 
-  pub all_fit : LawOfLastRound → AllByRecursion EventFits (all_events (lists_of p left))
-  all_fit last =
+  pub all_fit : TimesAreInRange → LawOfLastRound → AllByRecursion EventFits (all_events (lists_of p left))
+  all_fit times last =
       subst (λ (lists : List (List Item)). AllByRecursion EventFits (all_events lists)) (all_rows last)
-      (all_events_fit (lists_between p None Closed whole) (lists_between_fit p None Closed whole fit))
+      (all_events_fit (lists_between p None Closed whole) (lists_between_fit p None Closed whole (fit times)))
 
   -- no row is later than the greatest border
   none_late : (xs : List Event) → AllByRecursion EventFits xs → filter (λ x. nat_lt 9223372036854775807 x.time) xs ≡ []
@@ -126,6 +128,6 @@ module _ (p : Program) (left : Files) (whole : ℕ → List Next) (lines : Lines
       ap (λ b. cond b (x ∷ filter (λ y. nat_lt 9223372036854775807 y.time) xs) (filter (λ y. nat_lt 9223372036854775807 y.time) xs))
       (le-ltb 9223372036854775807 x.time (omega (arith, all.0.0))) ∙ none_late xs all.1
 
-  pub none_beyond : LawOfLastRound → ItemsAreCut → merged (beyond 9223372036854775807 (lists_of p left)) ≡ []
-  none_beyond last cut =
-      ap (in_order is_before) ((cut 9223372036854775807 (lists_of p left)).late ∙ none_late (all_events (lists_of p left)) (all_fit last))
+  pub none_beyond : TimesAreInRange → LawOfLastRound → ItemsAreCut → merged (beyond 9223372036854775807 (lists_of p left)) ≡ []
+  none_beyond times last cut =
+      ap (in_order is_before) ((cut 9223372036854775807 (lists_of p left)).late ∙ none_late (all_events (lists_of p left)) (all_fit times last))

@@ -21,6 +21,7 @@ use Rattle.flu_grammar.specs.Laws.{NormalFormIsShort, NormalFormIsUtf8}
 use Rattle.flu_outside.specs.Outside.{Contents}
 use Rattle.flu_outside.specs.Taking.{bytes_left}
 use Rattle.flu_rows.specs.declared.rows.Next.{Next}
+use Rattle.flu_rows.specs.Laws.{TimesAreInRange}
 use Rattle.flu_rows.specs.Row.{form_of}
 use Rattle.flu_rows.specs.Reading.{read_file}
 use Rattle.flu_streams.specs.declared.border.Border.TheVariants.{At, Closed}
@@ -49,6 +50,7 @@ use Rattle.flu_command.proofs.Rests.{RoundTo, round_to, round_fits, border_low, 
 
 -- ---- the laws that this rests on
 pub record LawsOfRests : Type 0 where
+  pub times : TimesAreInRange
   pub tags : TagsFit
   pub sorts : FoldKeepsSorts
   pub fronts : LawOfFronts
@@ -133,12 +135,12 @@ module _ (laws : LawsOfRests) (p : Program) (o : Opening) (left : Contents) (who
 
       pub border_fits : t < 2 ^ 63
       border_fits =
-          subst (λ (n : ℕ). n < 2 ^ 63) same_border (border_low p o.rows whole (fit p left whole lines sound) (Some t) before to)
+          subst (λ (n : ℕ). n < 2 ^ 63) same_border (border_low p o.rows whole (fit p left whole lines sound laws.times) (Some t) before to)
 
       pub cells_savable : IsSavable p.families cells
       cells_savable =
           state_savable early (merged_fit p o.border (At t) before
-          (round_fits p o.rows whole (fit p left whole lines sound) (Some t) before to))
+          (round_fits p o.rows whole (fit p left whole lines sound laws.times) (Some t) before to))
 
   -- ---- behind all rounds
   all_savable : IsSavable p.families (final_state p o.cells items)
@@ -147,13 +149,13 @@ module _ (laws : LawsOfRests) (p : Program) (o : Opening) (left : Contents) (who
       by : (border : Option ℕ) → AllByRecursion EventFits (merged (lists_above border (lists_of p left)))
       by None =
           subst (λ (lists : List (List Item)). AllByRecursion EventFits (merged lists)) (all_rows p left whole lines sound laws.last)
-          (merged_fit p None Closed whole (fit p left whole lines sound))
+          (merged_fit p None Closed whole (fit p left whole lines sound laws.times))
       by (Some start) =
           subst (AllByRecursion EventFits) (later_rows p left whole lines sound laws.later start)
-          (merged_fit p (Some start) Closed whole (fit p left whole lines sound))
+          (merged_fit p (Some start) Closed whole (fit p left whole lines sound laws.times))
 
   nothing_later : merged (beyond greatest_border (lists_of p left)) ≡ []
-  nothing_later = none_beyond p left whole lines sound laws.last laws.cut
+  nothing_later = none_beyond p left whole lines sound laws.times laws.last laws.cut
 
 -- ---- what was put
 -- the border and the state of a checkpoint that was put, and that what it opens is the rest, in rounds of any number of rows
@@ -167,7 +169,7 @@ pub record IsPut (p : Program) (o : Opening) (texts : List (List ℕ)) (left : C
 
 lines_are_in : (p : Program) (left : Contents) → LinesIn p left (lines_in p left)
 lines_are_in p left i s at =
-    ap (λ (found : Option Source). option_map_or (λ (source : Source). read_file (form_of p.version) (bytes_left left source.file)) found []) at
+    ap (λ (found : Option Source). option_map_or (λ (source : Source). read_file (form_of p.version p.iso) (bytes_left left source.file)) found []) at
 
 put_by_some : (p : Program) (o : Opening) (done : List (List (List Item))) (border : Option ℕ) (lines : ℕ → List Next) (checkpoint : List ℕ)
     → Some checkpoint ≡ put_by p o done border lines
@@ -284,18 +286,18 @@ module _ (p : Program) (one other : Contents) (same : (name : List ℕ) → Cont
   same_lines_at i = by (slice_get p.sources i) refl
     where
       by : (o : Option Source) → slice_get p.sources i ≡ o
-          → option_map_or (λ (s : Source). read_file (form_of p.version) (bytes_left other s.file)) o []
-          ≡ option_map_or (λ (s : Source). read_file (form_of p.version) (bytes_left one s.file)) o []
+          → option_map_or (λ (s : Source). read_file (form_of p.version p.iso) (bytes_left other s.file)) o []
+          ≡ option_map_or (λ (s : Source). read_file (form_of p.version p.iso) (bytes_left one s.file)) o []
       by None at = refl
-      by (Some s) at = ap (read_file (form_of p.version)) (same s.file (file_there p.sources i s at))
+      by (Some s) at = ap (read_file (form_of p.version p.iso)) (same s.file (file_there p.sources i s at))
 
   -- the lists of some sources behind others
   same_lists : (before ss : List Source) → ((i : ℕ) (s : Source) → slice_get ss i ≡ Some s → bytes_left other s.file ≡ bytes_left one s.file)
-      → flat_map (λ e. lists_of_rows p.kinds e.1 (sum_by width e.0) (rows_in (form_of p.version) other e.1)) (with_before before ss)
-      ≡ flat_map (λ e. lists_of_rows p.kinds e.1 (sum_by width e.0) (rows_in (form_of p.version) one e.1)) (with_before before ss)
+      → flat_map (λ e. lists_of_rows p.kinds e.1 (sum_by width e.0) (rows_in (form_of p.version p.iso) other e.1)) (with_before before ss)
+      ≡ flat_map (λ e. lists_of_rows p.kinds e.1 (sum_by width e.0) (rows_in (form_of p.version p.iso) one e.1)) (with_before before ss)
   same_lists before [] each = refl
   same_lists before (s ∷ ss) each =
-      λ i. lists_of_rows p.kinds s (sum_by width before) (rows_of (read_file (form_of p.version) (each 0 s refl i)))
+      λ i. lists_of_rows p.kinds s (sum_by width before) (rows_of (read_file (form_of p.version p.iso) (each 0 s refl i)))
       ++ same_lists (before ++ s ∷ []) ss (λ j x at. each (suc j) x at) i
 
 pub sources_decide : SourcesDecide

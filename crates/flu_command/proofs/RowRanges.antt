@@ -26,6 +26,7 @@ use Rattle.flu_rows.specs.declared.row.Row.TheVariants.{Event as EventRow, Beat 
 use Rattle.flu_rows.specs.declared.rows.Next.{Next}
 use Rattle.flu_rows.specs.declared.rows.Next.TheVariants.{Row as RowNext, Bad, TooManyLines, Done}
 use Rattle.flu_rows.specs.Fields.{number_of, time_of, item_of, value_of, tag_of}
+use Rattle.flu_rows.specs.Laws.{TimesAreInRange}
 use Rattle.flu_rows.specs.Lines.{line_of, line_of_fields, line_of_row, line_of_one, line_of_records, begins_with_mark, lines_of}
 use Rattle.flu_rows.specs.Reading.{read_line, read_lines, read_file}
 use Rattle.flu_rows.specs.Records.{first_record, record_after}
@@ -93,20 +94,20 @@ value_word text v e = by (slice_index text 0 == 45) e
     by true f = below (number_of (2 ^ 63) (drop 1 text)) (number_within (2 ^ 63) (drop 1 text)) f
     by false f = above (number_of (2 ^ 63 - 1) text) (number_within (2 ^ 63 - 1) text) f
 
-two_fit : (time tag : List ℕ) → IfSome (row_of_two time tag) RowFits
+two_fit : TimesAreInRange → (form : RowForm) (time tag : List ℕ) → IfSome (row_of_two form time tag) RowFits
 unfolding row_of_two
-two_fit time tag = by_time (time_of time) (λ n e. number_within (2 ^ 63 - 1) time n e)
+two_fit times form time tag = by_time (time_of form time) (times form time)
   where
-    by_tag : (t : ℕ) → t ≤ 2 ^ 63 - 1 → (o : Option (List ℕ × Option ℕ)) → IfSome (option_and_then (λ k. Some (EventRow t k.0 k.1 Nothing)) o) RowFits
+    by_tag : (t : ℕ) → t < 2 ^ 63 → (o : Option (List ℕ × Option ℕ)) → IfSome (option_and_then (λ k. Some (EventRow t k.0 k.1 Nothing)) o) RowFits
     by_tag t small None = tt
-    by_tag t small (Some k) = (omega (arith, small), tt)
+    by_tag t small (Some k) = (small, tt)
 
-    by_beat : (t : ℕ) → t ≤ 2 ^ 63 - 1 → (b : Bool)
+    by_beat : (t : ℕ) → t < 2 ^ 63 → (b : Bool)
         → IfSome (cond b (Some (BeatRow t)) (option_and_then (λ k. Some (EventRow t k.0 k.1 Nothing)) (tag_of tag))) RowFits
-    by_beat t small true = omega (arith, small)
+    by_beat t small true = small
     by_beat t small false = by_tag t small (tag_of tag)
 
-    by_time : (o : Option ℕ) → ((n : ℕ) → o ≡ Some n → n ≤ 2 ^ 63 - 1)
+    by_time : (o : Option ℕ) → ((n : ℕ) → o ≡ Some n → n < 2 ^ 63)
         → IfSome (option_and_then (λ t. cond (bytes_eq tag (codes "beat")) (Some (BeatRow t))
         (option_and_then (λ k. Some (EventRow t k.0 k.1 Nothing)) (tag_of tag))) o) RowFits
     by_time None small = tt
@@ -130,7 +131,7 @@ one_fits Older text = by (value_of text) (value_fits text)
     by : (o : Option ℤ) → IfSome o IsWord → IfSome (option_map (λ v. One None v) o) FieldsFit
     by None word = tt
     by (Some v) word = word
-one_fits WithItems text = number_fits (item_of text) (value_of text) (value_fits text)
+one_fits (WithItems iso) text = number_fits (item_of text) (value_of text) (value_fits text)
 
 two_fits : (first second : List ℕ) → FieldsFit (two_fields first second)
 two_fits first second = by (item_of first) (value_of second) (value_fits second)
@@ -141,46 +142,46 @@ two_fits first second = by (item_of first) (value_of second) (value_fits second)
     by (Some i) (Some v) word = word
 
 -- a row with fields
-module _ (time tag : List ℕ) (found : Option Fields) (fits : IfSome found FieldsFit) where
+module _ (times : TimesAreInRange) (form : RowForm) (time tag : List ℕ) (found : Option Fields) (fits : IfSome found FieldsFit) where
   with_fields : Option Row
-  with_fields = option_and_then (λ t. option_and_then (λ k. option_and_then (λ f. Some (EventRow t k.0 k.1 f)) found) (tag_of tag)) (time_of time)
+  with_fields = option_and_then (λ t. option_and_then (λ k. option_and_then (λ f. Some (EventRow t k.0 k.1 f)) found) (tag_of tag)) (time_of form time)
 
   fields_row : IfSome with_fields RowFits
   unfolding with_fields
-  fields_row = by_time (time_of time) (λ n e. number_within (2 ^ 63 - 1) time n e)
+  fields_row = by_time (time_of form time) (times form time)
     where
-      by_fields : (t : ℕ) (k : List ℕ × Option ℕ) → t ≤ 2 ^ 63 - 1 → (o : Option Fields) → IfSome o FieldsFit
+      by_fields : (t : ℕ) (k : List ℕ × Option ℕ) → t < 2 ^ 63 → (o : Option Fields) → IfSome o FieldsFit
           → IfSome (option_and_then (λ f. Some (EventRow t k.0 k.1 f)) o) RowFits
       by_fields t k small None fit = tt
-      by_fields t k small (Some f) fit = (omega (arith, small), fit)
+      by_fields t k small (Some f) fit = (small, fit)
 
-      by_tag : (t : ℕ) → t ≤ 2 ^ 63 - 1 → (o : Option (List ℕ × Option ℕ))
+      by_tag : (t : ℕ) → t < 2 ^ 63 → (o : Option (List ℕ × Option ℕ))
           → IfSome (option_and_then (λ k. option_and_then (λ f. Some (EventRow t k.0 k.1 f)) found) o) RowFits
       by_tag t small None = tt
       by_tag t small (Some k) = by_fields t k small found fits
 
-      by_time : (o : Option ℕ) → ((n : ℕ) → o ≡ Some n → n ≤ 2 ^ 63 - 1)
+      by_time : (o : Option ℕ) → ((n : ℕ) → o ≡ Some n → n < 2 ^ 63)
           → IfSome (option_and_then (λ t. option_and_then (λ k. option_and_then (λ f. Some (EventRow t k.0 k.1 f)) found) (tag_of tag)) o) RowFits
       by_time None small = tt
       by_time (Some t) small = by_tag t (small t refl) (tag_of tag)
 
-three_fit : (form : RowForm) (time tag third : List ℕ) → IfSome (row_of_three form time tag third) RowFits
+three_fit : TimesAreInRange → (form : RowForm) (time tag third : List ℕ) → IfSome (row_of_three form time tag third) RowFits
 unfolding row_of_three with_fields
-three_fit form time tag third = fields_row time tag (one_field form third) (one_fits form third)
+three_fit times form time tag third = fields_row times form time tag (one_field form third) (one_fits form third)
 
-four_fit : (form : RowForm) (time tag third fourth : List ℕ) → IfSome (row_of_four form time tag third fourth) RowFits
+four_fit : TimesAreInRange → (form : RowForm) (time tag third fourth : List ℕ) → IfSome (row_of_four form time tag third fourth) RowFits
 unfolding row_of_four with_fields
-four_fit Older time tag third fourth = tt
-four_fit WithItems time tag third fourth = fields_row time tag (Some (two_fields third fourth)) (two_fits third fourth)
+four_fit times Older time tag third fourth = tt
+four_fit times (WithItems iso) time tag third fourth = fields_row times (WithItems iso) time tag (Some (two_fields third fourth)) (two_fits third fourth)
 
-row_fits : (form : RowForm) (fields : List (List ℕ)) → IfSome (row_of form fields) RowFits
+row_fits : TimesAreInRange → (form : RowForm) (fields : List (List ℕ)) → IfSome (row_of form fields) RowFits
 unfolding row_of
-row_fits form [] = tt
-row_fits form (a ∷ []) = elim (bytes_eq a (codes "end")) as (λ b. IfSome (cond b (Some EndRow) None) RowFits) [ true ↦ tt | false ↦ tt ]
-row_fits form (a ∷ b ∷ []) = two_fit a b
-row_fits form (a ∷ b ∷ c ∷ []) = three_fit form a b c
-row_fits form (a ∷ b ∷ c ∷ d ∷ []) = four_fit form a b c d
-row_fits form (a ∷ b ∷ c ∷ d ∷ e ∷ more) = tt
+row_fits times form [] = tt
+row_fits times form (a ∷ []) = elim (bytes_eq a (codes "end")) as (λ b. IfSome (cond b (Some EndRow) None) RowFits) [ true ↦ tt | false ↦ tt ]
+row_fits times form (a ∷ b ∷ []) = two_fit times form a b
+row_fits times form (a ∷ b ∷ c ∷ []) = three_fit times form a b c
+row_fits times form (a ∷ b ∷ c ∷ d ∷ []) = four_fit times form a b c d
+row_fits times form (a ∷ b ∷ c ∷ d ∷ e ∷ more) = tt
 
 -- ---- lines
 abbrev pub NextFits : Next → Type 0
@@ -193,7 +194,7 @@ abbrev AllFit : List Next → Type 0
 AllFit lines = AllByRecursion NextFits lines
 
 -- a line before others
-module _ (form : RowForm) (number : ℕ) (behind : List Next) (all : AllByRecursion NextFits behind) where
+module _ (times : TimesAreInRange) (form : RowForm) (number : ℕ) (behind : List Next) (all : AllByRecursion NextFits behind) where
   row_read : (o : Option Row) → IfSome o RowFits → AllFit (read_line (line_of_row o) number behind)
   row_read None fits = (tt, tt)
   row_read (Some row) fits = (fits, all)
@@ -204,7 +205,7 @@ module _ (form : RowForm) (number : ℕ) (behind : List Next) (all : AllByRecurs
       elim (filled_len fs == 0) as (λ b. AllFit (read_line (cond b (line_of_records form None)
       (line_of_row (row_of form (take (filled_len fs) fs)))) number behind)) [
         | true ↦ all
-        | false ↦ row_read (row_of form (take (filled_len fs) fs)) (row_fits form (take (filled_len fs) fs))
+        | false ↦ row_read (row_of form (take (filled_len fs) fs)) (row_fits times form (take (filled_len fs) fs))
       ]
 
   one_read : (fs : List (List ℕ)) (o : Option _) → AllFit (read_line (line_of_one form fs o) number behind)
@@ -228,18 +229,18 @@ module _ (form : RowForm) (number : ℕ) (behind : List Next) (all : AllByRecurs
             ]
       ]
 
-lines_read : (form : RowForm) (before : ℕ) (lines : List (List ℕ)) → AllFit (read_lines form before lines)
+lines_read : TimesAreInRange → (form : RowForm) (before : ℕ) (lines : List (List ℕ)) → AllFit (read_lines form before lines)
 unfolding read_lines
-lines_read form before [] = (tt, tt)
-lines_read form before (line ∷ lines) =
+lines_read times form before [] = (tt, tt)
+lines_read times form before (line ∷ lines) =
     elim (before + 1 == 2 ^ 32) as (λ b. AllFit
     (cond b (TooManyLines ∷ []) (read_line (line_of form (before + 1) line) (before + 1) (read_lines form (before + 1) lines)))) [
       | true ↦ (tt, tt)
-      | false ↦ line_read form (before + 1) (read_lines form (before + 1) lines) (lines_read form (before + 1) lines) line
+      | false ↦ line_read times form (before + 1) (read_lines form (before + 1) lines) (lines_read times form (before + 1) lines) line
     ]
 
-pub file_read : (form : RowForm) (bytes : List ℕ) → AllByRecursion NextFits (read_file form bytes)
-file_read form bytes = lines_read form 0 (lines_of bytes)
+pub file_read : TimesAreInRange → (form : RowForm) (bytes : List ℕ) → AllByRecursion NextFits (read_file form bytes)
+file_read times form bytes = lines_read times form 0 (lines_of bytes)
 
 -- ---- the rows that were read
 rows_read : (lines : List Next) → AllByRecursion NextFits lines → AllByRecursion RowFits (rows_of lines)

@@ -138,8 +138,8 @@ same_source_fault form kinds others left earlier s alike =
 
 same_first_fault : (p q : Program) (left : Contents) → IsSameJob p q → first_fault p left ≡ first_fault q left
 same_first_fault p q left same =
-    ap (λ (j : Job). first_some (λ e. fault_of_source (form_of j.version) p.kinds left e.0 e.1) (each_with_before j.sources)) same
-    ∙ ap (λ f. first_some f (each_with_before q.sources)) (fun_ext (λ (e : List Source × Source). same_source_fault (form_of q.version)
+    ap (λ (j : Job). first_some (λ e. fault_of_source (form_of j.version j.iso) p.kinds left e.0 e.1) (each_with_before j.sources)) same
+    ∙ ap (λ f. first_some f (each_with_before q.sources)) (fun_ext (λ (e : List Source × Source). same_source_fault (form_of q.version q.iso)
     p.kinds q.kinds left e.0 e.1 (ap (λ j. j.kinds) same)))
 
 same_fault : (texts : List (List ℕ)) (left : Contents) (p q : Program) → IsSameJob p q → fault_behind texts left p ≡ fault_behind texts left q
@@ -172,8 +172,8 @@ same_defect_in kinds others s lines alike = ap (λ f. first_some f (each_with_be
 
 pub same_lines : (texts : List (List ℕ)) (left : Contents) (p q : Program) (i : ℕ) → IsSameJob p q → lines_behind texts left q i ≡ lines_behind texts left p i
 same_lines texts left p q i same =
-    ap (λ (j : Job). option_map_or (λ (s : Source). read_file (form_of j.version) (bytes_left (emptied_each texts left) s.file)) (slice_get j.sources i) [])
-    (sym same)
+    ap (λ (j : Job). option_map_or (λ (s : Source). read_file (form_of j.version j.iso) (bytes_left (emptied_each texts left) s.file))
+        (slice_get j.sources i) []) (sym same)
 
 pub same_sound : (texts : List (List ℕ)) (left : Contents) (p q : Program) → IsSameJob p q → AreSound p (lines_behind texts left p)
     → AreSound q (lines_behind texts left q)

@@ -193,8 +193,8 @@ same_rows kinds others s first rows alike =
 pub same_lists : (p q : Program) (left : Files) → IsSameJob p q → lists_of p left ≡ lists_of q left
 same_lists p q left same =
     ap (λ f. flat_map f (each_with_before p.sources)) (fun_ext (λ (e : List Source × Source). same_rows p.kinds q.kinds e.1 (sum_by width e.0)
-    (rows_in (form_of p.version) left e.1) (ap (λ j. j.kinds) same)))
-    ∙ ap (λ (j : Job). flat_map (λ (e : List Source × Source). lists_of_rows q.kinds e.1 (sum_by width e.0) (rows_in (form_of j.version) left e.1))
+    (rows_in (form_of p.version p.iso) left e.1) (ap (λ j. j.kinds) same)))
+    ∙ ap (λ (j : Job). flat_map (λ (e : List Source × Source). lists_of_rows q.kinds e.1 (sum_by width e.0) (rows_in (form_of j.version j.iso) left e.1))
     (each_with_before j.sources)) same
 
 -- ---- and the report

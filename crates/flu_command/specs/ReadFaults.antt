@@ -29,11 +29,11 @@ pub record HidesNoDefect (command : Command) (name : List ℕ) (old new : Option
   pub named : source.file ≡ name
   pub read : List Next
   pub place : Place
-  pub form : place.form ≡ form_of p.version
+  pub form : place.form ≡ form_of p.version p.iso
   pub file : place.file ≡ source.file
   pub undecided : IsUndecided place.taken
   pub told : WhereTold old new (λ was is. HasJob (job_wanted command) was p
-      × StopsWithout (form_of p.version) p.kinds earlier source read (ahead place is) (emptied_each (texts_named command) was))
+      × StopsWithout (form_of p.version p.iso) p.kinds earlier source read (ahead place is) (emptied_each (texts_named command) was))
 
 -- the command can start, and the round in which the source with this file failed is unfinished: the rows that were read of it have no
 -- defect, and are not enough

@@ -27,7 +27,7 @@ pub record Unfinished (p : Program) (rows : ℕ) : Type 0 where
   pub sound : defect_in p.kinds source (now at) ≡ None
   pub few : (k : ℕ) → k ≤ length more → is_enough rows border source (before at ++ take k more) ≡ false
   pub place : Place
-  pub form : place.form ≡ form_of p.version
+  pub form : place.form ≡ form_of p.version p.iso
   pub file : place.file ≡ source.file
   pub undecided : IsUndecided place.taken
 

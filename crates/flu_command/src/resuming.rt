@@ -5,6 +5,7 @@ ghost use Rattle.flu_command.specs.Resting.{CheckpointsOpenTheRest, RunsGoOn, Ch
 use flu_grammar::laws::{normal_forms_are_short, normal_forms_are_utf8};
 use flu_laws::updates_are_changes;
 use flu_model::laws::itags_have_tags;
+use flu_rows::times_are_in_range;
 use flu_save::save_is_a_checkpoint;
 use flu_streams::{
     borders_cut_a_fold, last_round_has_all_rows, last_round_has_later_rows,
@@ -27,6 +28,7 @@ pub fn of_checkpoints()
     normal_forms_are_utf8();
     rounds_meet_what_is_there();
     save_is_a_checkpoint();
+    times_are_in_range();
     updates_are_changes();
 }
 

@@ -1,12 +1,16 @@
 //! Why a row is a defect of its source, and what helps.
 
 use crate::places::push_line;
-use flu_model::{Keys, Program, Source, TagRef};
+use flu_calendar::{read_time, times_end};
+use flu_model::{Keys, Program, Source, TagRef, Unit};
 use flu_streams::Why;
 use std::alloc::{AllocError, Global};
 
 /// The greatest slack of a source, in the unit of its times.
 const GREATEST_SLACK: u64 = 60_000;
+
+/// The bytes of a date and a time of day, as 2026-03-02 08:05:00.
+const SECOND_LEN: usize = 19;
 
 /// One more than the events and heartbeats that may be held.
 const TOO_MANY_TO_HOLD: u64 = 16_777_217;
@@ -26,7 +30,7 @@ pub fn push_reason(
         Why::Unclosed => push_line(told, "the last line of a source is: end"),
         Why::AfterEnd => push_line(told, "only blank lines may follow the line: end"),
         Why::UnknownTag => push_tags(alloc, told, program, source),
-        Why::BadRow => match row.and_then(|row| bad_row_reason(program.version, row)) {
+        Why::BadRow => match row.and_then(|row| bad_row_reason(program, row)) {
             Some(reason) => push_line(told, reason),
             None => Ok(()),
         },
@@ -101,7 +105,7 @@ fn push_tag(
 
 // What makes a row none, by its first field that has no form. Nothing where a quote may change what its fields are, or where each field
 // has a form by itself.
-fn bad_row_reason(version: u32, row: &str) -> Option<&'static str> {
+fn bad_row_reason(program: &Program, row: &str) -> Option<&'static str> {
     let row = row.strip_suffix('\r').unwrap_or(row);
     if row.contains('"') {
         return None;
@@ -113,9 +117,35 @@ fn bad_row_reason(version: u32, row: &str) -> Option<&'static str> {
             "a row has a time and a tag, separated by a comma"
         });
     };
-    time_reason(time).or_else(|| rest_reason(version, rest))
+    let reason = match program.iso {
+        Some(unit) => time_reason_in(unit, time),
+        None => time_reason(time),
+    };
+    reason.or_else(|| rest_reason(program.version, rest))
 }
 
+// What makes a time none where it may be a text.
+fn time_reason_in(unit: Unit, time: &str) -> Option<&'static str> {
+    if is_digits(time) {
+        return match time.parse::<u64>() {
+            Ok(number) if number < times_end(unit) => None,
+            _ => Some("the time is after the year 9999"),
+        };
+    }
+    let bytes = time.as_bytes();
+    if read_time(unit, bytes).is_some() {
+        return None;
+    }
+    Some(if time.trim() != time {
+        "there is a blank beside the time"
+    } else if bytes.len() > SECOND_LEN && read_time(unit, &bytes[..SECOND_LEN]).is_some() {
+        "behind the seconds of a time there may be a fraction of one to nine digits, and a Z: times are in UTC"
+    } else {
+        "a time is a whole number, or a date of the years 1970 to 9999 and a time of day, such as 2026-03-02 08:05:00"
+    })
+}
+
+// What makes a time none where it is a number.
 fn time_reason(time: &str) -> Option<&'static str> {
     if is_digits(time) {
         return match time.parse::<i64>() {

@@ -4,7 +4,7 @@ ghost use Rattle.std.specs.Prelude.{◌<◌};
 
 use crate::files::files_of;
 use crate::tables::case_of;
-use flu_model::Text;
+use flu_model::{Text, Unit};
 use flu_outside::{MemFiles, TakeFault};
 use flu_rows::{Fields, Next, Row, RowForm, Rows};
 use std::alloc::{AllocError, Global};
@@ -153,7 +153,75 @@ end,1 => bad 1";
 
 #[test]
 fn reads_rows_with_items(rt: HostRuntime) -> Result<(), Fail> {
-    expect_all(&rt, rt.alloc(), RowForm::WithItems, ITEMS)
+    expect_all(&rt, rt.alloc(), RowForm::WithItems(None), ITEMS)
+}
+
+/// Files of rows without a unit, in which a text is no time.
+const TEXTS_WITHOUT_A_UNIT: &str = "1,inc/2026-03-02T08:05:00Z,inc => 1: 1 inc None None, bad 2
+2026-03-02 08:05:00,inc => bad 1
+253402300800,inc => 1: 253402300800 inc None None, done 1";
+
+#[test]
+fn texts_are_no_times_without_a_unit(rt: HostRuntime) -> Result<(), Fail> {
+    expect_all(&rt, rt.alloc(), RowForm::Older, TEXTS_WITHOUT_A_UNIT)?;
+    expect_all(&rt, rt.alloc(), RowForm::WithItems(None), TEXTS_WITHOUT_A_UNIT)
+}
+
+/// Files of rows whose times count seconds, which are those that `date -u` gives: each form of a time and of a row, quotes, the first and the
+/// last time, leap days, and texts and numbers that are no time.
+const SECONDS: &str = "2026-03-02T08:05:00Z,inc/2026-03-02 08:05:01,inc/2026-03-02T08:05:02.999,inc/1772438703,inc/end/ => 1: 1772438700 inc None None, 2: 1772438701 inc None None, 3: 1772438702 inc None None, 4: 1772438703 inc None None, 5: end, done 5
+2026-03-02 08:05:00,inc,-5/2026-03-02 08:05:01,inc[3],5,-6%/2026-03-02 08:05:02Z,beat%/2026-03-02T08:05:03,inc,x,,/ => 1: 1772438700 inc None Some(-5), 2: 1772438701 inc Some(3) 5 and -6, 3: beat 1772438702, 4: 1772438703 inc None others, done 4
+\"2026-03-02 08:05:00\",inc/\"2026-03-02T08:05:01Z\",\"beat\"/\"2026-03-02T08:05:02.5\",inc,7/\"1772438703\",inc => 1: 1772438700 inc None None, 2: beat 1772438701, 3: 1772438702 inc None 7 or 7, 4: 1772438703 inc None None, done 4
+\u{feff}1970-01-01T00:00:00Z,inc/9999-12-31T23:59:59.999999999Z,inc => 1: 0 inc None None, 2: 253402300799 inc None None, done 2
+0,inc/00253402300799,inc/253402300799,beat => 1: 0 inc None None, 2: 253402300799 inc None None, 3: beat 253402300799, done 3
+253402300800,inc => bad 1
+253402300800,beat => bad 1
+253402300800,inc,5 => bad 1
+253402300800,inc,5,6 => bad 1
+\"253402300800\",inc => bad 1
+9223372036854775807,inc => bad 1
+2024-02-29 00:00:00,inc/2000-02-29T23:59:59,inc => 1: 1709164800 inc None None, 2: 951868799 inc None None, done 2
+2026-02-29 00:00:00,inc => bad 1
+2100-02-29 00:00:00,beat => bad 1
+1969-12-31T23:59:59Z,inc => bad 1
+10000-01-01T00:00:00Z,inc => bad 1
+2026-13-01 00:00:00,inc => bad 1
+2026-03-02 24:00:00,inc,1 => bad 1
+2026-03-02 23:59:60,inc,1,2 => bad 1
+2026-03-02  08:05:00,inc => bad 1
+2026-03-02T08:05:00+01:00,inc => bad 1
+2026-03-02T08:05:00.,inc => bad 1
+2026-03-02T08:05:00.1234567890,inc => bad 1
+2026-03-02T08:05:00ZZ,inc => bad 1
+2026-03-02 08:05,inc => bad 1
+2026-03-02,inc => bad 1
+-1,inc => bad 1
+ 2026-03-02 08:05:00,inc => bad 1
+2026-03-02 08:05:00,sum => bad 1
+2026-03-02 08:05:00,beat,5 => bad 1
+2026-03-02 08:05:00 => bad 1
+2026-03-02T08:05:00,inc/2026-03-02T08:05:xx,inc/end => 1: 1772438700 inc None None, bad 2
+end => 1: end, done 1";
+
+/// The same where times count milliseconds, and where they count microseconds.
+const MILLISECONDS: &str = "2026-03-02T08:05:00Z,inc/2026-03-02 08:05:00.25,beat/2026-03-02 08:05:00.0019,inc => 1: 1772438700000 inc None None, 2: beat 1772438700250, 3: 1772438700001 inc None None, done 3
+9999-12-31T23:59:59.999999999Z,inc/253402300799999,inc => 1: 253402300799999 inc None None, 2: 253402300799999 inc None None, done 2
+253402300800000,inc => bad 1";
+
+const MICROSECONDS: &str = "2026-03-02T08:05:00Z,inc/2026-03-02 08:05:00.25,beat/2026-03-02 08:05:00.0000019,inc => 1: 1772438700000000 inc None None, 2: beat 1772438700250000, 3: 1772438700000001 inc None None, done 3
+9999-12-31T23:59:59.999999999Z,inc/253402300799999999,inc => 1: 253402300799999999 inc None None, 2: 253402300799999999 inc None None, done 2
+253402300800000000,inc => bad 1";
+
+#[test]
+fn reads_times_as_text(rt: HostRuntime) -> Result<(), Fail> {
+    for (unit, table) in [
+        (Unit::Seconds, SECONDS),
+        (Unit::Milliseconds, MILLISECONDS),
+        (Unit::Microseconds, MICROSECONDS),
+    ] {
+        expect_all(&rt, rt.alloc(), RowForm::WithItems(Some(unit)), table)?;
+    }
+    Ok(())
 }
 
 /// A line of this many bytes that is a row, with a line feed or without one.

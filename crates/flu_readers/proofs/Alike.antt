@@ -83,8 +83,8 @@ read_files_matter defects p is_read left other same =
     let alike : Alike (selected p is_read left) (selected p is_read other) p.sources =
     all_alike (selected p is_read left) (selected p is_read other) p.sources
     (λ name there. closed_alike names left other name (λ not_closed. same name (there, not_closed))) in (
-      lists_alike (form_of p.version) p.kinds (selected p is_read left) (selected p is_read other) [] p.sources alike,
+      lists_alike (form_of p.version p.iso) p.kinds (selected p is_read left) (selected p is_read other) [] p.sources alike,
       sym (defects p is_read left)
-          ∙ faults_alike (form_of p.version) p.kinds (selected p is_read left) (selected p is_read other) [] p.sources tt alike
+          ∙ faults_alike (form_of p.version p.iso) p.kinds (selected p is_read left) (selected p is_read other) [] p.sources tt alike
           ∙ defects p is_read other,
     )

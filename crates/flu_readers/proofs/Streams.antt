@@ -92,4 +92,4 @@ streams_from form kinds left before (s ∷ sources) none =
     (ap (λ i. are_streams i back) number ∙ streams_from form kinds left (before ++ s ∷ []) sources parts.1)
 
 pub good_streams : (p : Program) (left : Contents) → AreGood p left → are_streams 0 (lists_of p left) ≡ true
-good_streams p left good = streams_from (form_of p.version) p.kinds left [] p.sources good
+good_streams p left good = streams_from (form_of p.version p.iso) p.kinds left [] p.sources good

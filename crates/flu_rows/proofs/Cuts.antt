@@ -16,7 +16,8 @@ use Rattle.flu_lemmas.proofs.Digits.{digit_in_range}
 use Rattle.flu_lemmas.proofs.Elements.{list_all_weaker}
 use Rattle.flu_lemmas.proofs.Tests.{both}
 use Rattle.flu_names.specs.Names.{is_name_byte, is_name}
-use Rattle.flu_rows.specs.Fields.{number_of, value_of, name_len, key_part, tag_of}
+use Rattle.flu_rows.specs.declared.row.RowForm.{RowForm}
+use Rattle.flu_rows.specs.Fields.{number_of, greatest_time, time_of, value_of, name_len, key_part, tag_of}
 use Rattle.flu_rows.specs.LoopFields.{is_bare, bare_len, CutsField, CutsFields}
 use Rattle.flu_rows.specs.LoopCuts.{item_in, StartsWithDigits, CutsTime, CutsTag, CutsNumber}
 use Rattle.flu_rows.specs.LoopNames.{name_at_front}
@@ -106,12 +107,16 @@ number_of-minus limit digits = cases (not (eqb (length (45 ∷ digits)) 0)) (nat
     cases true b = refl
     cases false b = refl
 
-pub cuts_time : (bytes : List ℕ) (time : ℕ) (rest : List ℕ) → StartsWithDigits bytes time rest → time < 2 ^ 63 → is_bare (get_or rest 0 0) ≡ false
-    → CutsTime bytes time rest
-cuts_time bytes time rest s lt ends = record {
+time_of-digits : (form : RowForm) (n : ℕ) (digits : List ℕ) → number_of (greatest_time form) digits ≡ Some n → time_of form digits ≡ Some n
+unfolding time_of
+time_of-digits form n digits is = rw is refl
+
+pub cuts_time : (form : RowForm) (bytes : List ℕ) (time : ℕ) (rest : List ℕ) → StartsWithDigits bytes time rest → time ≤ greatest_time form
+    → is_bare (get_or rest 0 0) ≡ false → CutsTime form bytes time rest
+cuts_time form bytes time rest s le ends = record {
   field = s.digits;
   cuts = digits_cut bytes s.digits rest s.whole s.some s.all ends;
-  is = number_of-digits (2 ^ 63 - 1) time s.digits s.some s.all s.writes (omega arith);
+  is = time_of-digits form time s.digits (number_of-digits (greatest_time form) time s.digits s.some s.all s.writes le);
   first = rw s.whole (first_digit s.digits rest s.some s.all);
   filled = rw s.whole (omega (arith, s.some, length-append s.digits rest));
 }
@@ -120,9 +125,9 @@ not_of_line : (b : ℕ) → is_ascii_digit b ≡ true → (eqb b 10 ≡ false) �
 not_of_line b e = (grind (arith, nat_tests), grind (arith, nat_tests), grind (arith, nat_tests))
 
 -- the time of a row, behind which there is a comma
-pub time_first : (bytes : List ℕ) (time : ℕ) (rest : List ℕ) (c : CutsTime bytes time rest) → 1 ≤ length rest → get_or rest 0 0 ≡ 44
+pub time_first : (form : RowForm) (bytes : List ℕ) (time : ℕ) (rest : List ℕ) (c : CutsTime form bytes time rest) → 1 ≤ length rest → get_or rest 0 0 ≡ 44
     → CutsFields bytes (c.field ∷ []) (behind_one rest)
-time_first bytes time rest c some comma =
+time_first form bytes time rest c some comma =
     let no = not_of_line (get_or bytes 0 0) c.first in
     first_field bytes c.field rest c.filled no.0 no.1 no.2 c.cuts some comma
 

@@ -8,3 +8,4 @@ pub mod Runs
 pub mod StepLemmas
 pub mod Cuts
 pub mod UsualRows
+pub mod TimeRanges

@@ -8,3 +8,4 @@ pub mod LoopNames
 pub mod LoopFields
 pub mod LoopCuts
 pub mod LoopSteps
+pub mod Laws

@@ -3,6 +3,7 @@ use Rattle.std.specs.Prelude.{◌≡◌, ℕ, ℤ, ◌<◌, ◌≤◌, true, if�
 use Rattle.std.specs.Char.{is_ascii_digit}
 use Rattle.std.specs.List.{list_all}
 use Rattle.std.specs.Str.Parse.{digits_value}
+use Rattle.flu_rows.specs.declared.row.RowForm.{RowForm}
 use Rattle.flu_rows.specs.Fields.{time_of, item_of, value_of, tag_of}
 use Rattle.flu_rows.specs.LoopFields.{CutsField}
 
@@ -18,11 +19,11 @@ pub record StartsWithDigits (bytes : List ℕ) (number : ℕ) (rest : List ℕ) 
   pub all : list_all is_ascii_digit digits ≡ true
   pub writes : digits_value 10 digits ≡ number
 
--- a field that is a time
-pub record CutsTime (bytes : List ℕ) (time : ℕ) (rest : List ℕ) : Type 0 where
+-- a field that is a time in a form of rows
+pub record CutsTime (form : RowForm) (bytes : List ℕ) (time : ℕ) (rest : List ℕ) : Type 0 where
   pub field : List ℕ
   pub cuts : CutsField bytes field rest
-  pub is : time_of field ≡ Some time
+  pub is : time_of form field ≡ Some time
   pub first : is_ascii_digit (slice_index bytes 0) ≡ true
   pub filled : 1 ≤ length bytes
 

@@ -5,7 +5,9 @@ ghost use Rattle.std.specs.Prelude.{◌≡◌, ◌<◌, ◌≤◌, ◌^◌, fals
 ghost use Rattle.flu_rows.specs.LoopFields.{is_bare};
 ghost use Rattle.flu_rows.specs.LoopCuts.{item_in, StartsWithDigits, CutsTime, CutsTag, CutsNumber};
 
+use crate::fields::greatest_time;
 use crate::last_name::LastName;
+use crate::row::RowForm;
 use crate::short_name::ShortName;
 
 /// A number that is less than this is less than 2^63 with one more digit.
@@ -21,14 +23,14 @@ pub(crate) struct Number {
     pub(crate) value: i64,
 }
 
-/// The time at the front of some bytes, and what comes after it.
+/// The time at the front of some bytes, which is digits, and what comes after it.
 #[inline(always)]
-pub(crate) fn cut_time(bytes: &[u8]) -> Option<(u64, &[u8])>
-    ensures value { IfSome result (λ cut. CutsTime bytes.now cut.0 cut.1.now) }
+pub(crate) fn cut_time(form: RowForm, bytes: &[u8]) -> Option<(u64, &[u8])>
+    ensures value { IfSome result (λ cut. CutsTime form bytes.now cut.0 cut.1.now) }
     ensures range { IfSome result (λ cut. cut.0 < 2 ^ 63) }
 {
     let (time, rest) = cut_digits(bytes)?;
-    if !ends_field(rest) {
+    if time > greatest_time(form) || !ends_field(rest) {
         return None;
     }
     Some((time, rest))

@@ -5,6 +5,7 @@ mod cutting;
 mod fields;
 mod front;
 mod last_name;
+mod laws;
 mod line;
 mod names;
 mod records;
@@ -14,6 +15,7 @@ mod run;
 mod scan;
 mod short_name;
 
+pub use laws::times_are_in_range;
 pub use row::{Fields, Row, RowForm, form_of};
 pub use rows::{Next, Rows};
 pub use short_name::ShortName;

@@ -229,7 +229,7 @@ faults_same form kinds is_read names left before (s ∷ rest) closes same few =
 
 pub defects_law : LawOfDefects
 defects_law p is_read left =
-    faults_same (form_of p.version) p.kinds is_read (closed_files p is_read) left [] p.sources (closes_others p is_read) refl (omega arith)
+    faults_same (form_of p.version p.iso) p.kinds is_read (closed_files p is_read) left [] p.sources (closes_others p is_read) refl (omega arith)
 
 -- ---- where no source has a defect
 read_few : (form : RowForm) (left : Contents) (s : Source) (b : Bool)
@@ -263,4 +263,4 @@ read_sound form kinds is_read left before (s ∷ rest) le none =
 
 pub good_stay_good : GoodStayGood
 good_stay_good p is_read left good =
-    defects_law p is_read left ∙ read_sound (form_of p.version) p.kinds is_read left [] p.sources (omega arith) good
+    defects_law p is_read left ∙ read_sound (form_of p.version p.iso) p.kinds is_read left [] p.sources (omega arith) good

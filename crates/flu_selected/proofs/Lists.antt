@@ -77,7 +77,7 @@ length_from form kinds left before (s ∷ rest) n =
     omega arith
 
 pub length_law : LawOfLength
-length_law p left = length_from (form_of p.version) p.kinds left [] p.sources 0
+length_law p left = length_from (form_of p.version p.iso) p.kinds left [] p.sources 0
 
 -- the list of an itag: what a read source gives, and else the end alone
 abbrev list_if : Bool → List Item → List Item
@@ -141,7 +141,7 @@ lists_same form kinds is_read names left before (s ∷ rest) i closes lt =
 
 pub lists_law : LawOfLists
 lists_law p is_read left itag lt =
-    lists_same (form_of p.version) p.kinds is_read (closed_files p is_read) left [] p.sources itag (closes_others p is_read) lt
+    lists_same (form_of p.version p.iso) p.kinds is_read (closed_files p is_read) left [] p.sources itag (closes_others p is_read) lt
 
 -- ---- streams
 streams_by_place : (from : ℕ) (lists others : List (List Item)) → length others ≡ length lists

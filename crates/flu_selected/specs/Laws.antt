@@ -73,7 +73,7 @@ read_fault form kinds is_read left earlier s =
 
 -- THE FIRST FAULT OF THE READ SOURCES: the fault of the first one, as declared, that has a defect
 abbrev pub first_read_fault : Program → (ℕ → Bool) → Contents → Option SourceFault
-first_read_fault p is_read left = first_some (λ e. read_fault (form_of p.version) p.kinds is_read left e.0 e.1) (each_with_before p.sources)
+first_read_fault p is_read left = first_some (λ e. read_fault (form_of p.version p.iso) p.kinds is_read left e.0 e.1) (each_with_before p.sources)
 
 -- LAW OF DEFECTS: the first fault of all sources is that of the read ones
 abbrev pub LawOfDefects : Type 0

@@ -48,21 +48,22 @@ fresh_behind form kinds first border s source is = subst (λ h. IsHeldBehind kin
     no_border t e = cc
 
 pub fresh_at : (p : Program) (border : Option ℕ) (i : ℕ) (s : Source) (source : HeldSource) → slice_get p.sources i ≡ Some s
-    → slice_get (map (unread_source (form_of p.version) border) p.sources) i ≡ Some source → source ≡ unread_source (form_of p.version) border s
+    → slice_get (map (unread_source (form_of p.version p.iso) border) p.sources) i ≡ Some source → source ≡ unread_source (form_of p.version p.iso) border s
 fresh_at p border i s source e f =
-    let k = from_mapped (unread_source (form_of p.version) border) p.sources i source f in k.2 ∙ ap (unread_source (form_of p.version) border) (one_there p.sources i k.0 s k.1 e)
+    let k = from_mapped (unread_source (form_of p.version p.iso) border) p.sources i source f in
+    k.2 ∙ ap (unread_source (form_of p.version p.iso) border) (one_there p.sources i k.0 s k.1 e)
 
 pub law_of_start : LawOfStart
 law_of_start p rows border = record {
   behind = record {
-    count = length-map p.sources (unread_source (form_of p.version) border);
-    each = λ i s source e f. fresh_behind (form_of p.version) p.kinds (first_itag p i) border s source (fresh_at p border i s source e f);
+    count = length-map p.sources (unread_source (form_of p.version p.iso) border);
+    each = λ i s source e f. fresh_behind (form_of p.version p.iso) p.kinds (first_itag p i) border s source (fresh_at p border i s source e f);
   };
   all = λ left whole lines i source f.
-      let k = from_mapped (unread_source (form_of p.version) border) p.sources i source f in
+      let k = from_mapped (unread_source (form_of p.version p.iso) border) p.sources i source f in
       lines i k.0 k.1 ∙ ap (λ (h : HeldSource). still h left) (sym k.2);
   ended = λ left i source f closed.
-      let k = from_mapped (unread_source (form_of p.version) border) p.sources i source f in
+      let k = from_mapped (unread_source (form_of p.version p.iso) border) p.sources i source f in
       absurd (false≢true (ap (λ (h : HeldSource). h.closed) (sym k.2) ∙ closed));
 }
 

@@ -36,10 +36,10 @@ pub record HidesNothing (p : Program) (old new : Option Contents) (before now : 
   pub rose : Rose (before source.file) (now source.file)
   pub read : List Next
   pub place : Place
-  pub form : place.form ≡ form_of p.version
+  pub form : place.form ≡ form_of p.version p.iso
   pub file : place.file ≡ source.file
   pub undecided : IsUndecided place.taken
-  pub told : WhereTold old new (λ was now. StopsWithout (form_of p.version) p.kinds earlier source read (ahead place now) was)
+  pub told : WhereTold old new (λ was now. StopsWithout (form_of p.version p.iso) p.kinds earlier source read (ahead place now) was)
 
 -- a fault of a source is the first of all, and names a declared source
 abbrev pub IsFirstFault : Program → Option Contents → Option Contents → GatherFault → Type 0

@@ -36,7 +36,7 @@ fault_of_source form kinds left earlier s =
 
 -- THE FIRST FAULT: the fault of the first source, as declared, that has a defect
 abbrev pub first_fault : Program → Contents → Option SourceFault
-first_fault p left = first_some (λ e. fault_of_source (form_of p.version) p.kinds left e.0 e.1) (each_with_before p.sources)
+first_fault p left = first_some (λ e. fault_of_source (form_of p.version p.iso) p.kinds left e.0 e.1) (each_with_before p.sources)
 
 -- GOOD SOURCES: none has a defect
 abbrev pub AreGood : Program → Contents → Type 0
@@ -78,4 +78,4 @@ lists_of_rows kinds s first rows = map (items_at kinds s first rows) (range_with
 -- end
 abbrev pub lists_of : Program → Contents → List (List Item)
 lists_of p left =
-    flat_map (λ e. lists_of_rows p.kinds e.1 (sum_by width e.0) (rows_in (form_of p.version) left e.1)) (each_with_before p.sources)
+    flat_map (λ e. lists_of_rows p.kinds e.1 (sum_by width e.0) (rows_in (form_of p.version p.iso) left e.1)) (each_with_before p.sources)

@@ -56,7 +56,7 @@ unread_source form border s = record { items = []; place = front_of form s.file;
 -- nothing was read of any
 abbrev pub unread : Program → ℕ → Option ℕ → Holding
 unread p rows border =
-    record { program = p; rows = rows; border = border; stage = Filling; sources = map (unread_source (form_of p.version) border) p.sources }
+    record { program = p; rows = rows; border = border; stage = Filling; sources = map (unread_source (form_of p.version p.iso) border) p.sources }
 
 -- a run from the first row on
 abbrev pub fresh : Program → ℕ → Holding
@@ -179,7 +179,7 @@ pub record HidesNoRoundFault (old : Holding) (left left' : Option Contents) (fau
   pub sound : defect_in old.program.kinds source (now at) ≡ None
   pub few : (k : ℕ) → k ≤ length more → is_enough old.rows old.border source (before at ++ take k more) ≡ false
   pub place : Place
-  pub form : place.form ≡ form_of old.program.version
+  pub form : place.form ≡ form_of old.program.version old.program.iso
   pub file : place.file ≡ source.file
   pub undecided : IsUndecided place.taken
   pub told : WhereTold left left' (λ was is. (whole : ℕ → List Next) → AreInAll old before was whole

@@ -174,7 +174,7 @@ pub record AreWell (p : Program) (rows : ℕ) (border : Option ℕ) (inlets : Li
   pub some : 1 ≤ rows
   pub most : rows ≤ 4096
   pub count : length inlets ≡ length p.sources
-  pub forms : AtEach (λ i h. h.rows.form ≡ form_of p.version) inlets
+  pub forms : AtEach (λ i h. h.rows.form ≡ form_of p.version p.iso) inlets
   pub few : AtEach (λ i s. (h : Inlet) → slice_get inlets i ≡ Some h → IsFew (Some rows) s h) p.sources
   pub each : AtEach (λ i s. (h : Inlet) → slice_get inlets i ≡ Some h → IsWellAt s border h) p.sources
 

@@ -199,7 +199,7 @@ LawOfNoRows = (p : Program) (opening : Contents) (t : ℕ) (reads : ℕ → List
 
 -- these are the lines of the files of all sources
 abbrev pub LinesIn : Program → Files → (ℕ → List Next) → Type 0
-LinesIn p left whole = AtEach (λ i s. whole i ≡ read_file (form_of p.version) (bytes_left left s.file)) p.sources
+LinesIn p left whole = AtEach (λ i s. whole i ≡ read_file (form_of p.version p.iso) (bytes_left left s.file)) p.sources
 
 -- THE LAST ROUND: after it the rows that were read are all rows of the sources' files, and their lists are those of a whole reading
 abbrev pub LawOfLastRound : Type 0

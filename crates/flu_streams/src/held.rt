@@ -210,10 +210,10 @@ impl Held {
 
 // Nothing of each source.
 fn new_inlets(alloc: Global, p: &Program, border: Option<u64>) -> Result<Vec<Inlet>, AllocError>
-    ensures unread { IfOk result (λ inlets. map source_of inlets.items ≡ map (unread_source (form_of p.now.version) border) p.now.sources) }
+    ensures unread { IfOk result (λ inlets. map source_of inlets.items ≡ map (unread_source (form_of p.now.version p.now.iso) border) p.now.sources) }
     ensures uncounted { IfOk result (λ inlets. AreUncounted inlets.items) }
 {
-    let form = form_of(p.version);
+    let form = form_of(p.version, p.iso);
     let mut inlets = Vec::new(alloc);
     for source in p.sources.items() {
         inlets.push(Inlet::new(alloc, form, source, border, None)?)?;

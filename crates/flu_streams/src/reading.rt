@@ -45,7 +45,7 @@ pub fn gather<F: Files>(alloc: Global, p: &Program, files: &mut F) -> Result<Str
     ensures hides { IsErrOf result GatherFault.ReadFault → HidesNothing p.now (F.left files.old) (F.left files.new) (F.faults files.old) (F.faults files.new) }
     ensures cause { IsErrOf result GatherFault.ReadFault → OneRose (files_of p.now.sources) (F.faults files.old) (F.faults files.new) }
 {
-    let form = form_of(p.version);
+    let form = form_of(p.version, p.iso);
     let mut gathered = Gathered {
         lists: Vec::new(alloc),
         held: 0,

@@ -283,7 +283,7 @@ failed_behind p o a b d k l m s u had has x z old done before job number told ri
     sound = subst (λ (r : Program). defect_in r.kinds h.source (h.now h.at) ≡ None) job h.sound;
     few = λ n le. subst (λ (r : ℕ). is_enough r old.border h.source (before h.at ++ take n h.more) ≡ false) number (h.few n le);
     place = h.place;
-    form = h.form ∙ ap (λ (r : Program). form_of r.version) job;
+    form = h.form ∙ ap (λ (r : Program). form_of r.version r.iso) job;
     file = h.file;
     undecided = h.undecided;
   };

@@ -405,12 +405,12 @@ report_refusal command p a b c k l m refusals.ReadFault whole accepted none read
       form = is.form;
       file = is.file;
       undecided = is.undecided;
-      told = told_then (IsReady command p) (λ was now. StopsWithout (form_of p.version) p.kinds is.earlier is.source is.read (ahead is.place now) was)
+      told = told_then (IsReady command p) (λ was now. StopsWithout (form_of p.version p.iso) p.kinds is.earlier is.source is.read (ahead is.place now) was)
           (λ was now. HasJob (job_wanted command) was p
-          × StopsWithout (form_of p.version) p.kinds is.earlier is.source is.read (ahead is.place now) (emptied_each (texts_named command) was)) a b c
+          × StopsWithout (form_of p.version p.iso) p.kinds is.earlier is.source is.read (ahead is.place now) (emptied_each (texts_named command) was)) a b c
           (λ x y z first stops. (
             first.has,
-            subst (λ (left : Contents). StopsWithout (form_of p.version) p.kinds is.earlier is.source is.read (ahead is.place z) left)
+            subst (λ (left : Contents). StopsWithout (form_of p.version p.iso) p.kinds is.earlier is.source is.read (ahead is.place z) left)
                 (sym first.texts.behind) stops,
           )) ready is.told;
     })

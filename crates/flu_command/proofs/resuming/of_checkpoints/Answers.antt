@@ -4,6 +4,7 @@ use Rattle.flu_command.proofs.resuming.of_checkpoints.Goals as goal
 pub returns : goal.returns
 returns c =
     let laws : LawsOfRests = record {
+      times = c.times_are_in_range.ensures;
       tags = c.itags_have_tags.ensures.fits;
       sorts = c.updates_are_changes.ensures.fold;
       fronts = c.rounds_meet_what_is_there.ensures.fronts;

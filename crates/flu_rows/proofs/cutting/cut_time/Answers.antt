@@ -1,4 +1,4 @@
-use Rattle.std.proofs.Common.{◌≡◌, false, get_or, rules}
+use Rattle.std.proofs.Common.{◌≡◌, false, get_or, rules, arith}
 use Rattle.flu_rows.specs.LoopFields.{is_bare}
 use Rattle.flu_rows.proofs.Cuts.{cuts_time}
 use Rattle.flu_rows.proofs.cutting.cut_time.Goals as goal
@@ -7,4 +7,4 @@ pub returns-clause-value : goal.returns-clause-value
 returns-clause-value c =
     let cut = c.in_ok-time in
     let ends : is_bare (get_or cut.rest.now 0 0) ≡ false = search rules in
-    cuts_time c.args.bytes.now cut.time cut.rest.now cut.ensures.value cut.ensures.range ends
+    cuts_time c.args.form c.args.bytes.now cut.time cut.rest.now cut.ensures.value (omega arith) ends

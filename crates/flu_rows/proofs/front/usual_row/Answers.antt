@@ -30,7 +30,8 @@ returns-clause-value c =
     let comma : get_or time.rest.now 0 0 ≡ 44 = search rules in
     let second : get_or tag.rest.now 0 0 ≡ 44 = search rules in
     let last : get_or third.rest.now 0 0 ≡ 44 = search rules in
+    let time_cut = rw c.in-WithItems.is at time.ensures.value in
     rw (c.in-WithItems.is, c.item_and_number.ensures)
-    (usual_four c.args.bytes.now time.time time.rest.now tag.name tag.key tag.rest.now third.third.item third.third.value third.rest.now
-    c.in_ok-item.item fourth.fourth.item fourth.fourth.value fourth.rest.now c.in_ok-size-3.size time.ensures.value (omega arith) comma
+    (usual_four c.in-WithItems.field-0 c.args.bytes.now time.time time.rest.now tag.name tag.key tag.rest.now third.third.item third.third.value third.rest.now
+    c.in_ok-item.item fourth.fourth.item fourth.fourth.value fourth.rest.now c.in_ok-size-3.size time_cut (omega arith) comma
     tag.ensures.value (omega arith) second third.ensures c.in_ok-item.was (omega arith) last fourth.ensures c.in_ok-size-3.ensures)

@@ -6,6 +6,6 @@ use Rattle.flu_streams.proofs.held.new_inlets.Given as goal
 
 abbrev pub invariant-loop-source : goal.invariant-loop-source
 invariant-loop-source l = record {
-  fresh : map source_of l.inlets.items ≡ map (unread_source (form_of l.p.version) l.border) (take l.source-index l.p.sources);
+  fresh : map source_of l.inlets.items ≡ map (unread_source (form_of l.p.version l.p.iso) l.border) (take l.source-index l.p.sources);
   uncounted : AreUncounted l.inlets.items;
 }

@@ -42,7 +42,8 @@ returns-in-Err-clause-fault g c =
     let t = turn p c.items-source-items.result.now i s c.items-source-items.ensures c.loop-source-test.true c.source-item.is in
     gathered_fault p (take i p.sources) (drop (i + 1) p.sources) s c.loop-source.gathered c.loop-source.gathered.number c.in-Err.fault (left c.args.files.now)
     (left c.loop-source.files) (left c.add_source.new.files)
-    t.split (c.loop-source.invariant.number ∙ t.size) t.apart c.loop-source.invariant.told (rw (c.form_of-form.ensures, c.items.ensures) at c.in-Err.ensures.fault)
+    t.split (c.loop-source.invariant.number ∙ t.size) t.apart c.loop-source.invariant.told
+    (rw (c.form_of-form.ensures, c.items.ensures) at c.in-Err.ensures.fault)
 
 pub returns-in-Err-clause-fronts : goal.returns-in-Err-clause-fronts
 returns-in-Err-clause-fronts g c =
@@ -57,8 +58,8 @@ returns-in-Err-clause-others g c =
     let i = c.loop-source.source-index in
     let s = c.source-item.result in
     let t = turn p c.items-source-items.result.now i s c.items-source-items.ensures c.loop-source-test.true c.source-item.is in
-    let k = others_at (form_of p.version) p.kinds (take i p.sources) (drop (i + 1) p.sources) s c.loop-source.gathered (left c.args.files.now) (left c.loop-source.files)
-    (left c.add_source.new.files) c.loop-source.invariant.told c.in-Err.ensures.taken in
+    let k = others_at (form_of p.version p.iso) p.kinds (take i p.sources) (drop (i + 1) p.sources) s c.loop-source.gathered (left c.args.files.now)
+    (left c.loop-source.files) (left c.add_source.new.files) c.loop-source.invariant.told c.in-Err.ensures.taken in
     rw (← t.split) at k
 
 pub returns-in-Err-clause-counts : goal.returns-in-Err-clause-counts
@@ -123,8 +124,9 @@ loop-source-preserved g c =
     record {
       number = omega (arith, adds.number, c.loop-source.invariant.number);
       len = omega (arith, adds.len, one, c.loop-source.invariant.len);
-      streams = streams_more (form_of p.version) p.kinds s (left mid) (left new) c.loop-source.gathered c.add_source.new.gathered adds c.loop-source.invariant.streams;
-      told = rw t.more (gathered_more (form_of p.version) p.kinds earlier s c.loop-source.gathered c.add_source.new.gathered (left old) (left mid)
+      streams = streams_more (form_of p.version p.iso) p.kinds s (left mid) (left new) c.loop-source.gathered c.add_source.new.gathered adds
+          c.loop-source.invariant.streams;
+      told = rw t.more (gathered_more (form_of p.version p.iso) p.kinds earlier s c.loop-source.gathered c.add_source.new.gathered (left old) (left mid)
           (left new) c.loop-source.invariant.told adds taken c.loop-source.invariant.len t.apart);
       fronts = fronts_then (left old) (left mid) (left new) c.loop-source.invariant.fronts (fronts_at s.file (left mid) (left new) taken);
       out = rw names (out_more (files_of earlier) s.file (left mid) (left new) taken t.apart c.loop-source.invariant.out c.in_default.ensures.read_out);
@@ -142,8 +144,8 @@ returns-clause-good g c =
     let all : take c.loop-source.source-index p.sources ≡ p.sources =
     take_all c.loop-source.source-index p.sources (omega (arith, ap length c.items-source-items.ensures)) in
     let told = rw all at c.loop-source.invariant.told in
-    told_weaker (IsGathered (form_of p.version) p.kinds p.sources c.loop-source.gathered) (λ old new. AreGood p old) (left c.args.files.now) (left c.loop-source.files)
-    (λ x y k. k.good) told
+    told_weaker (IsGathered (form_of p.version p.iso) p.kinds p.sources c.loop-source.gathered) (λ old new. AreGood p old) (left c.args.files.now)
+    (left c.loop-source.files) (λ x y k. k.good) told
 
 pub returns-clause-lists : goal.returns-clause-lists
 returns-clause-lists g c =
@@ -153,8 +155,8 @@ returns-clause-lists g c =
     take_all c.loop-source.source-index p.sources (omega (arith, ap length c.items-source-items.ensures)) in
     let told = rw all at c.loop-source.invariant.told in
     let same : listed c.new-2.result ≡ lists_in c.loop-source.gathered.lists = c.new-2.ensures in
-    told_weaker (IsGathered (form_of p.version) p.kinds p.sources c.loop-source.gathered) (λ old new. listed c.new-2.result ≡ lists_of p old) (left c.args.files.now)
-    (left c.loop-source.files) (λ x y k. same ∙ k.lists) told
+    told_weaker (IsGathered (form_of p.version p.iso) p.kinds p.sources c.loop-source.gathered) (λ old new. listed c.new-2.result ≡ lists_of p old)
+    (left c.args.files.now) (left c.loop-source.files) (λ x y k. same ∙ k.lists) told
 
 pub returns-clause-itags : goal.returns-clause-itags
 returns-clause-itags g c =
@@ -172,5 +174,5 @@ returns-clause-others g c =
     let all : take c.loop-source.source-index p.sources ≡ p.sources =
     take_all c.loop-source.source-index p.sources (omega (arith, ap length c.items-source-items.ensures)) in
     let told = rw all at c.loop-source.invariant.told in
-    told_weaker (IsGathered (form_of p.version) p.kinds p.sources c.loop-source.gathered) (LeavesOthers (files_of p.sources)) (left c.args.files.now) (left c.loop-source.files)
-    (λ x y k. k.others) told
+    told_weaker (IsGathered (form_of p.version p.iso) p.kinds p.sources c.loop-source.gathered) (LeavesOthers (files_of p.sources)) (left c.args.files.now)
+    (left c.loop-source.files) (λ x y k. k.others) told

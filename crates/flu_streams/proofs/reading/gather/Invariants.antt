@@ -20,7 +20,7 @@ invariant-loop-source g l =
       number : l.gathered.number ≡ l.source-index;
       len : vec_len l.gathered.lists ≡ sum_by width earlier;
       streams : are_streams 0 (lists_in l.gathered.lists) ≡ true;
-      told : WhereTold (left l.fn.files) (left l.files) (IsGathered (form_of l.p.version) l.p.kinds earlier l.gathered);
+      told : WhereTold (left l.fn.files) (left l.files) (IsGathered (form_of l.p.version l.p.iso) l.p.kinds earlier l.gathered);
       fronts : WhereTold (left l.fn.files) (left l.files) TookFronts;
       out : AreReadOut (files_of earlier) (left l.files);
       counts : CountsOfNames (left l.fn.files) (files_of earlier) (faults l.fn.files) (faults l.files);
