@@ -271,6 +271,7 @@ fn is_accepted(alloc: Global, case: &Case) -> Result<bool, AllocError> {
     ]?;
     let made = program(
         case.version,
+        None,
         List::of(families_of(alloc, case)?),
         List::of(kinds_of(alloc, case)?),
         List::of(depends),

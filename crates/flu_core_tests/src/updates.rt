@@ -137,6 +137,7 @@ fn sources(alloc: Global) -> Result<Vec<Source>, AllocError> {
 fn job(alloc: Global, version: u32, act: Act) -> Result<Option<Program>, AllocError> {
     Ok(program(
         version,
+        None,
         List::of(families(alloc)?),
         List::of(kinds(alloc, act)?),
         List::of(Vec::new(alloc)),

@@ -84,6 +84,7 @@ demo_sources =
 -- ---- the whole
 pub record IsDemoJob (p : Program) : Type 0 where
   pub version : p.version ≡ 1
+  pub iso : p.iso ≡ None
   pub families : p.families ≡ demo_families
   pub kinds : p.kinds ≡ demo_kinds
   pub depends : p.depends ≡ demo_depends

@@ -56,6 +56,7 @@ fn job_of(
 {
     Program {
         version: 1,
+        iso: None,
         families,
         kinds,
         depends,

@@ -19,6 +19,7 @@ use Rattle.flu_model.specs.declared.jobs.TagRef.{TagRef}
 use Rattle.flu_model.specs.Erasure.{Job as ReadJob}
 use Rattle.flu_model.specs.Listing.{listed_keys}
 use Rattle.flu_model.specs.Rules.{is_version, is_same_text}
+use Rattle.flu_model.specs.Texts.{Unit as TimeUnit}
 use Rattle.flu_rules.specs.Keys.{share_tag}
 use Rattle.flu_text.specs.declared.written.WrittenSpan.{WrittenSpan}
 use Rattle.flu_text.specs.declared.written.WrittenNumber.{WrittenNumber}
@@ -28,6 +29,8 @@ use Rattle.flu_text.specs.Laws.{ReadingIsTokens, ReadingIsBadPlace}
 use Rattle.flu_syntax.specs.declared.tree.WrittenTag.{WrittenTag}
 use Rattle.flu_syntax.specs.declared.tree.WrittenRelation.{WrittenRelation}
 use Rattle.flu_syntax.specs.declared.tree.WrittenRelation.TheVariants as r
+use Rattle.flu_syntax.specs.declared.tree.WrittenUnit.{WrittenUnit}
+use Rattle.flu_syntax.specs.declared.tree.WrittenHead.{WrittenHead}
 use Rattle.flu_syntax.specs.Tree.{Action, Declaration, Declarations, Job as WrittenJob}
 use Rattle.flu_syntax.specs.Tree as d
 use Rattle.flu_syntax.specs.Laws.{FoundIsJob, UnexpectedIsFirst, TooDeepIsThe65th}
@@ -43,7 +46,8 @@ use Rattle.flu_parse.specs.Cells.{resolved_key}
 use Rattle.flu_parse.specs.Actions.{resolved_actions}
 use Rattle.flu_parse.specs.Listings.{are_bracketed, written_keys, keys_of, tag_count, Listed, with_tag, tags_of, rate_of, slack_of, file_of}
 use Rattle.flu_parse.specs.Resolving.{Drafted, same_of, with_depend, with_actions, with_on, with_source as with_source_of}
-use Rattle.flu_parse.specs.Resolving.{cell_name_fits, item_word_fits, with_declaration, first_draft, draft_of, version_of, job_with, resolved}
+use Rattle.flu_parse.specs.Resolving.{cell_name_fits, item_word_fits, with_declaration, first_draft, draft_of, version_of, unit_named, found_unit, unit_of, iso_of}
+use Rattle.flu_parse.specs.Resolving.{job_with, resolved}
 use Rattle.flu_parse.specs.Reading.{found_job}
 use Rattle.flu_grammar.specs.Declared.{DeclaredKind, WrittenSource, families_in, kinds_in, depends_in, sources_in}
 use Rattle.flu_grammar.specs.Cells.{family_name}
@@ -55,8 +59,10 @@ use Rattle.flu_grammar.specs.BrokenJobs.{tag_brackets, too_many_itags, listed_tw
 use Rattle.flu_grammar.specs.BrokenJobs.{items_of_older, first_unknown, second_unknown}
 use Rattle.flu_grammar.specs.BrokenJobs.{same_of_unkeyed, kind_unknown, second_on, in_actions, no_file, second_file, high_rate, high_slack, in_tags}
 use Rattle.flu_grammar.specs.BrokenJobs.{BreaksJob, declared_twice, too_many_families, too_many_kinds, too_many_sources, too_many_depends, no_version}
+use Rattle.flu_grammar.specs.BrokenJobs.{unit_of_older, no_unit}
+use Rattle.flu_grammar.specs.Jobs.{MeansVersion}
 use Rattle.flu_grammar.specs.BrokenJobs.{in_declaration, IsFaultOf, too_many_bytes, not_utf8, no_token, not_continued, too_deep, of_written, FaultsAreByRule}
-use Rattle.flu_grammar.proofs.FaultKinds.{FaultsAre, no_fault, faults_bind}
+use Rattle.flu_grammar.proofs.FaultKinds.{FaultsAre, no_fault, one_fault, faults_bind}
 use Rattle.flu_grammar.proofs.Broken.{faults_found, faults_where, faults_weaker, at_element, known_where, number_breaks, not_less, not_most, actions_break}
 use Rattle.flu_grammar.proofs.Lists.{met_at, pairs_right}
 use Rattle.flu_grammar.proofs.Items.{not_false, is_item_word, item_word}
@@ -67,6 +73,7 @@ use Rattle.flu_grammar.proofs.JobDrafts.{itag_count, Drafts, drafts_are}
 use Rattle.flu_grammar.proofs.JobTexts.{know_families, know_kinds, families_in_version, kinds_in_version, as_many_sources, version_is}
 use Rattle.flu_grammar.proofs.Faults.{declared_before}
 use Rattle.flu_grammar.proofs.Twice.{given_twice, read_twice}
+use Rattle.flu_grammar.proofs.Units.{unit_said}
 use Rattle.flu_grammar.proofs.TextFaults as text_faults
 
 -- ---- lists
@@ -450,13 +457,33 @@ module _ (text : List ℕ) (job : WrittenJob) where
       let names = naming_is text found.before found.state found.reached in
       declare_breaks found.before found.x found.after found.is found.state names.0 names.1 e found.fault
 
-  version_breaks : (o : Option WrittenNumber) → job.version ≡ o → FaultsAre Job (version_of o)
+  version_breaks : (o : Option WrittenHead) → job.head ≡ o → FaultsAre Job (version_of o)
   version_breaks None is = no_fault Job 1
-  version_breaks (Some v) is =
-      faults_where Job (is_version (written_value v.value)) (f.WrongShape v.at) (Ok (written_value v.value))
-      (λ fails. no_version v is (λ yes. not_both (is_version (written_value v.value)) yes fails)) (λ yes. no_fault Job (written_value v.value))
+  version_breaks (Some head) is =
+      let value = written_value head.version.value in
+      faults_where Job (is_version value) (f.WrongShape head.version.at) (Ok value)
+      (λ fails. no_version head is (λ yes. not_both (is_version value) yes fails)) (λ yes. no_fault Job value)
 
-  draft_breaks : (n : Naming) → naming_of text job.declarations ≡ Ok n → (version : ℕ) → version_of job.version ≡ Ok version
+  unit_breaks : (head : WrittenHead) → job.head ≡ Some head → (version : ℕ) → version ≡ written_value head.version.value → (o : Option WrittenUnit)
+      → head.iso ≡ o → FaultsAre Job (unit_of text version o)
+  unit_breaks head is version value None at = no_fault Job None
+  unit_breaks head is version value (Some unit) at =
+      faults_where Job (version == 3) (f.WrongShape unit.at) (found_unit unit.name.from (unit_named (name_of text unit.name)))
+      (λ fails. unit_of_older head unit is at (λ third. not_both (version == 3) (eq_true version 3 (value ∙ third)) fails))
+      (λ yes. named_breaks (unit_named (name_of text unit.name)) refl)
+    where
+      named_breaks : (u : Option TimeUnit) → unit_named (name_of text unit.name) ≡ u → FaultsAre Job (found_unit unit.name.from u)
+      named_breaks None none =
+          one_fault Job (f.WrongShape unit.name.from) (no_unit head unit is at (λ u same. (
+          let both : None ≡ Some u = sym none ∙ ap unit_named same ∙ unit_said u in
+          cc)))
+      named_breaks (Some u) some = no_fault Job (Some u)
+
+  iso_breaks : (version : ℕ) (o : Option WrittenHead) → job.head ≡ o → MeansVersion o version → FaultsAre Job (iso_of text version o)
+  iso_breaks version None is means = no_fault Job None
+  iso_breaks version (Some head) is means = unit_breaks head is version means.0 head.iso refl
+
+  draft_breaks : (n : Naming) → naming_of text job.declarations ≡ Ok n → (version : ℕ) → version_of job.head ≡ Ok version
       → FaultsAre Job (draft_of text (in_version n version) job.declarations)
   draft_breaks n is version means e h =
       let ds = job.declarations in
@@ -466,19 +493,22 @@ module _ (text : List ℕ) (job : WrittenJob) where
       let knows = kinds_in_version n version (all_kinds text ds) (know_kinds text ds n names.0 names.1.own) in
       let found = at_element (with_declaration text m) (first_draft m) ds e h in
       let drafts = drafts_are text m (all_families text ds) (all_kinds text ds) know knows found.before found.state found.reached in
-      in_declaration version found.before found.x found.after e (version_is job.version version means) found.is
+      in_declaration version found.before found.x found.after e (version_is job.head version means) found.is
       (declaration_breaks text m ds know knows found.before found.state drafts found.x e found.fault)
 
   resolved_breaks : FaultsAre Job (resolved text job)
   unfolding resolved
   resolved_breaks =
-      let drafted_in = λ (n : Naming) (version : ℕ). draft_of text (in_version n version) job.declarations >>= λ x. let r : Found ReadJob = Ok
-      (job_with (in_version n version) x) in r in
-      faults_found Job (naming_of text job.declarations) (λ n. version_of job.version >>= λ version. drafted_in n version) naming_breaks
-      (λ n is. faults_found Job (version_of job.version) (λ version. drafted_in n version) (version_breaks job.version refl)
-      (λ version means. faults_bind Job (draft_of text (in_version n version) job.declarations) (λ x. Ok (job_with (in_version n version) x))
+      let drafted_in = λ (n : Naming) (version : ℕ) (iso : Option TimeUnit). draft_of text (in_version n version) job.declarations >>= λ x. let r : Found ReadJob =
+      Ok (job_with iso (in_version n version) x) in r in
+      let with_unit = λ (n : Naming) (version : ℕ). iso_of text version job.head >>= λ iso. drafted_in n version iso in
+      faults_found Job (naming_of text job.declarations) (λ n. version_of job.head >>= λ version. with_unit n version) naming_breaks
+      (λ n is. faults_found Job (version_of job.head) (λ version. with_unit n version) (version_breaks job.head refl)
+      (λ version means. faults_bind Job (iso_of text version job.head) (λ iso. drafted_in n version iso)
+      (iso_breaks version job.head refl (version_is job.head version means))
+      (λ iso. faults_bind Job (draft_of text (in_version n version) job.declarations) (λ x. Ok (job_with iso (in_version n version) x))
       (draft_breaks n is version means)
-      (λ x. no_fault Job (job_with (in_version n version) x))))
+      (λ x. no_fault Job (job_with iso (in_version n version) x)))))
 
 -- ---- texts
 

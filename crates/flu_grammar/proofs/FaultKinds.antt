@@ -14,6 +14,7 @@ use Rattle.flu_model.specs.declared.jobs.Piece.TheVariants as piece
 use Rattle.flu_model.specs.declared.jobs.Source.{Source}
 use Rattle.flu_model.specs.Contents.{key_count}
 use Rattle.flu_model.specs.Rules.{is_version, is_same_text}
+use Rattle.flu_model.specs.Texts.{Unit as TimeUnit}
 use Rattle.flu_model.specs.Erasure.{Literal, EventValue, EventKey, EventItem, EventTime, CellRead, CellHeld, Negative, Negation, Operation}
 use Rattle.flu_model.specs.Erasure.{Clearing, ClearingFamily, Emitting, Flushing, Job}
 use Rattle.flu_rules.specs.Keys.{share_tag}
@@ -27,6 +28,8 @@ use Rattle.flu_syntax.specs.declared.tree.WrittenRef.{WrittenRef}
 use Rattle.flu_syntax.specs.declared.tree.WrittenTag.{WrittenTag}
 use Rattle.flu_syntax.specs.declared.tree.WrittenRelation.{WrittenRelation}
 use Rattle.flu_syntax.specs.declared.tree.WrittenRelation.TheVariants as r
+use Rattle.flu_syntax.specs.declared.tree.WrittenUnit.{WrittenUnit}
+use Rattle.flu_syntax.specs.declared.tree.WrittenHead.{WrittenHead}
 use Rattle.flu_syntax.specs.Tree.{Tree, NumberTree, ValueTree, KeyTree, TimeTree, ReadTree, HasTree, ParenTree, NegTree, NotTree}
 use Rattle.flu_syntax.specs.Tree.{TwoTree, Deed, Writes, Clears, Emits, Flushes, Action, Declaration, Declarations, Job as WrittenJob}
 use Rattle.flu_syntax.specs.Tree as d
@@ -45,7 +48,8 @@ use Rattle.flu_parse.specs.Templates.{template_at, known_name, known_names, piec
 use Rattle.flu_parse.specs.Actions.{sort_for, act_with, clears_whole, resolved_act, guard_of, action_of, with_action, resolved_actions}
 use Rattle.flu_parse.specs.Listings.{are_bracketed, written_keys, keys_of, tag_count, Listed, with_tag, tags_of, rate_of, slack_of, file_of}
 use Rattle.flu_parse.specs.Resolving.{Drafted, same_of, with_depend, with_actions, with_on, with_source as with_source_of}
-use Rattle.flu_parse.specs.Resolving.{cell_name_fits, item_word_fits, with_declaration, first_draft, draft_of, version_of, job_with, resolved}
+use Rattle.flu_parse.specs.Resolving.{cell_name_fits, item_word_fits, with_declaration, first_draft, draft_of, version_of, unit_named, found_unit, unit_of, iso_of}
+use Rattle.flu_parse.specs.Resolving.{job_with, resolved}
 
 -- ---- looks of which each fault is so
 
@@ -450,19 +454,36 @@ module _ (P : JobFault → Type 0) (plain : Plain P) where
         (fresh_faults n s)
         (λ name. room_faults Sources 64 (length n.sources) (record n { sources = n.sources ++ name ∷ [] }) tt)
 
-    version_faults : (o : Option WrittenNumber) → FaultsAre P (version_of o)
+    version_faults : (o : Option WrittenHead) → FaultsAre P (version_of o)
     version_faults None = no_fault P 1
-    version_faults (Some x) = shape_faults (is_version (written_value x.value)) x.at (written_value x.value)
+    version_faults (Some x) = shape_faults (is_version (written_value x.version.value)) x.version.at (written_value x.version.value)
+
+    named_faults : (at : ℕ) (o : Option TimeUnit) → FaultsAre P (found_unit at o)
+    named_faults at None = one_fault P (f.WrongShape at) (plain.shape at)
+    named_faults at (Some u) = no_fault P (Some u)
+
+    unit_faults : (version : ℕ) (o : Option WrittenUnit) → FaultsAre P (unit_of text version o)
+    unit_faults version None = no_fault P None
+    unit_faults version (Some x) =
+        faults_then P (unless (version == 3) (f.WrongShape x.at)) (found_unit x.name.from (unit_named (name_of text x.name)))
+        (fault_unless P (version == 3) (f.WrongShape x.at) (plain.shape x.at)) (named_faults x.name.from (unit_named (name_of text x.name)))
+
+    iso_faults : (version : ℕ) (o : Option WrittenHead) → FaultsAre P (iso_of text version o)
+    iso_faults version None = no_fault P None
+    iso_faults version (Some x) = unit_faults version x.iso
 
     pub resolved_faults : (job : WrittenJob) → FaultsAre P (resolved text job)
     unfolding resolved
     resolved_faults job =
-        let drafted_in = λ (n : Naming) (version : ℕ). draft_of text (in_version n version) job.declarations >>= λ x. let r : Found Job = Ok
-        (job_with (in_version n version) x) in r in
-        faults_bind P (naming_of text job.declarations) (λ n. version_of job.version >>= λ version. drafted_in n version)
+        let drafted_in = λ (n : Naming) (version : ℕ) (iso : Option TimeUnit). draft_of text (in_version n version) job.declarations >>= λ x. let r : Found Job =
+        Ok (job_with iso (in_version n version) x) in r in
+        let with_unit = λ (n : Naming) (version : ℕ). iso_of text version job.head >>= λ iso. drafted_in n version iso in
+        faults_bind P (naming_of text job.declarations) (λ n. version_of job.head >>= λ version. with_unit n version)
         (faults_each P (declare text) declare_faults no_names job.declarations)
-        (λ n. faults_bind P (version_of job.version) (λ version. drafted_in n version)
-        (version_faults job.version)
-        (λ version. faults_bind P (draft_of text (in_version n version) job.declarations) (λ x. Ok (job_with (in_version n version) x))
+        (λ n. faults_bind P (version_of job.head) (λ version. with_unit n version)
+        (version_faults job.head)
+        (λ version. faults_bind P (iso_of text version job.head) (λ iso. drafted_in n version iso)
+        (iso_faults version job.head)
+        (λ iso. faults_bind P (draft_of text (in_version n version) job.declarations) (λ x. Ok (job_with iso (in_version n version) x))
         (draft_faults text (in_version n version) twice job.declarations)
-        (λ x. no_fault P (job_with (in_version n version) x))))
+        (λ x. no_fault P (job_with iso (in_version n version) x)))))

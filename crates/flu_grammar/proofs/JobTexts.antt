@@ -19,8 +19,9 @@ use Rattle.flu_model.specs.declared.events.Tag.{Tag}
 use Rattle.flu_model.specs.Erasure.{Job}
 use Rattle.flu_model.specs.Listing.{tag, listed_keys, listed_tags, tags_of_source, itags_of_sources}
 use Rattle.flu_model.specs.Rules.{is_version}
+use Rattle.flu_model.specs.Texts.{Unit as TimeUnit}
 use Rattle.flu_text.specs.declared.words.Token.{Token}
-use Rattle.flu_text.specs.declared.written.WrittenNumber.{WrittenNumber}
+use Rattle.flu_syntax.specs.declared.tree.WrittenHead.{WrittenHead}
 use Rattle.flu_text.specs.Reading.{reading, Reading as TokenReading}
 use Rattle.flu_text.specs.Laws.{ReadingIsTokens}
 use Rattle.flu_syntax.specs.Tree.{Declaration, Declarations, Job as WrittenJob}
@@ -31,7 +32,7 @@ use Rattle.flu_layout.specs.Spelling.{name_of, written_value}
 use Rattle.flu_parse.specs.declared.faults.JobFault.TheVariants as f
 use Rattle.flu_parse.specs.Faults.{Found, ◌>>=◌}
 use Rattle.flu_parse.specs.Naming.{Naming, in_version, family, naming_of}
-use Rattle.flu_parse.specs.Resolving.{draft_of, version_of, job_with, resolved}
+use Rattle.flu_parse.specs.Resolving.{draft_of, version_of, iso_of, job_with, resolved}
 use Rattle.flu_parse.specs.Reading.{text_in, found_tokens, tokens_in, found_job, written_in, job_in}
 use Rattle.flu_grammar.specs.Means.{AllDiffer}
 use Rattle.flu_grammar.specs.Cells.{family_name}
@@ -46,6 +47,7 @@ use Rattle.flu_grammar.proofs.JobNames.{kind_name, all_names, all_families, all_
 use Rattle.flu_grammar.proofs.JobSources.{KnowKinds, part_count}
 use Rattle.flu_grammar.proofs.JobDrafts.{itag_count, drafts_are}
 use Rattle.flu_grammar.proofs.JobFound.{Aim, drafted}
+use Rattle.flu_grammar.proofs.Units.{iso_is, iso_found}
 
 -- ---- the names of families and of kinds are among all
 
@@ -158,18 +160,19 @@ itags_counted i (s ∷ ss) =
     let more = itags_counted (i + 1) ss in
     omega (arith, one, two, tags, more)
 
-pub version_is : (o : Option WrittenNumber) (v : ℕ) → version_of o ≡ Ok v → MeansVersion o v
+pub version_is : (o : Option WrittenHead) (v : ℕ) → version_of o ≡ Ok v → MeansVersion o v
 version_is None v e = sym (ok_same 1 v e)
-version_is (Some w) v e =
-    let one = passed (is_version (written_value w.value)) (f.WrongShape w.at) (Ok (written_value w.value)) v e in
-    let same : written_value w.value ≡ v = ok_same (written_value w.value) v one.1 in
+version_is (Some head) v e =
+    let value = written_value head.version.value in
+    let one = passed (is_version value) (f.WrongShape head.version.at) (Ok value) v e in
+    let same : value ≡ v = ok_same value v one.1 in
     (sym same, ap is_version (sym same) ∙ one.0)
 
-version_found : (o : Option WrittenNumber) (v : ℕ) → MeansVersion o v → version_of o ≡ Ok v
+version_found : (o : Option WrittenHead) (v : ℕ) → MeansVersion o v → version_of o ≡ Ok v
 version_found None v h = ok_ok 1 v (sym h)
-version_found (Some w) v h =
-    passes (is_version (written_value w.value)) (f.WrongShape w.at) (Ok (written_value w.value)) v (ap is_version (sym h.0) ∙ h.1) (ok_ok
-    (written_value w.value) v (sym h.0))
+version_found (Some head) v h =
+    let value = written_value head.version.value in
+    passes (is_version value) (f.WrongShape head.version.at) (Ok value) v (ap is_version (sym h.0) ∙ h.1) (ok_ok value v (sym h.0))
 
 -- ---- the meaning
 
@@ -177,13 +180,15 @@ job_means : (text : List ℕ) (written : WrittenJob) (job : Job) → resolved te
 unfolding resolved
 job_means text written job e =
     let ds = written.declarations in
-    let drafted_in = λ (n : Naming) (version : ℕ). draft_of text (in_version n version) ds >>= λ x. let r : Found Job = Ok
-    (job_with (in_version n version) x) in r in
-    let one = bind_ok (naming_of text ds) (λ n. version_of written.version >>= λ version. drafted_in n version) job e in
+    let drafted_in = λ (n : Naming) (version : ℕ) (iso : Option TimeUnit). draft_of text (in_version n version) ds >>= λ x. let r : Found Job = Ok
+    (job_with iso (in_version n version) x) in r in
+    let with_unit = λ (n : Naming) (version : ℕ). iso_of text version written.head >>= λ iso. drafted_in n version iso in
+    let one = bind_ok (naming_of text ds) (λ n. version_of written.head >>= λ version. with_unit n version) job e in
     let n = one.0 in
-    let two = bind_ok (version_of written.version) (λ version. drafted_in n version) job one.2 in
+    let two = bind_ok (version_of written.head) (λ version. with_unit n version) job one.2 in
     let m = in_version n two.0 in
-    let three = bind_ok (draft_of text m ds) (λ x. Ok (job_with m x)) job two.2 in
+    let unit = bind_ok (iso_of text two.0 written.head) (λ iso. drafted_in n two.0 iso) job two.2 in
+    let three = bind_ok (draft_of text m ds) (λ x. Ok (job_with unit.0 m x)) job unit.2 in
     let x = three.0 in
     let names = naming_is text ds n one.1 in
     let named = names.0 in
@@ -204,8 +209,9 @@ job_means text written job e =
     let few_kinds = own.few_kinds in
     let few_depends = own.few_depends in
     let few_sources = own.few_sources in
-    let means : MeansJob text written (job_with m x) = record {
-      version = version_is written.version two.0 two.1;
+    let means : MeansJob text written (job_with unit.0 m x) = record {
+      version = version_is written.head two.0 two.1;
+      iso = iso_is text two.0 written.head unit.0 unit.1;
       allowed = is.allowed;
       own_names = own.own;
       families = the_families;
@@ -221,7 +227,7 @@ job_means text written job e =
       few_sources = omega (arith, sources_many, named_many, few_sources);
       few_itags = omega (arith, itags, drafted_itags, few_itags);
     } in
-    subst (λ (j : Job). MeansJob text written j) (ok_same (job_with m x) job three.2) means
+    subst (λ (j : Job). MeansJob text written j) (ok_same (job_with unit.0 m x) job three.2) means
 
 job_found : (text : List ℕ) (written : WrittenJob) (job : Job) → MeansJob text written job → resolved text written ≡ Ok job
 unfolding resolved
@@ -262,18 +268,22 @@ job_found text written job is =
     } in
     let draft = drafted text m families kinds know knows ds job.kinds job.depends job.sources aim in
     let the_families : map family n.families ≡ job.families = ap (map family) names.2.families ∙ families_back 0 families ∙ sym is.families in
-    let same : job_with m draft.draft ≡ job = λ i. record {
+    let same : job_with job.iso m draft.draft ≡ job = λ i. record {
       version = job.version;
+      iso = job.iso;
       families = the_families i;
       kinds = draft.kinds_are i;
       depends = draft.depends_are i;
       sources = draft.sources_are i;
     } in
-    let drafted_in = λ (n : Naming) (version : ℕ). draft_of text (in_version n version) ds >>= λ x. let r : Found Job = Ok
-    (job_with (in_version n version) x) in r in
-    binds (naming_of text ds) (λ n. version_of written.version >>= λ version. drafted_in n version) n job names.1
-    (binds (version_of written.version) (λ version. drafted_in n version) job.version job (version_found written.version job.version is.version)
-    (binds (draft_of text m ds) (λ x. Ok (job_with m x)) draft.draft job draft.found (ok_ok (job_with m draft.draft) job same)))
+    let drafted_in = λ (n : Naming) (version : ℕ) (iso : Option TimeUnit). draft_of text (in_version n version) ds >>= λ x. let r : Found Job = Ok
+    (job_with iso (in_version n version) x) in r in
+    let with_unit = λ (n : Naming) (version : ℕ). iso_of text version written.head >>= λ iso. drafted_in n version iso in
+    binds (naming_of text ds) (λ n. version_of written.head >>= λ version. with_unit n version) n job names.1
+    (binds (version_of written.head) (λ version. with_unit n version) job.version job (version_found written.head job.version is.version)
+    (binds (iso_of text job.version written.head) (λ iso. drafted_in n job.version iso) job.iso job
+    (iso_found text job.version written.head job.iso is.iso)
+    (binds (draft_of text m ds) (λ x. Ok (job_with job.iso m x)) draft.draft job draft.found (ok_ok (job_with job.iso m draft.draft) job same))))
 
 -- ---- the whole
 

@@ -20,6 +20,7 @@ pub mod JobNames
 pub mod JobSources
 pub mod JobDrafts
 pub mod JobFound
+pub mod Units
 pub mod JobTexts
 pub mod NormalForms
 pub mod Utf8

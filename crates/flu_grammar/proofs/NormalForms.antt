@@ -46,6 +46,8 @@ use Rattle.flu_model.specs.Erasure.{PlainKind, plain_kind}
 use Rattle.flu_model.specs.Listing.{tag, listed_keys, listed_tags, tags_of_source, itags_of_sources}
 use Rattle.flu_model.specs.Rules.{family_fits, ref_fits, ref_has_sort, is_literal, expr_fits, height, is_good_expr, is_short, flush_template_fits, is_keyed}
 use Rattle.flu_model.specs.Rules.{act_fits, guard_fits, action_fits, kind_fits, keys_fit, listed_kind_fits, tag_ref_fits, is_file_text, source_fits}
+use Rattle.flu_model.specs.Texts.{Unit as TimeUnit}
+use Rattle.flu_calendar.specs.declared.unit.Unit.TheVariants.{Seconds, Milliseconds, Microseconds}
 use Rattle.flu_model.specs.Templates.{family_name, written_key, written_cell, written_template}
 use Rattle.flu_text.specs.declared.words.Token.{Token}
 use Rattle.flu_text.specs.Grammar.{LeadsTo, IsSpan}
@@ -56,11 +58,11 @@ use Rattle.flu_text.specs.declared.words.Mark.TheVariants as m
 use Rattle.flu_text.specs.Signs.{Sign, Any, At as AtSign, AreSigns, separated as signs_between}
 use Rattle.flu_syntax.specs.Tree.{Tree, Deed, Action, Declaration, Declarations}
 use Rattle.flu_syntax.specs.Tree as d
-use Rattle.flu_syntax.specs.Grammar.{op_word, cell_signs, spelled, deed_signs, guard_signs, action_signs, declaration_signs, version_signs}
+use Rattle.flu_syntax.specs.Grammar.{op_word, cell_signs, spelled, deed_signs, guard_signs, action_signs, declaration_signs, head_signs}
 use Rattle.flu_layout.specs.Laid.{line_end, quoted}
 use Rattle.flu_layout.specs.Lists.{separated, keys_text}
 use Rattle.flu_layout.specs.Spelling.{name_of}
-use Rattle.flu_parse.specs.Printing.{op_text, term_text, act_text, guard_text, action_text, version_line, keyed_text, sort_text, cell_line, item_text}
+use Rattle.flu_parse.specs.Printing.{op_text, term_text, act_text, guard_text, action_text, iso_text, version_line, keyed_text, sort_text, cell_line, item_text}
 use Rattle.flu_parse.specs.Printing.{value_text, tag_line, kind_name, same_text, depends_line, actions_line, on_line, tag_text, slack_text, source_head}
 use Rattle.flu_parse.specs.Printing.{source_line}
 use Rattle.flu_grammar.specs.Means.{AllDiffer, IfWritten, Under}
@@ -456,12 +458,18 @@ module _ (p : Program) where
           name_few k.name (and_left (is_name k.name) (nat_le (length k.actions) 32)
           (and_left (is_name k.name && nat_le (length k.actions) 32) (list_all (action_fits p.families k.keyed k.has_value) k.actions) fits))
 
-  version_few : length (version_line p.version) ≤ 10
+  version_few : length (version_line p.version p.iso) ≤ 27
   version_few = by (p.version == 2) (p.version == 3)
     where
-      by : (b c : Bool) → length (cond b (codes "version 2" ++ 10 ∷ []) (cond c (codes "version 3" ++ 10 ∷ []) [])) ≤ 10
+      third_few : (iso : Option TimeUnit) → length (codes "version 3" ++ iso_text iso ++ 10 ∷ []) ≤ 27
+      third_few None = omega arith
+      third_few (Some Seconds) = omega arith
+      third_few (Some Milliseconds) = omega arith
+      third_few (Some Microseconds) = omega arith
+
+      by : (b c : Bool) → length (cond b (codes "version 2" ++ 10 ∷ []) (cond c (codes "version 3" ++ iso_text p.iso ++ 10 ∷ []) [])) ≤ 27
       by true c = omega arith
-      by false true = omega arith
+      by false true = third_few p.iso
       by false false = omega arith
 
   keyed_few : (b : Bool) → length (keyed_text b) ≤ 6
@@ -667,7 +675,7 @@ normal_form_is_short spans p bytes is =
       e,
       f,
       version_few p,
-      length-append (version_signs is.written.version) (flat_map declaration_signs ds),
-      six_long (version_line p.version) (flat_map cell_line p.families) (flat_map tag_line kinds) (flat_map (depends_line kinds) p.depends)
+      length-append (head_signs is.written.head) (flat_map declaration_signs ds),
+      six_long (version_line p.version p.iso) (flat_map cell_line p.families) (flat_map tag_line kinds) (flat_map (depends_line kinds) p.depends)
           (flat_map (on_line p.families) kinds) (flat_map (source_line kinds) p.sources),
     )

@@ -28,6 +28,8 @@ use Rattle.flu_model.specs.declared.jobs.Sort.TheVariants as sort
 use Rattle.flu_model.specs.declared.jobs.Source.{Source}
 use Rattle.flu_model.specs.declared.jobs.TagRef.{TagRef}
 use Rattle.flu_model.specs.Erasure.{Term, PlainAct, PlainAction, PlainKind}
+use Rattle.flu_model.specs.Texts.{Unit as TimeUnit}
+use Rattle.flu_calendar.specs.declared.unit.Unit.TheVariants.{Seconds, Milliseconds, Microseconds}
 use Rattle.flu_model.specs.Templates.{family_name, written_key, written_cell, written_piece, written_template}
 use Rattle.flu_text.specs.declared.written.WrittenSpan.{WrittenSpan}
 use Rattle.flu_syntax.specs.Tree.{Tree, Deed, Action, Declarations, Cell, Tag, Depends, On, Source as SourceLine}
@@ -36,7 +38,7 @@ use Rattle.flu_layout.specs.Lists.{separated, keys_text}
 use Rattle.flu_layout.specs.Spelling.{name_of}
 use Rattle.flu_parse.specs.declared.pieces.WrittenPiece.{WrittenPiece}
 use Rattle.flu_parse.specs.declared.pieces.WrittenPiece.TheVariants as w
-use Rattle.flu_parse.specs.Printing.{op_text, term_text, act_text, guard_text, action_text, keyed_text, sort_text, cell_line, item_text}
+use Rattle.flu_parse.specs.Printing.{op_text, term_text, act_text, guard_text, action_text, iso_text, keyed_text, sort_text, cell_line, item_text}
 use Rattle.flu_parse.specs.Printing.{value_text, tag_line, kind_name, same_text, depends_line, actions_line, on_line, tag_text, slack_text, source_line}
 use Rattle.flu_grammar.specs.Means.{IfWritten, Under}
 use Rattle.flu_grammar.specs.Terms.{MeansTerm, means_number, means_value, means_key, means_item, means_time, means_read, means_held, means_inside}
@@ -353,6 +355,12 @@ module _ (js : List PlainKind) (named : AllByRecursion named_kind js) where
       (same_tags s.tags) in
       head also listed also end
 
+unit_ascii : (iso : Option TimeUnit) → Utf8 (iso_text iso)
+unit_ascii None = none
+unit_ascii (Some Seconds) = ascii (codes " iso seconds") refl
+unit_ascii (Some Milliseconds) = ascii (codes " iso milliseconds") refl
+unit_ascii (Some Microseconds) = ascii (codes " iso microseconds") refl
+
 -- ---- the whole
 pub normal_form_is_utf8 : NormalFormIsUtf8
 normal_form_is_utf8 bytes job is =
@@ -361,7 +369,8 @@ normal_form_is_utf8 bytes job is =
     let means = is.means in
     let fs : AllByRecursion named_family job.families = subst (AllByRecursion named_family) (sym means.families) (families bytes utf8 ds) in
     let ks = kinds bytes utf8 job.version job.families ds (flat_map (kinds_in bytes) ds) job.kinds (declared bytes utf8 ds) means.kinds in
-    let third = word (job.version == 3) (codes "version 3" ++ line_end) [] (ascii (codes "version 3" ++ line_end) refl) none in
+    let named = ascii (codes "version 3") refl also unit_ascii job.iso also ascii line_end refl in
+    let third = word (job.version == 3) (codes "version 3" ++ iso_text job.iso ++ line_end) [] named none in
     let version = word (job.version == 2) (codes "version 2" ++ line_end) _ (ascii (codes "version 2" ++ line_end) refl) third in
     let ons = lines bytes utf8 job.families fs job.version ds (flat_map (kinds_in bytes) ds) job.kinds ks means.kinds in
     let sources = items (MeansSource bytes (flat_map (kinds_in bytes) ds)) (source_line job.kinds)

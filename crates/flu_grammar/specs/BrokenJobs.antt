@@ -9,6 +9,7 @@ use Rattle.flu_model.specs.declared.jobs.Sort.{Sort}
 use Rattle.flu_model.specs.declared.jobs.TagRef.{TagRef}
 use Rattle.flu_model.specs.Contents.{key_count}
 use Rattle.flu_model.specs.Rules.{is_version}
+use Rattle.flu_model.specs.Texts.{Unit as TimeUnit}
 use Rattle.flu_rules.specs.Keys.{share_tag}
 use Rattle.flu_text.specs.declared.words.Token.{Token}
 use Rattle.flu_text.specs.declared.written.WrittenSpan.{WrittenSpan}
@@ -19,12 +20,15 @@ use Rattle.flu_text.specs.Grammar.{AreTokens, IsFirstBadPlace}
 use Rattle.flu_syntax.specs.declared.tree.WrittenTag.{WrittenTag}
 use Rattle.flu_syntax.specs.declared.tree.WrittenRelation.{WrittenRelation}
 use Rattle.flu_syntax.specs.declared.tree.WrittenRelation.TheVariants as r
+use Rattle.flu_syntax.specs.declared.tree.WrittenUnit.{WrittenUnit}
+use Rattle.flu_syntax.specs.declared.tree.WrittenHead.{WrittenHead}
 use Rattle.flu_syntax.specs.Tree.{Action, Declaration, Declarations, Cell, Tag, Depends, On, Source, Job as WrittenJob}
 use Rattle.flu_syntax.specs.Grammar.{IsJob}
 use Rattle.flu_layout.specs.Spelling.{name_of, inside, written_value}
 use Rattle.flu_parse.specs.declared.faults.JobFault.{JobFault}
 use Rattle.flu_parse.specs.declared.faults.JobFault.TheVariants as j
 use Rattle.flu_parse.specs.Listings.{written_keys, tag_count}
+use Rattle.flu_parse.specs.Printing.{unit_name}
 use Rattle.flu_parse.specs.Reading.{job_in}
 use Rattle.flu_grammar.specs.Texts.{IsShortText}
 use Rattle.flu_grammar.specs.Declared.{DeclaredKind, under_kind, WrittenSource, families_in, kinds_in, depends_in, sources_in}
@@ -127,8 +131,14 @@ pub data BreaksJob (text : List ℕ) (job : WrittenJob) : JobFault → Type 0 wh
   too_many_kinds : 64 < length (flat_map (kinds_in text) job.declarations) → BreaksJob text job (j.OverLimit Kinds 65)
   too_many_sources : 64 < length (flat_map sources_in job.declarations) → BreaksJob text job (j.OverLimit Sources 65)
   too_many_depends : 4096 < length (flat_map depends_in job.declarations) → BreaksJob text job (j.OverLimit DependsLimit 4097)
-  no_version : (n : WrittenNumber) → job.version ≡ Some n → ¬ IsTrue (is_version (written_value n.value)) → BreaksJob text job (j.WrongShape n.at)
-  in_declaration : (version : ℕ) (before : Declarations) (x : Declaration) (after : Declarations) (fault : JobFault) → MeansVersion job.version version
+  no_version : (head : WrittenHead) → job.head ≡ Some head → ¬ IsTrue (is_version (written_value head.version.value))
+      → BreaksJob text job (j.WrongShape head.version.at)
+  -- only version 3 has a unit, and it is `seconds`, `milliseconds` or `microseconds`
+  unit_of_older : (head : WrittenHead) (unit : WrittenUnit) → job.head ≡ Some head → head.iso ≡ Some unit → written_value head.version.value ≢ 3
+      → BreaksJob text job (j.WrongShape unit.at)
+  no_unit : (head : WrittenHead) (unit : WrittenUnit) → job.head ≡ Some head → head.iso ≡ Some unit → ((u : TimeUnit) → name_of text unit.name ≢ unit_name u)
+      → BreaksJob text job (j.WrongShape unit.name.from)
+  in_declaration : (version : ℕ) (before : Declarations) (x : Declaration) (after : Declarations) (fault : JobFault) → MeansVersion job.head version
       → job.declarations ≡ before ++ x ∷ after → BreaksDeclaration text version job.declarations before x fault → BreaksJob text job fault
 
 -- ---- a job text

@@ -7,12 +7,15 @@ use Rattle.flu_model.specs.declared.jobs.Source.{Source}
 use Rattle.flu_model.specs.Erasure.{PlainKind, Job}
 use Rattle.flu_model.specs.Listing.{itags_of_sources}
 use Rattle.flu_model.specs.Rules.{is_version}
+use Rattle.flu_model.specs.Texts.{Unit as TimeUnit}
 use Rattle.flu_text.specs.declared.words.Token.{Token}
-use Rattle.flu_text.specs.declared.written.WrittenNumber.{WrittenNumber}
 use Rattle.flu_text.specs.Grammar.{AreTokens}
+use Rattle.flu_syntax.specs.declared.tree.WrittenUnit.{WrittenUnit}
+use Rattle.flu_syntax.specs.declared.tree.WrittenHead.{WrittenHead}
 use Rattle.flu_syntax.specs.Tree.{Job as WrittenJob, Declaration, Declarations}
 use Rattle.flu_syntax.specs.Grammar.{IsJob}
-use Rattle.flu_layout.specs.Spelling.{written_value}
+use Rattle.flu_layout.specs.Spelling.{name_of, written_value}
+use Rattle.flu_parse.specs.Printing.{unit_name}
 use Rattle.flu_grammar.specs.Means.{AllDiffer, IsNamed}
 use Rattle.flu_grammar.specs.Texts.{IsShortText}
 use Rattle.flu_grammar.specs.Actions.{MeansAction}
@@ -20,9 +23,19 @@ use Rattle.flu_grammar.specs.Declared.{DeclaredKind, under_kind, IsDeclaredIn, n
 use Rattle.flu_grammar.specs.Sources.{MeansDepend, MeansSource}
 
 -- version 1, 2 or 3, and 1 if none is written
-abbrev pub MeansVersion : Option WrittenNumber → ℕ → Type 0
+abbrev pub MeansVersion : Option WrittenHead → ℕ → Type 0
 MeansVersion None version = version ≡ 1
-MeansVersion (Some n) version = (version ≡ written_value n.value) × IsTrue (is_version version)
+MeansVersion (Some head) version = (version ≡ written_value head.version.value) × IsTrue (is_version version)
+
+-- `seconds`, `milliseconds` or `microseconds`, in version 3 only, and none if none is written
+abbrev pub MeansUnit : List ℕ → ℕ → Option WrittenUnit → Option TimeUnit → Type 0
+MeansUnit text version None iso = iso ≡ None
+MeansUnit text version (Some written) None = ⊥
+MeansUnit text version (Some written) (Some unit) = (version ≡ 3) × (name_of text written.name ≡ unit_name unit)
+
+abbrev pub MeansIso : List ℕ → ℕ → Option WrittenHead → Option TimeUnit → Type 0
+MeansIso text version None iso = iso ≡ None
+MeansIso text version (Some head) iso = MeansUnit text version head.iso iso
 
 -- A declared kind is the job's kind of its name, with the actions of its `on`, in their order, if it has one.
 pub record MeansDeclaredKind (text : List ℕ) (version : ℕ) (families : List Family) (declarations : Declarations) (declared : DeclaredKind) (kind : PlainKind)
@@ -37,7 +50,8 @@ pub record MeansDeclaredKind (text : List ℕ) (version : ℕ) (families : List 
 -- The declarations mean these parts of a job, each in the order of the text. Each is one that the version has. All names differ, each
 -- `on` is of a declared kind and no two are of the same one, and no two sources read the same file.
 pub record MeansJob (text : List ℕ) (written : WrittenJob) (job : Job) : Type 0 where
-  pub version : MeansVersion written.version job.version
+  pub version : MeansVersion written.head job.version
+  pub iso : MeansIso text job.version written.head job.iso
   pub allowed : (i : ℕ) (x : Declaration) → slice_get written.declarations i ≡ Some x → IsDeclaredIn text job.version x
   pub own_names : AllDiffer (flat_map (names_in text) written.declarations)
   pub families : job.families ≡ flat_map (families_in text) written.declarations

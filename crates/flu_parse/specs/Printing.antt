@@ -11,6 +11,8 @@ use Rattle.flu_model.specs.declared.jobs.Op.TheVariants as op
 use Rattle.flu_model.specs.declared.jobs.Depend.{Depend}
 use Rattle.flu_model.specs.declared.jobs.TagRef.{TagRef}
 use Rattle.flu_model.specs.declared.jobs.Source.{Source}
+use Rattle.flu_model.specs.Texts.{Unit}
+use Rattle.flu_calendar.specs.declared.unit.Unit.TheVariants.{Seconds, Milliseconds, Microseconds}
 use Rattle.flu_model.specs.Erasure.{Term, Literal, EventValue, EventKey, EventItem, EventTime, CellRead, CellHeld, Negative, Negation, Operation}
 use Rattle.flu_model.specs.Erasure.{PlainAct, Adding, Raising, Setting, Clearing, ClearingFamily, Emitting, Flushing, PlainAction, PlainKind, Job}
 use Rattle.flu_model.specs.Templates.{family_name, written_cell, written_template}
@@ -67,9 +69,19 @@ action_text families a = act_text families a.act ++ guard_text families a.guard
 
 -- ---- declarations
 
--- the version of the language, which is 1 if no line says otherwise
-abbrev pub version_line : ℕ → List ℕ
-version_line version = if version == 2 then codes "version 2" ++ line_end else if version == 3 then codes "version 3" ++ line_end else []
+abbrev pub unit_name : Unit → List ℕ
+unit_name Seconds = codes "seconds"
+unit_name Milliseconds = codes "milliseconds"
+unit_name Microseconds = codes "microseconds"
+
+abbrev pub iso_text : Option Unit → List ℕ
+iso_text None = []
+iso_text (Some unit) = codes " iso " ++ unit_name unit
+
+-- the version of the language, which is 1 if no line says otherwise, and the unit of the times, if there is one
+abbrev pub version_line : ℕ → Option Unit → List ℕ
+version_line version iso =
+    if version == 2 then codes "version 2" ++ line_end else if version == 3 then codes "version 3" ++ iso_text iso ++ line_end else []
 
 abbrev pub keyed_text : Bool → List ℕ
 keyed_text true = codes " keyed"
@@ -130,7 +142,7 @@ source_line kinds s = source_head s ++ separated (codes ", ") (tag_text kinds) s
 
 abbrev pub normal_form : Job → List ℕ
 normal_form job =
-    version_line job.version
+    version_line job.version job.iso
     ++ flat_map cell_line job.families
     ++ flat_map tag_line job.kinds
     ++ flat_map (depends_line job.kinds) job.depends

@@ -1,16 +1,20 @@
 -- A written job: its names first, then its declarations in order again, token by token.
-use Rattle.std.specs.Prelude.{ℕ, zero, suc, Bool, true, false, not, ◌&&◌, ◌==◌, List, [], ◌∷◌, ◌++◌, map, Option, Some, None, codes, Ok}
+use Rattle.std.specs.Prelude.{ℕ, zero, suc, Bool, true, false, not, ◌&&◌, ◌==◌, if◌then◌else◌, List, [], ◌∷◌, ◌++◌, map, Option, Some, None, codes, Ok, Err}
 use Rattle.std.specs.List.{list_any}
 use Rattle.std.specs.Str.{bytes_eq}
 use Rattle.flu_model.specs.declared.jobs.Depend.{Depend}
 use Rattle.flu_model.specs.declared.jobs.Source.{Source}
 use Rattle.flu_model.specs.Rules.{is_version}
+use Rattle.flu_model.specs.Texts.{Unit as TimeUnit}
+use Rattle.flu_calendar.specs.declared.unit.Unit.TheVariants.{Seconds, Milliseconds, Microseconds}
 use Rattle.flu_model.specs.Erasure.{PlainAction, PlainKind, Job, plain_kind}
 use Rattle.flu_text.specs.declared.written.WrittenSpan.{WrittenSpan}
 use Rattle.flu_text.specs.declared.written.WrittenNumber.{WrittenNumber}
 use Rattle.flu_syntax.specs.declared.tree.WrittenTag.{WrittenTag}
 use Rattle.flu_syntax.specs.declared.tree.WrittenRelation.{WrittenRelation}
 use Rattle.flu_syntax.specs.declared.tree.WrittenRelation.TheVariants as r
+use Rattle.flu_syntax.specs.declared.tree.WrittenUnit.{WrittenUnit}
+use Rattle.flu_syntax.specs.declared.tree.WrittenHead.{WrittenHead}
 use Rattle.flu_syntax.specs.Tree.{Action, Declaration}
 use Rattle.flu_syntax.specs.Tree as w
 use Rattle.flu_layout.specs.Spelling.{name_of, written_value}
@@ -111,34 +115,60 @@ abbrev pub draft_of : List ℕ → Naming → List Declaration → Found Drafted
 draft_of text n ds = each (with_declaration text n) (first_draft n) ds
 
 -- the version of the language is 1 if none is written
-abbrev pub version_of : Option WrittenNumber → Found ℕ
+abbrev pub version_of : Option WrittenHead → Found ℕ
 version_of None = Ok 1
-version_of (Some v) = do
-  unless (is_version (written_value v.value)) (f.WrongShape v.at)
-  Ok (written_value v.value)
+version_of (Some head) = do
+  unless (is_version (written_value head.version.value)) (f.WrongShape head.version.at)
+  Ok (written_value head.version.value)
 
-abbrev pub job_with : Naming → Drafted → Job
-job_with n d = record {
+-- the unit that has this name
+abbrev pub unit_named : List ℕ → Option TimeUnit
+unit_named name =
+    if bytes_eq name (codes "seconds") then Some Seconds
+    else if bytes_eq name (codes "milliseconds") then Some Milliseconds
+    else if bytes_eq name (codes "microseconds") then Some Microseconds
+    else None
+
+abbrev pub found_unit : ℕ → Option TimeUnit → Found (Option TimeUnit)
+found_unit at None = Err (f.WrongShape at)
+found_unit at (Some unit) = Ok (Some unit)
+
+-- the unit of the times, if one is written; only version 3 has units
+abbrev pub unit_of : List ℕ → ℕ → Option WrittenUnit → Found (Option TimeUnit)
+unit_of text version None = Ok None
+unit_of text version (Some unit) = do
+  unless (version == 3) (f.WrongShape unit.at)
+  found_unit unit.name.from (unit_named (name_of text unit.name))
+
+abbrev pub iso_of : List ℕ → ℕ → Option WrittenHead → Found (Option TimeUnit)
+iso_of text version None = Ok None
+iso_of text version (Some head) = unit_of text version head.iso
+
+abbrev pub job_with : Option TimeUnit → Naming → Drafted → Job
+job_with iso n d = record {
   version = n.version;
+  iso = iso;
   families = families_of n;
   kinds = d.kinds;
   depends = d.depends;
   sources = d.sources;
 }
 
--- The job that is written, or the first fault: the names of all declarations, then the version, then the declarations again.
+-- The job that is written, or the first fault: the names of all declarations, then the version and the unit, then the declarations again.
 unfoldable pub resolved : List ℕ → w.Job → Found Job
 resolved text job = do
   n ← naming_of text job.declarations
-  version ← version_of job.version
+  version ← version_of job.head
+  iso ← iso_of text version job.head
   let m = in_version n version
   d ← draft_of text m job.declarations
-  Ok (job_with m d)
+  Ok (job_with iso m d)
 
 -- the parts of a job as plain data
 abbrev pub job_of_parts : JobParts → Job
 job_of_parts p = record {
   version = p.version;
+  iso = p.iso;
   families = p.families;
   kinds = map plain_kind p.kinds;
   depends = p.depends;

@@ -1,6 +1,6 @@
 //! A job that is being read.
 
-use flu_model::{Depend, Family, Kind, List, Source, TagRef};
+use flu_model::{Depend, Family, Kind, List, Source, TagRef, Unit};
 
 /// The job as far as its declarations were processed, with the numbers of the kinds whose `on` was met, and how many itags
 /// its sources have.
@@ -24,6 +24,7 @@ pub struct TagList {
 #[derive(Drop)]
 pub struct JobParts {
     pub version: u32,
+    pub iso: Option<Unit>,
     pub families: List<Family>,
     pub kinds: List<Kind>,
     pub depends: List<Depend>,

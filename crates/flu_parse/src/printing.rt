@@ -5,23 +5,35 @@ ghost use Rattle.std.specs.List.{flat_map};
 ghost use Rattle.std.specs.String.{string_bytes};
 ghost use Rattle.flu_model.specs.Erasure.{job_of, plain_kind};
 ghost use Rattle.flu_layout.specs.Lists.{separated};
-ghost use Rattle.flu_parse.specs.Printing.{version_line, sort_text, keyed_text, cell_line, item_text, value_text, tag_line, kind_name, same_text, depends_line};
+ghost use Rattle.flu_parse.specs.Printing.{iso_text, version_line, sort_text, keyed_text, cell_line, item_text, value_text, tag_line, kind_name, same_text, depends_line};
 ghost use Rattle.flu_parse.specs.Printing.{on_line, tag_text, slack_text, source_head, source_line, normal_form};
 ghost use Rattle.flu_parse.specs.Reading.{job_in};
 
 use crate::laws::printed_is_read;
 use crate::printing_actions::add_actions;
 use flu_layout::add_keys;
-use flu_model::{Depend, Family, Kind, Program, Sort, Source, TagRef, Text};
+use flu_model::{Depend, Family, Kind, Program, Sort, Source, TagRef, Text, Unit};
 use std::alloc::{AllocError, Global};
 
-fn add_version(text: &mut String, version: u32) -> Result<(), AllocError>
-    ensures { OnOk result (string_bytes text.new ≡ string_bytes text.old ++ version_line version) }
+fn iso_text(iso: Option<Unit>) -> &'static str
+    ensures { result.now ≡ iso_text iso }
+{
+    match iso {
+        None => "",
+        Some(Unit::Seconds) => " iso seconds",
+        Some(Unit::Milliseconds) => " iso milliseconds",
+        Some(Unit::Microseconds) => " iso microseconds",
+    }
+}
+
+fn add_version(text: &mut String, version: u32, iso: Option<Unit>) -> Result<(), AllocError>
+    ensures { OnOk result (string_bytes text.new ≡ string_bytes text.old ++ version_line version iso) }
 {
     if version == 2 {
         text.push_str("version 2\n")?;
     } else if version == 3 {
-        text.push_str("version 3\n")?;
+        let iso = iso_text(iso);
+        write!(text, "version 3{iso}\n")?;
     }
     Ok(())
 }
@@ -192,7 +204,7 @@ fn printed(alloc: Global, p: &Program) -> Result<String, AllocError>
     let families = p.families.items();
     let kinds = p.kinds.items();
     let mut text = String::new(alloc);
-    add_version(&mut text, p.version)?;
+    add_version(&mut text, p.version, p.iso)?;
     add_cells(&mut text, families)?;
     add_tags(&mut text, kinds)?;
     add_depends(&mut text, kinds, p.depends.items())?;
@@ -201,8 +213,8 @@ fn printed(alloc: Global, p: &Program) -> Result<String, AllocError>
     Ok(text)
 }
 
-/// A job as a text, in normal form (`docs/LANGUAGE.md`): the version if it is not 1, cells, tags, `depends`, the actions of the
-/// kinds that have some, and sources, each on a line of its own with one blank between words. Each operator is in parentheses
+/// A job as a text, in normal form (`docs/LANGUAGE.md`): the version if it is not 1 with the unit of the times, cells, tags, `depends`, the
+/// actions of the kinds that have some, and sources, each on a line of its own with one blank between words. Each operator is in parentheses
 /// of its own, numbers have no needless zeros, the rate is always there, and the slack if it is not 0.
 ///
 /// The text is read as this job again, if it has at most 1,048,576 bytes.

@@ -83,7 +83,8 @@ fn read_parts(alloc: Global, bytes: &[u8]) -> Result<JobParts, JobFault>
 ///
 /// Then names are checked, in the order of the declarations: [`JobFault::TwiceNamed`] at the second declaration of a name,
 /// [`JobFault::OverLimit`] for a family, kind, source or `depends` that is one too many. Then [`JobFault::WrongShape`] at a version
-/// other than 1, 2 and 3. At last the declarations are checked again, token by token, where [`JobFault::UnknownName`] comes before
+/// other than 1, 2 and 3, at the word `iso` in versions 1 and 2, and at a unit other than `seconds`, `milliseconds` and `microseconds`,
+/// in this order. At last the declarations are checked again, token by token, where [`JobFault::UnknownName`] comes before
 /// [`JobFault::WrongShape`], that before [`JobFault::OverLimit`], and that before [`JobFault::TwiceNamed`]. [`JobFault::NoMemory`]
 /// if memory runs out.
 pub fn read_job(alloc: Global, bytes: &[u8]) -> Result<Program, JobFault>
@@ -93,6 +94,7 @@ pub fn read_job(alloc: Global, bytes: &[u8]) -> Result<Program, JobFault>
     let parts = read_parts(alloc, bytes)?;
     match program(
         parts.version,
+        parts.iso,
         parts.families,
         parts.kinds,
         parts.depends,

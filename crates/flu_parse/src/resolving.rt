@@ -7,7 +7,7 @@ ghost use Rattle.flu_syntax.specs.Tree.{action_of as action_seen, declaration_of
 ghost use Rattle.flu_parse.specs.Faults.{Gives};
 ghost use Rattle.flu_parse.specs.Naming.{naming, in_version};
 ghost use Rattle.flu_parse.specs.Resolving.{drafted, same_of, with_depend, with_actions, with_on, with_source, with_declaration, idle_kind};
-ghost use Rattle.flu_parse.specs.Resolving.{cell_name_fits, item_word_fits, first_draft, draft_of, version_of, resolved, job_of_parts};
+ghost use Rattle.flu_parse.specs.Resolving.{cell_name_fits, item_word_fits, first_draft, draft_of, version_of, unit_named, unit_of, iso_of, resolved, job_of_parts};
 
 use crate::actions::resolved_actions;
 use crate::drafts::{Draft, JobParts};
@@ -17,10 +17,10 @@ use crate::names::{KindHead, Names};
 use crate::naming::{families_of, is_version_3, kind_of, naming_of};
 use crate::terms::shape_at;
 use flu_layout::{name_of, written_value};
-use flu_model::{Action, Depend, Kind, List, Name, Source, Text};
+use flu_model::{Action, Depend, Kind, List, Name, Source, Text, Unit};
 use flu_syntax::{
-    WrittenAction, WrittenDeclaration, WrittenJob, WrittenNumber, WrittenRelation, WrittenSpan,
-    WrittenTag,
+    WrittenAction, WrittenDeclaration, WrittenHead, WrittenJob, WrittenNumber, WrittenRelation,
+    WrittenSpan, WrittenTag, WrittenUnit,
 };
 use std::alloc::{AllocError, Global};
 
@@ -239,16 +239,56 @@ fn draft_of(
 }
 
 // The version that is written, or 1.
-fn version_of(written: &Option<WrittenNumber>) -> Result<u32, JobFault>
+fn version_of(written: &Option<WrittenHead>) -> Result<u32, JobFault>
     ensures { Gives (λ version. version) result (version_of written.now) }
 {
     match written {
         None => Ok(1),
-        Some(number) => {
-            let version = written_value(number.value);
-            shape_at(version == 1 || version == 2 || version == 3, number.at)?;
+        Some(head) => {
+            let version = written_value(head.version.value);
+            shape_at(
+                version == 1 || version == 2 || version == 3,
+                head.version.at,
+            )?;
             Ok(version as u32)
         }
+    }
+}
+
+fn unit_named(name: &str) -> Option<Unit>
+    ensures { result ≡ unit_named name.now }
+{
+    if name == "seconds" {
+        Some(Unit::Seconds)
+    } else if name == "milliseconds" {
+        Some(Unit::Milliseconds)
+    } else if name == "microseconds" {
+        Some(Unit::Microseconds)
+    } else {
+        None
+    }
+}
+
+fn unit_of(text: &str, version: u32, written: Option<WrittenUnit>) -> Result<Option<Unit>, JobFault>
+    ensures { Gives (λ unit. unit) result (unit_of text.now version written) }
+{
+    let Some(unit) = written else {
+        return Ok(None);
+    };
+    shape_at(version == 3, unit.at)?;
+    match unit_named(name_of(text, unit.name)) {
+        Some(unit) => Ok(Some(unit)),
+        None => Err(JobFault::WrongShape { at: unit.name.from }),
+    }
+}
+
+// The unit of the times, if one is written.
+fn iso_of(text: &str, version: u32, written: &Option<WrittenHead>) -> Result<Option<Unit>, JobFault>
+    ensures { Gives (λ unit. unit) result (iso_of text.now version written.now) }
+{
+    match written {
+        None => Ok(None),
+        Some(head) => unit_of(text, version, head.iso),
     }
 }
 
@@ -258,8 +298,9 @@ fn version_of(written: &Option<WrittenNumber>) -> Result<u32, JobFault>
 ///
 /// Names are checked first, in the order of the declarations: [`JobFault::TwiceNamed`] at the second declaration of a name,
 /// [`JobFault::OverLimit`] for a family, kind, source or `depends` that is one too many. Then [`JobFault::WrongShape`] at a
-/// version other than 1, 2 and 3. Then the declarations are checked again, token by token, where an unknown name comes before a
-/// wrong shape, that before a limit, and that before what is named twice. [`JobFault::NoMemory`] if memory runs out.
+/// version other than 1, 2 and 3, at the word `iso` in versions 1 and 2, and at a unit that is none, in this order. Then the
+/// declarations are checked again, token by token, where an unknown name comes before a wrong shape, that before a limit, and that
+/// before what is named twice. [`JobFault::NoMemory`] if memory runs out.
 #[tactic(auto, unfolding(crate::specs::Resolving::resolved))]
 pub fn resolve(alloc: Global, text: &str, job: &WrittenJob) -> Result<JobParts, JobFault>
     ensures { Gives job_of_parts result (resolved text.now (job_of job.now)) }
@@ -269,12 +310,14 @@ pub fn resolve(alloc: Global, text: &str, job: &WrittenJob) -> Result<JobParts, 
         Ok(names) => names,
         Err(fault) => return Err(fault),
     };
-    let version = version_of(&job.version)?;
+    let version = version_of(&job.head)?;
+    let iso = iso_of(text, version, &job.head)?;
     names.version = version;
     let draft = draft_of(alloc, text, &names, declarations)?;
     let families = families_of(alloc, &names)?;
     Ok(JobParts {
         version,
+        iso,
         families: List::of(families),
         kinds: List::of(draft.kinds),
         depends: List::of(draft.depends),

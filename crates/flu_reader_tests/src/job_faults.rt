@@ -13,8 +13,8 @@ fn said(alloc: Global, text: &str) -> Result<String, AllocError> {
     }
 }
 
-/// Texts with their first faults: when the text is cut into words and read; in what its declarations name, as well as its version, which
-/// is checked once all names are; in its expressions, whose height is examined at the first token, after what is wrong there; and in its
+/// Texts with their first faults: when the text is cut into words and read; in what its declarations name, as well as its version and then
+/// its unit, which are checked once all names are; in its expressions, whose height is examined at the first token, after what is wrong there; and in its
 /// texts, in which a field of no form is not a faulty brace, so that the fields after it are checked.
 const FAULTS: &str = " => ok
 cell count sum $ => BadToken { at: 15 }
@@ -26,6 +26,21 @@ tag t keyed int source s \"f\": t[0..256] => OverLimit { what: Itags, count: 257
 tag t none source t \"f\": t => TwiceNamed { at: 18 }
 version 4 => WrongShape { at: 8 }
 version 3 => ok
+version 3 iso seconds => ok
+version 3 iso milliseconds => ok
+version 3 iso microseconds => ok
+version 4 iso days => WrongShape { at: 8 }
+version 2 iso seconds => WrongShape { at: 10 }
+version 1 iso days => WrongShape { at: 10 }
+version 3 iso days => WrongShape { at: 14 }
+version 3 iso second => WrongShape { at: 14 }
+version 3 iso => Unexpected { at: 13 }
+iso seconds => Unexpected { at: 0 }
+version 3 iso seconds iso seconds => Unexpected { at: 22 }
+version 3 iso days cell a sum cell a max => TwiceNamed { at: 35 }
+version 3 iso days tag t none depends t u => WrongShape { at: 14 }
+version 3 tag iso none tag seconds int depends iso seconds => ok
+version 1 tag iso none tag seconds int depends iso seconds => ok
 tag t item none => WrongShape { at: 6 }
 tag t foo none => Unexpected { at: 6 }
 version 3 tag t item item none => Unexpected { at: 21 }

@@ -23,8 +23,8 @@ fn expect_printed(rt: &impl Abort, alloc: Global, text: &str, expected: &str) ->
 
 /// Texts of jobs, each with its normal form after an arrow if that is another one: a count, views, last values; a version and slacks, of
 /// which only a version other than 1 and a slack other than 0 are printed; a guard, which gets parentheses; lines that are put in order;
-/// expressions; the fields of texts; and items, division, families cleared whole and named in a flush, which version 3 has, beside a cell that is
-/// called `item` in version 1.
+/// expressions; the fields of texts; a unit of times, beside tags that are called as the words for it; and items, division, families
+/// cleared whole and named in a flush, which version 3 has, beside a cell that is called `item` in version 1.
 const JOBS: &str = "cell count sum
 tag inc int
 tag read none
@@ -161,6 +161,20 @@ cell a sum
 cell k keyed last
 tag t keyed int
 on t: emit \"{value} {key}{time} 007 {a}, {k[key]} [{k[7]}] {k[0]} \u{e9}#\"; flush k \" {key}: {cell} 01 {time}{value}\"
+%%
+version 3 iso seconds
+tag iso none
+tag seconds int
+depends iso seconds
+%%
+version 03 iso  milliseconds # a comment
+-->
+version 3 iso milliseconds
+%%
+version 3 iso microseconds cell a sum
+-->
+version 3 iso microseconds
+cell a sum
 %%
 version 3 cell hits keyed sum cell mean last
 tag hit item int tag day keyed item none

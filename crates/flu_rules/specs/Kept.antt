@@ -1,15 +1,18 @@
 -- The rules of the job language, all of them, as parts keep them.
-use Rattle.std.specs.Prelude.{◌≤◌, ℕ, List, length, IsTrue}
+use Rattle.std.specs.Prelude.{◌≤◌, ℕ, Option, List, length, IsTrue}
 use Rattle.flu_model.specs.declared.jobs.Family.{Family}
 use Rattle.flu_model.specs.declared.jobs.Kind.{Kind}
 use Rattle.flu_model.specs.declared.jobs.Depend.{Depend}
 use Rattle.flu_model.specs.declared.jobs.Source.{Source}
 use Rattle.flu_model.specs.Listing.{itags_of_sources}
-use Rattle.flu_model.specs.Versions.{fit_version}
+use Rattle.flu_model.specs.Texts.{Unit}
+use Rattle.flu_model.specs.Versions.{fit_version, iso_fits}
 use Rattle.flu_model.specs.Rules.{is_version, are_families, are_kinds, are_depends, are_sources, have_own_names, have_own_files}
 
-pub record KeepsRules (version : ℕ) (families : List Family) (kinds : List Kind) (depends : List Depend) (sources : List Source) : Type 0 where
+pub record KeepsRules (version : ℕ) (iso : Option Unit) (families : List Family) (kinds : List Kind) (depends : List Depend) (sources : List Source)
+    : Type 0 where
   pub known_version : IsTrue (is_version version)
+  pub known_iso : IsTrue (iso_fits version iso)
   pub few_families : length families ≤ 64
   pub few_kinds : length kinds ≤ 64
   pub few_depends : length depends ≤ 4096

@@ -3,6 +3,7 @@
 
 ghost use Rattle.std.specs.Prelude.{◌≡◌, ◌↔◌, IsTrue, IfSome, IfNone};
 ghost use Rattle.std.specs.List.{list_all};
+ghost use Rattle.flu_model.specs.Versions.{iso_fits};
 ghost use Rattle.flu_model.specs.Rules.{is_version, are_families, are_kinds, are_depends, are_sources};
 ghost use Rattle.flu_rules.specs.Kept.{KeepsRules};
 ghost use Rattle.flu_rules.specs.Keys.{TagsMeet, TagsDiffer};
@@ -20,7 +21,7 @@ use crate::distinct::{have_own_files, have_own_names};
 use crate::sources::{depend_fits, source_fits};
 use crate::tags::has_few_itags;
 pub use crate::versions::fit_version;
-use flu_model::{Depend, Family, Kind, List, Program, Source};
+use flu_model::{Depend, Family, Kind, List, Program, Source, Unit};
 pub use flu_names::{are_name, is_name};
 
 /// The most families, kinds and sources of a job.
@@ -37,24 +38,27 @@ pub fn tags_meet_by_their_ends()
 {}
 
 /// The job of this version with these parts, if they keep the rules of the language (`docs/LANGUAGE.md`); none if they
-/// break one.
+/// break one. With a unit, `iso`, its times are text too; only version 3 has this.
 ///
 /// The parts may be any, so what the lists hold need not have been looked at before. It takes no memory: ranges of keys
 /// are not written out, and expressions are looked at no deeper than they may be high.
 pub fn program(
     version: u32,
+    iso: Option<Unit>,
     families: List<Family>,
     kinds: List<Kind>,
     depends: List<Depend>,
     sources: List<Source>,
 ) -> Option<Program>
     ensures version { IfSome result (λ p. p.version ≡ version) }
+    ensures iso { IfSome result (λ p. p.iso ≡ iso) }
     ensures parts { IfSome result (λ p. (p.families ≡ families) × (p.kinds ≡ kinds) × (p.depends ≡ depends) × (p.sources ≡ sources)) }
-    ensures kept { IfSome result (λ p. KeepsRules version families kinds depends sources) }
-    ensures refused { IfNone result (¬ (KeepsRules version families kinds depends sources)) }
+    ensures kept { IfSome result (λ p. KeepsRules version iso families kinds depends sources) }
+    ensures refused { IfNone result (¬ (KeepsRules version iso families kinds depends sources)) }
 {
     if keep_rules(
         version,
+        iso,
         families.items(),
         kinds.items(),
         depends.items(),
@@ -62,6 +66,7 @@ pub fn program(
     ) {
         Some(Program {
             version,
+            iso,
             families,
             kinds,
             depends,
@@ -74,14 +79,16 @@ pub fn program(
 
 fn keep_rules(
     version: u32,
+    iso: Option<Unit>,
     families: &[Family],
     kinds: &[Kind],
     depends: &[Depend],
     sources: &[Source],
 ) -> bool
-    ensures { IsTrue result ↔ KeepsRules version families.now kinds.now depends.now sources.now }
+    ensures { IsTrue result ↔ KeepsRules version iso families.now kinds.now depends.now sources.now }
 {
     is_version(version)
+        && iso_fits(version, iso)
         && families.len() <= MOST_PARTS
         && kinds.len() <= MOST_PARTS
         && depends.len() <= MOST_DEPENDS
@@ -100,6 +107,15 @@ fn is_version(version: u32) -> bool
     ensures { result ≡ is_version version }
 {
     version == 1 || version == 2 || version == 3
+}
+
+fn iso_fits(version: u32, iso: Option<Unit>) -> bool
+    ensures { result ≡ iso_fits version iso }
+{
+    match iso {
+        None => true,
+        Some(_) => version == 3,
+    }
 }
 
 fn are_families(families: &[Family]) -> bool

@@ -12,7 +12,7 @@ use Rattle.flu_syntax.specs.Tree.{Job}
 use Rattle.flu_syntax.specs.Grammar.{IsJobWithin, IsJob}
 use Rattle.flu_syntax.specs.Continued.{MayGoOnWithin, CannotTake, IsFirstThatCannotFollow, IsTooDeep}
 use Rattle.flu_syntax.specs.Laws.{FoundIsJob, JobsAreUnique, UnexpectedIsFirst, TooDeepIsThe65th}
-use Rattle.flu_syntax.proofs.Versions.{is_job, job_is_found, first_unexpected, opens_too_many}
+use Rattle.flu_syntax.proofs.Heads.{is_job, job_is_found, first_unexpected, opens_too_many}
 
 pub found_is_job : FoundIsJob
 found_is_job end tokens job = (is_job end tokens job, job_is_found end tokens job)

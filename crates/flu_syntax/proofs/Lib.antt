@@ -6,6 +6,6 @@ pub mod Found
 pub mod Spelling
 pub mod Levels
 pub mod Deep
-pub mod Versions
+pub mod Heads
 pub mod Exact
 pub mod Words

@@ -12,14 +12,16 @@ use Rattle.flu_syntax.specs.declared.tree.WrittenRef.{WrittenRef}
 use Rattle.flu_text.specs.declared.written.WrittenKeys.{WrittenKeys}
 use Rattle.flu_text.specs.declared.written.WrittenKeys.TheVariants as keys
 use Rattle.flu_syntax.specs.declared.tree.WrittenTag.{WrittenTag}
+use Rattle.flu_syntax.specs.declared.tree.WrittenUnit.{WrittenUnit}
+use Rattle.flu_syntax.specs.declared.tree.WrittenHead.{WrittenHead}
 use Rattle.flu_syntax.specs.Tree.{Tree, NumberTree, ValueTree, KeyTree, TimeTree, ReadTree, HasTree, ParenTree, NegTree, NotTree, TwoTree, Deed}
 use Rattle.flu_syntax.specs.Tree.{Writes, Clears, Emits, Flushes, Action, Declaration, Cell, Tag, Depends, On, Source, Declarations, Job}
 use Rattle.flu_text.specs.Signs.{Sign, Any, separated, keys_signs}
 use Rattle.flu_syntax.specs.Grammar.{key_signs, cell_signs, spelled, deed_signs, guard_signs, action_signs, tag_signs}
-use Rattle.flu_syntax.specs.Grammar.{rate_signs, slack_signs, version_signs, declaration_signs, declarations_signs, job_signs}
+use Rattle.flu_syntax.specs.Grammar.{rate_signs, slack_signs, iso_signs, head_signs, declaration_signs, declarations_signs, job_signs}
 use Rattle.flu_text.specs.Signs.{Stands}
 use Rattle.flu_syntax.specs.Words.{key_words, cell_words, tree_words, deed_words, guard_words, action_words}
-use Rattle.flu_syntax.specs.Words.{keys_words, tag_words, number_words, declaration_words, job_words}
+use Rattle.flu_syntax.specs.Words.{keys_words, tag_words, number_words, declaration_words, unit_words, head_words, job_words}
 use Rattle.flu_text.specs.Laws.{SignsStand}
 use Rattle.flu_syntax.specs.Laws.{WordsStand}
 
@@ -95,9 +97,13 @@ module _ (P : Sign → Type 0) where
   slack_has None all = tt
   slack_has (Some n) all = all.1
 
-  version_has : (version : Option WrittenNumber) → AllByRecursion P (version_signs version) → AllByRecursion P (number_words version)
-  version_has None all = tt
-  version_has (Some n) all = all.1
+  unit_has : (iso : Option WrittenUnit) → AllByRecursion P (iso_signs iso) → AllByRecursion P (unit_words iso)
+  unit_has None all = tt
+  unit_has (Some unit) all = all.1
+
+  head_has : (head : Option WrittenHead) → AllByRecursion P (head_signs head) → AllByRecursion P (head_words head)
+  head_has None all = tt
+  head_has (Some head) all = (all.1.0, unit_has head.iso all.1.1)
 
   declaration_has : (d : Declaration) → AllByRecursion P (declaration_signs d) → AllByRecursion P (declaration_words d)
   declaration_has (Cell n keyed sort) all = (all.1.0, tt)
@@ -127,9 +133,9 @@ module _ (P : Sign → Type 0) where
 
   job_has : (job : Job) → AllByRecursion P (job_signs job) → AllByRecursion P (job_words job)
   job_has job all =
-      all_append P (number_words job.version) (flat_map declaration_words job.declarations)
-      (version_has job.version (all_front P (version_signs job.version) (declarations_signs job.declarations) all))
-      (declarations_have job.declarations (all_back P (version_signs job.version) (declarations_signs job.declarations) all))
+      all_append P (head_words job.head) (flat_map declaration_words job.declarations)
+      (head_has job.head (all_front P (head_signs job.head) (declarations_signs job.declarations) all))
+      (declarations_have job.declarations (all_back P (head_signs job.head) (declarations_signs job.declarations) all))
 
 pub words_stand : SignsStand → WordsStand
 words_stand stand tokens job is = job_has (Stands tokens) job (stand tokens (job_signs job) is.spelled)

@@ -21,6 +21,8 @@ use Rattle.flu_syntax.specs.declared.tree.WrittenRef.{WrittenRef}
 use Rattle.flu_syntax.specs.declared.tree.WrittenTag.{WrittenTag}
 use Rattle.flu_syntax.specs.declared.tree.WrittenRelation.{WrittenRelation}
 use Rattle.flu_syntax.specs.declared.tree.WrittenRelation.TheVariants as relation
+use Rattle.flu_syntax.specs.declared.tree.WrittenUnit.{WrittenUnit}
+use Rattle.flu_syntax.specs.declared.tree.WrittenHead.{WrittenHead}
 use Rattle.flu_syntax.specs.Tree.{Tree, NumberTree, ValueTree, KeyTree, TimeTree, ReadTree, HasTree, ParenTree, NegTree, NotTree, TwoTree, Deed, Writes, Clears}
 use Rattle.flu_syntax.specs.Tree.{Emits, Flushes, Action, Declaration, Cell, Tag, Depends, On, Source, Declarations, Job}
 
@@ -218,14 +220,19 @@ abbrev pub AreDeclarations : ℕ → Declarations → Type 0
 AreDeclarations most [] = Unit {0}
 AreDeclarations most (d ∷ all) = IsDeclaration most d × AreDeclarations most all
 
--- ["version" NUMBER]
-abbrev pub version_signs : Option WrittenNumber → List Sign
-version_signs None = []
-version_signs (Some n) = Any (w.Reserved r.Version) ∷ number n
+-- ["iso" NAME], where `iso` is a name that spells it
+abbrev pub iso_signs : Option WrittenUnit → List Sign
+iso_signs None = []
+iso_signs (Some unit) = At (w.Name contextual.Iso) unit.at ∷ name unit.name
 
--- ["version" NUMBER] { decl }
+-- ["version" NUMBER ["iso" NAME]]
+abbrev pub head_signs : Option WrittenHead → List Sign
+head_signs None = []
+head_signs (Some head) = Any (w.Reserved r.Version) ∷ (number head.version ++ iso_signs head.iso)
+
+-- ["version" NUMBER ["iso" NAME]] { decl }
 abbrev pub job_signs : Job → List Sign
-job_signs job = version_signs job.version ++ declarations_signs job.declarations
+job_signs job = head_signs job.head ++ declarations_signs job.declarations
 
 -- The tokens are this job, in which at most this many parentheses and unary operators are open at once: they are its signs, one by one, and
 -- it keeps the levels of operators.

@@ -23,6 +23,8 @@ use Rattle.flu_text.specs.declared.written.WrittenKeys.{WrittenKeys}
 use Rattle.flu_text.specs.declared.written.WrittenKeys.TheVariants as keys
 use Rattle.flu_syntax.specs.declared.tree.WrittenTag.{WrittenTag}
 use Rattle.flu_syntax.specs.declared.tree.WrittenRelation.TheVariants as relation
+use Rattle.flu_syntax.specs.declared.tree.WrittenUnit.{WrittenUnit}
+use Rattle.flu_syntax.specs.declared.tree.WrittenHead.{WrittenHead}
 use Rattle.flu_syntax.specs.declared.tokens.Front.{Front}
 use Rattle.flu_syntax.specs.declared.tokens.Front.TheVariants as start
 use Rattle.flu_syntax.specs.declared.tokens.Verb.{Verb}
@@ -532,15 +534,39 @@ run end before now (t ∷ tokens) = goes_on t before now (step now t) (λ all ne
 
 -- ---- all tokens
 
--- the declarations of a job with this version, or the same fault
-abbrev pub with_version : Option WrittenNumber → Verdict Declarations → Verdict Job
-with_version version (Found all) = Found (record { version = version; declarations = all })
-with_version version (Unexpected place) = Unexpected place
-with_version version TooDeep = TooDeep
+-- the declarations of a job with this head, or the same fault
+abbrev pub with_head : Option WrittenHead → Verdict Declarations → Verdict Job
+with_head head (Found all) = Found (record { head = head; declarations = all })
+with_head head (Unexpected place) = Unexpected place
+with_head head TooDeep = TooDeep
+
+abbrev pub head_of : WrittenNumber → Option WrittenUnit → WrittenHead
+head_of version iso = record { version = version; iso = iso }
+
+abbrev pub unit_of : ℕ → WrittenSpan → WrittenUnit
+unit_of at name = record { at = at; name = name }
+
+-- after `iso`, which is at this place
+abbrev pub unit_named : ℕ → WrittenNumber → ℕ → Token → Word → List Token → Verdict Job
+unit_named end version at t (w.Name c) tokens = with_head (Some (head_of version (Some (unit_of at (span_of t))))) (run end [] Start tokens)
+unit_named end version at t _ tokens = Unexpected t.from
+
+abbrev pub behind_iso : ℕ → WrittenNumber → ℕ → List Token → Verdict Job
+behind_iso end version at [] = Unexpected end
+behind_iso end version at (t ∷ tokens) = unit_named end version at t t.word tokens
+
+-- after the number of the version
+abbrev pub iso_or_more : ℕ → WrittenNumber → Token → Word → List Token → Verdict Job
+iso_or_more end version t (w.Name contextual.Iso) tokens = behind_iso end version t.from tokens
+iso_or_more end version t _ tokens = with_head (Some (head_of version None)) (run end [] Start (t ∷ tokens))
+
+abbrev pub behind_number : ℕ → WrittenNumber → List Token → Verdict Job
+behind_number end version [] = with_head (Some (head_of version None)) (run end [] Start [])
+behind_number end version (t ∷ tokens) = iso_or_more end version t t.word tokens
 
 -- after `version`
 abbrev pub numbered : ℕ → Token → Word → List Token → Verdict Job
-numbered end t (w.Number n) tokens = with_version (Some (number_of n t)) (run end [] Start tokens)
+numbered end t (w.Number n) tokens = behind_number end (number_of n t) tokens
 numbered end t _ tokens = Unexpected t.from
 
 abbrev pub behind_version : ℕ → List Token → Verdict Job
@@ -549,9 +575,9 @@ behind_version end (t ∷ tokens) = numbered end t t.word tokens
 
 abbrev pub headed : ℕ → Token → Word → List Token → Verdict Job
 headed end t (w.Reserved r.Version) tokens = behind_version end tokens
-headed end t _ tokens = with_version None (run end [] Start (t ∷ tokens))
+headed end t _ tokens = with_head None (run end [] Start (t ∷ tokens))
 
 -- what the tokens of a text are, where end is the text's length
 unfoldable pub verdict : ℕ → List Token → Verdict Job
-verdict end [] = with_version None (run end [] Start [])
+verdict end [] = with_head None (run end [] Start [])
 verdict end (t ∷ tokens) = headed end t t.word tokens

@@ -16,6 +16,8 @@ use Rattle.flu_syntax.specs.declared.tree.WrittenRef.{WrittenRef}
 use Rattle.flu_text.specs.declared.written.WrittenKeys.{WrittenKeys}
 use Rattle.flu_syntax.specs.declared.tree.WrittenTag.{WrittenTag}
 use Rattle.flu_syntax.specs.declared.tree.WrittenRelation.{WrittenRelation}
+use Rattle.flu_syntax.specs.declared.tree.WrittenUnit.{WrittenUnit}
+use Rattle.flu_syntax.specs.declared.tree.WrittenHead.{WrittenHead}
 use Rattle.flu_syntax.specs.Tree.{Tree, ParenTree, Deed, Action, Declaration, Depends, On, Source, Declarations}
 use Rattle.flu_text.specs.Signs.{place_of}
 use Rattle.flu_syntax.specs.Grammar.{op_level}
@@ -23,7 +25,7 @@ use Rattle.flu_text.specs.Signs.{is_name_word, span_of, number_of}
 use Rattle.flu_syntax.specs.Machine.{Now, Start, CellFamily, CellKeys, CellKey, CellClose, InExpression, ActionStart, ActionEnd, DeedEnd, TagKind, TagKeys}
 use Rattle.flu_syntax.specs.Machine.{TagMore, TagClose, TagEnd, SourceRate, SourceSlack, SourceColon, DependsHow, Actions, Tags, Context, Aim, ToWrite, Frame}
 use Rattle.flu_syntax.specs.Machine.{ParenFrame, RightFrame, Mode, Want, Have, Done, opens, named, cell_of, tag_of, listed, source_of, acted, Verdict, Found}
-use Rattle.flu_syntax.specs.Machine.{Unexpected, TooDeep, run, verdict, with_version}
+use Rattle.flu_syntax.specs.Machine.{Unexpected, TooDeep, run, verdict, with_head, head_of, behind_number}
 
 -- the fault is the verdict, unless memory runs out
 abbrev pub Tells : {X : Type 0} → SyntaxFault → Verdict X → Type 0
@@ -223,7 +225,13 @@ abbrev pub ReadsDeclarations : {X : Type 0} → ℕ → List Token → (X → De
 ReadsDeclarations end tokens declarations (Ok x) = run end [] Start tokens ≡ Found (declarations x)
 ReadsDeclarations end tokens declarations (Err fault) = Tells fault (run end [] Start tokens)
 
--- the version of a job, if one is written: the verdict on all tokens is the verdict on the declarations after it, or the fault is the verdict
-abbrev pub ReadsVersion : {X : Type 0} → ℕ → List Token → (X → Option WrittenNumber) → (X → List Token) → Result X SyntaxFault → Type 0
-ReadsVersion end tokens version rest (Ok x) = verdict end tokens ≡ with_version (version x) (run end [] Start (rest x))
-ReadsVersion end tokens version rest (Err fault) = Tells fault (verdict end tokens)
+-- the unit of a job's times, if one is written, after the number of any version
+abbrev pub ReadsUnit : {X : Type 0} → ℕ → List Token → (X → Option WrittenUnit) → (X → List Token) → Result X SyntaxFault → Type 0
+ReadsUnit end tokens unit rest (Ok x) =
+    (version : WrittenNumber) → behind_number end version tokens ≡ with_head (Some (head_of version (unit x))) (run end [] Start (rest x))
+ReadsUnit end tokens unit rest (Err fault) = (version : WrittenNumber) → Tells fault (behind_number end version tokens)
+
+-- the head of a job, if one is written: the verdict on all tokens is the verdict on the declarations after it, or the fault is the verdict
+abbrev pub ReadsHead : {X : Type 0} → ℕ → List Token → (X → Option WrittenHead) → (X → List Token) → Result X SyntaxFault → Type 0
+ReadsHead end tokens head rest (Ok x) = verdict end tokens ≡ with_head (head x) (run end [] Start (rest x))
+ReadsHead end tokens head rest (Err fault) = Tells fault (verdict end tokens)

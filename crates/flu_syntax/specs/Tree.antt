@@ -16,6 +16,7 @@ use Rattle.flu_syntax.specs.declared.tree.WrittenAct.TheVariants as act
 use Rattle.flu_syntax.specs.declared.tree.WrittenAction.{WrittenAction}
 use Rattle.flu_syntax.specs.declared.tree.WrittenDeclaration.{WrittenDeclaration}
 use Rattle.flu_syntax.specs.declared.tree.WrittenDeclaration.TheVariants as declaration
+use Rattle.flu_syntax.specs.declared.tree.WrittenHead.{WrittenHead}
 use Rattle.flu_syntax.specs.declared.tree.WrittenJob.{WrittenJob}
 
 -- an expression, with the places of its words
@@ -84,10 +85,10 @@ declaration_of (declaration.Source name file rate slack tags) = Source name file
 abbrev pub Declarations : Type 0
 Declarations = List Declaration
 
--- a whole job: the number after `version`, if that is written, and the declarations
+-- a whole job: its head, if one is written, and the declarations
 pub record Job : Type 0 where
-  pub version : Option WrittenNumber
+  pub head : Option WrittenHead
   pub declarations : Declarations
 
 abbrev pub job_of : WrittenJob → Job
-job_of job = record { version = job.version; declarations = map declaration_of job.declarations }
+job_of job = record { head = job.head; declarations = map declaration_of job.declarations }

@@ -9,6 +9,8 @@ use Rattle.flu_syntax.specs.declared.tree.WrittenRef.{WrittenRef}
 use Rattle.flu_text.specs.declared.written.WrittenKeys.{WrittenKeys}
 use Rattle.flu_text.specs.declared.written.WrittenKeys.TheVariants as keys
 use Rattle.flu_syntax.specs.declared.tree.WrittenTag.{WrittenTag}
+use Rattle.flu_syntax.specs.declared.tree.WrittenUnit.{WrittenUnit}
+use Rattle.flu_syntax.specs.declared.tree.WrittenHead.{WrittenHead}
 use Rattle.flu_syntax.specs.Tree.{Tree, NumberTree, ValueTree, KeyTree, TimeTree, ReadTree, HasTree, ParenTree, NegTree, NotTree, TwoTree, Deed, Writes, Clears}
 use Rattle.flu_syntax.specs.Tree.{Emits, Flushes, Action, Declaration, Cell, Tag, Depends, On, Source, Job}
 use Rattle.flu_text.specs.Signs.{Sign}
@@ -60,12 +62,12 @@ keys_words (keys.Range low high) = number low ++ number high
 abbrev pub tag_words : WrittenTag → List Sign
 tag_words t = name t.kind ++ keys_words t.keys
 
--- the one of a version, a rate or a slack, if one is written
+-- the one of a rate or a slack, if one is written
 abbrev pub number_words : Option WrittenNumber → List Sign
 number_words None = []
 number_words (Some n) = number n
 
--- those of a declaration, and of a whole job
+-- those of a declaration
 abbrev pub declaration_words : Declaration → List Sign
 declaration_words (Cell n keyed sort) = name n
 declaration_words (Tag n keyed item has_value) = name n
@@ -73,5 +75,15 @@ declaration_words (Depends a b relation) = name a ++ name b
 declaration_words (On kind actions) = name kind ++ flat_map action_words actions
 declaration_words (Source n file rate slack tags) = name n ++ text file ++ number_words rate ++ number_words slack ++ flat_map tag_words tags
 
+-- those of a head: the number of the version, and the name of the unit, if one is written
+abbrev pub unit_words : Option WrittenUnit → List Sign
+unit_words None = []
+unit_words (Some unit) = name unit.name
+
+abbrev pub head_words : Option WrittenHead → List Sign
+head_words None = []
+head_words (Some head) = number head.version ++ unit_words head.iso
+
+-- those of a whole job
 abbrev pub job_words : Job → List Sign
-job_words job = number_words job.version ++ flat_map declaration_words job.declarations
+job_words job = head_words job.head ++ flat_map declaration_words job.declarations

@@ -27,6 +27,6 @@ pub use fault::SyntaxFault;
 pub use flu_text::{WrittenKeys, WrittenNumber, WrittenSpan};
 pub use reading::read_syntax;
 pub use tree::{
-    WrittenAct, WrittenAction, WrittenDeclaration, WrittenExpr, WrittenJob, WrittenKey, WrittenRef,
-    WrittenRelation, WrittenTag,
+    WrittenAct, WrittenAction, WrittenDeclaration, WrittenExpr, WrittenHead, WrittenJob,
+    WrittenKey, WrittenRef, WrittenRelation, WrittenTag, WrittenUnit,
 };

@@ -5,25 +5,38 @@ ghost use Rattle.flu_syntax.specs.Tree.{job_of, declaration_of};
 ghost use Rattle.flu_syntax.specs.Grammar.{IsJob};
 ghost use Rattle.flu_syntax.specs.Continued.{IsFirstThatCannotFollow, IsTooDeep};
 ghost use Rattle.flu_syntax.specs.Machine.{verdict, Found};
-ghost use Rattle.flu_syntax.specs.Reading.{ReadsVersion, ReadsDeclarations, Tells};
+ghost use Rattle.flu_syntax.specs.Reading.{ReadsHead, ReadsUnit, ReadsDeclarations, Tells};
 
 use crate::declarations::declaration;
 use crate::fault::SyntaxFault;
-use crate::tokens::{number, take};
-use crate::tree::{WrittenDeclaration, WrittenJob, WrittenNumber};
+use crate::tokens::{name, number, take};
+use crate::tree::{WrittenDeclaration, WrittenHead, WrittenJob, WrittenUnit};
 use flu_model::List;
-use flu_text::{Reserved, Token, Word};
+use flu_text::{Contextual, Reserved, Token, Word};
 use std::alloc::Global;
 
-/// The version of a job, if one is written.
-fn version(tokens: &[Token], end: usize) -> Result<(Option<WrittenNumber>, &[Token]), SyntaxFault>
-    ensures run { ReadsVersion end tokens.now (λ x. x.0) (λ x. x.1.now) result }
+/// The unit of a job's times, if one is written.
+fn unit(tokens: &[Token], end: usize) -> Result<(Option<WrittenUnit>, &[Token]), SyntaxFault>
+    ensures run { ReadsUnit end tokens.now (λ x. x.0) (λ x. x.1.now) result }
+{
+    let Some((word, rest)) = take(tokens, Word::Name(Contextual::Iso)) else {
+        return Ok((None, tokens));
+    };
+    let (name, rest) = name(rest, end)?;
+    let at = word.from;
+    Ok((Some(WrittenUnit { at, name }), rest))
+}
+
+/// The head of a job, if one is written.
+fn head(tokens: &[Token], end: usize) -> Result<(Option<WrittenHead>, &[Token]), SyntaxFault>
+    ensures run { ReadsHead end tokens.now (λ x. x.0) (λ x. x.1.now) result }
 {
     let Some((_, rest)) = take(tokens, Word::Reserved(Reserved::Version)) else {
         return Ok((None, tokens));
     };
     let (version, rest) = number(rest, end)?;
-    Ok((Some(version), rest))
+    let (iso, rest) = unit(rest, end)?;
+    Ok((Some(WrittenHead { version, iso }), rest))
 }
 
 /// Declarations up to the end.
@@ -62,10 +75,7 @@ pub fn read_syntax(alloc: Global, tokens: &[Token], end: usize) -> Result<Writte
     // Each answer, except for lack of memory, is the verdict on the tokens.
     ensures verdict { MatchResult result (λ found. verdict end tokens.now ≡ Found (job_of found)) (λ fault. Tells fault (verdict end tokens.now)) }
 {
-    let (version, rest) = version(tokens, end)?;
+    let (head, rest) = head(tokens, end)?;
     let declarations = declarations(alloc, rest, end)?;
-    Ok(WrittenJob {
-        version,
-        declarations,
-    })
+    Ok(WrittenJob { head, declarations })
 }

@@ -1,4 +1,4 @@
-//! A job as it is written: a version, and declarations whose names and texts are spans of bytes of the job text.
+//! A job as it is written: a head, and declarations whose names and texts are spans of bytes of the job text.
 
 use flu_model::{List, Op, Sort};
 pub use flu_text::{WrittenKeys, WrittenNumber, WrittenSpan};
@@ -150,9 +150,23 @@ pub enum WrittenRelation {
     Same { at: usize },
 }
 
-/// A whole job: the number after `version`, if that is written, and the declarations in order.
+/// The unit of a job's times: the place of the word `iso`, and the name after it.
+#[derive(Clone, Copy, PartialEq, Eq)]
+pub struct WrittenUnit {
+    pub at: usize,
+    pub name: WrittenSpan,
+}
+
+/// What a job begins with: the number after `version`, and the unit of its times, if one is written.
+#[derive(Clone, Copy)]
+pub struct WrittenHead {
+    pub version: WrittenNumber,
+    pub iso: Option<WrittenUnit>,
+}
+
+/// A whole job: its head, if one is written, and the declarations in order.
 #[derive(Drop)]
 pub struct WrittenJob {
-    pub version: Option<WrittenNumber>,
+    pub head: Option<WrittenHead>,
     pub declarations: List<WrittenDeclaration>,
 }

@@ -57,6 +57,8 @@ pub enum Mark {
 pub enum Contextual {
     /// `item`
     Item,
+    /// `iso`
+    Iso,
     /// None.
     Other,
 }
@@ -68,6 +70,8 @@ pub fn contextual_of(name: &[u8]) -> Contextual
 {
     if name == b"item".as_slice() {
         Contextual::Item
+    } else if name == b"iso".as_slice() {
+        Contextual::Iso
     } else {
         Contextual::Other
     }

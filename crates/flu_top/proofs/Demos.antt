@@ -26,6 +26,7 @@ pub is_demo_job : (p : Program) → IsDemoJob p → job_of p ≡ demo_job
 is_demo_job p demo =
     λ i. record {
       version = demo.version i;
+      iso = demo.iso i;
       families = demo.families i;
       kinds = map plain_kind (demo.kinds i);
       depends = demo.depends i;

@@ -22,7 +22,8 @@ use Rattle.flu_model.specs.declared.jobs.Kind.{Kind}
 use Rattle.flu_model.specs.declared.jobs.Source.{Source}
 use Rattle.flu_model.specs.Listing.{tags_of_source, itags_of_sources}
 use Rattle.flu_model.specs.Rules.{is_same_text, are_distinct, is_version}
-use Rattle.flu_model.specs.Versions.{is_named_item}
+use Rattle.flu_model.specs.Texts.{Unit as TimeUnit}
+use Rattle.flu_model.specs.Versions.{is_named_item, iso_fits}
 use Rattle.flu_names.specs.Names.{is_name}
 use Rattle.flu_model.specs.Erasure.{PlainAction, PlainKind, Job, plain_kind}
 use Rattle.flu_rules.specs.Kept.{KeepsRules}
@@ -32,6 +33,8 @@ use Rattle.flu_text.specs.Reading.{reading, Reading}
 use Rattle.flu_text.specs.declared.written.WrittenSpan.{WrittenSpan}
 use Rattle.flu_text.specs.declared.written.WrittenNumber.{WrittenNumber}
 use Rattle.flu_syntax.specs.declared.tree.WrittenTag.{WrittenTag}
+use Rattle.flu_syntax.specs.declared.tree.WrittenUnit.{WrittenUnit}
+use Rattle.flu_syntax.specs.declared.tree.WrittenHead.{WrittenHead}
 use Rattle.flu_syntax.specs.declared.tree.WrittenRelation.{WrittenRelation}
 use Rattle.flu_syntax.specs.declared.tree.WrittenRelation.TheVariants as r
 use Rattle.flu_syntax.specs.Tree.{Action, Declaration}
@@ -41,7 +44,7 @@ use Rattle.flu_syntax.specs.Machine.{Found as IsFound}
 use Rattle.flu_syntax.specs.Grammar.{IsDeclaration, AreDeclarations}
 use Rattle.flu_syntax.specs.Laws.{FoundIsJob, WordsStand}
 use Rattle.flu_text.specs.Signs.{Stands}
-use Rattle.flu_syntax.specs.Words.{action_words, number_words, declaration_words}
+use Rattle.flu_syntax.specs.Words.{action_words, head_words, declaration_words}
 use Rattle.flu_layout.specs.Spelling.{name_of, written_value}
 use Rattle.flu_layout.specs.Stands.{AreRead}
 use Rattle.flu_layout.specs.Laws.{ReadMayBePrinted}
@@ -52,7 +55,7 @@ use Rattle.flu_parse.specs.Naming.{Naming, in_version, is_version_3, family, nam
 use Rattle.flu_parse.specs.Actions.{resolved_actions}
 use Rattle.flu_parse.specs.Listings.{Listed, tags_of, rate_of, slack_of, file_of}
 use Rattle.flu_parse.specs.Resolving.{Drafted, same_of, with_depend, with_actions, with_on, with_source, cell_name_fits, item_word_fits, with_declaration}
-use Rattle.flu_parse.specs.Resolving.{idle_kind, first_draft, draft_of, version_of, job_with, resolved}
+use Rattle.flu_parse.specs.Resolving.{idle_kind, first_draft, draft_of, version_of, unit_named, found_unit, unit_of, iso_of, job_with, resolved}
 use Rattle.flu_parse.specs.Reading.{text_in, found_tokens, tokens_in, found_job, written_in, job_in}
 use Rattle.flu_parse.specs.Laws.{JobsKeepRules}
 use Rattle.flu_parse.proofs.Distinct.{distinct_with}
@@ -483,10 +486,10 @@ module _ (text : List ℕ) (n : Naming) where
         (ap (λ b. not (newer && b)) names ∙ ap not (none_called_item ds all))
 
     -- the whole job
-    rules_kept : (ds : List Declaration) (d : Drafted) (kinds : List Kind) → is_version n.version ≡ true → Names ds
-        → AllByRecursion IsWell ds
-        → draft_of text n ds ≡ Ok d → map plain_kind kinds ≡ d.kinds → KeepsRules n.version (map family n.families) kinds d.depends d.sources
-    rules_kept ds d kinds known named well e same =
+    rules_kept : (ds : List Declaration) (d : Drafted) (kinds : List Kind) (iso : Option TimeUnit) → is_version n.version ≡ true
+        → iso_fits n.version iso ≡ true → Names ds → AllByRecursion IsWell ds
+        → draft_of text n ds ≡ Ok d → map plain_kind kinds ≡ d.kinds → KeepsRules n.version iso (map family n.families) kinds d.depends d.sources
+    rules_kept ds d kinds iso known unit named well e same =
         let kept = draft_kept ds d well e in
         let heads : map (λ (k : Kind). head (plain_kind k)) kinds ≡ map declared_head n.kinds = sym (map-map head plain_kind kinds) ∙ ap (map head) same
         ∙ kept.heads in
@@ -505,6 +508,7 @@ module _ (text : List ℕ) (n : Naming) where
         let sources_count = ap length source_names_are in
         record {
           known_version = known;
+          known_iso = unit;
           few_families = omega (arith, keep.few_families, length-map n.families family);
           few_kinds = omega (arith, keep.few_kinds, many, length-map kinds (λ (k : Kind). head (plain_kind k)), length-map n.kinds declared_head);
           few_depends = omega (arith, keep.few_depends, depends_count, names_count);
@@ -536,12 +540,26 @@ job_found (IsFound ds) written e = cc
 job_found (Unexpected at) written e = absurd cc
 job_found TooDeep written e = absurd cc
 
-number_kept : (written : Option WrittenNumber) (version : ℕ) → version_of written ≡ Ok version → is_version version ≡ true
+number_kept : (written : Option WrittenHead) (version : ℕ) → version_of written ≡ Ok version → is_version version ≡ true
 number_kept None version e = let same : 1 ≡ version = cc in ap is_version (sym same)
-number_kept (Some v) version e =
-    let h = passed (is_version (written_value v.value)) (f.WrongShape v.at) (Ok (written_value v.value)) version e in
-    let same : written_value v.value ≡ version = cc in
+number_kept (Some head) version e =
+    let value = written_value head.version.value in
+    let h = passed (is_version value) (f.WrongShape head.version.at) (Ok value) version e in
+    let same : value ≡ version = cc in
     ap is_version (sym same) ∙ h.0
+
+-- a unit is found in version 3 alone
+unit_kept : (text : List ℕ) (version : ℕ) (written : Option WrittenUnit) (iso : Option TimeUnit) → unit_of text version written ≡ Ok iso
+    → iso_fits version iso ≡ true
+unit_kept text version None iso e = let same : None ≡ iso = cc in ap (iso_fits version) (sym same)
+unit_kept text version (Some unit) None e = refl
+unit_kept text version (Some unit) (Some iso) e =
+    (passed (version == 3) (f.WrongShape unit.at) (found_unit unit.name.from (unit_named (name_of text unit.name))) (Some iso) e).0
+
+iso_kept : (text : List ℕ) (version : ℕ) (written : Option WrittenHead) (iso : Option TimeUnit) → iso_of text version written ≡ Ok iso
+    → iso_fits version iso ≡ true
+iso_kept text version None iso e = let same : None ≡ iso = cc in ap (iso_fits version) (sym same)
+iso_kept text version (Some head) iso e = unit_kept text version head.iso iso e
 
 -- names are names in each version
 keep_in_version : (n : Naming) (version : ℕ) → NamesKeep n → NamesKeep (in_version n version)
@@ -565,20 +583,22 @@ module _ (text : List ℕ) (ts : List Token) (read : AreRead text ts) (meet : Ta
 
   resolved_kept : (written : tree.Job) (job : Job) → AllByRecursion (λ w. AllByRecursion (Stands ts) (declaration_words w)) written.declarations
       → AreDeclarations 64 written.declarations → resolved text written ≡ Ok job
-      → (kinds : List Kind) → map plain_kind kinds ≡ job.kinds → KeepsRules job.version job.families kinds job.depends job.sources
+      → (kinds : List Kind) → map plain_kind kinds ≡ job.kinds → KeepsRules job.version job.iso job.families kinds job.depends job.sources
   unfolding resolved
   resolved_kept written job words are e kinds same =
       let ds = written.declarations in
       let one = bind_ok (naming_of text ds) _ job e in
-      let two = bind_ok (version_of written.version) _ job one.2 in
+      let two = bind_ok (version_of written.head) _ job one.2 in
+      let unit = bind_ok (iso_of text two.0 written.head) _ job two.2 in
       let n : Naming = in_version one.0 two.0 in
-      let three = bind_ok (draft_of text n ds) (λ d. Ok (job_with n d)) job two.2 in
-      let is : job_with n three.0 ≡ job = cc in
+      let three = bind_ok (draft_of text n ds) (λ d. Ok (job_with unit.0 n d)) job unit.2 in
+      let is : job_with unit.0 n three.0 ≡ job = cc in
       let keep = keep_in_version one.0 two.0 (names_kept text ts read ds one.0 words one.1) in
       let there : map plain_kind kinds ≡ three.0.kinds = same ∙ ap (λ (j : Job). j.kinds) (sym is) in
-      let known = number_kept written.version two.0 two.1 in
-      subst (λ (j : Job). KeepsRules j.version j.families kinds j.depends j.sources) is
-      (rules_kept text n ts read keep meet differ ds three.0 kinds known (record {
+      let known = number_kept written.head two.0 two.1 in
+      let fits = iso_kept text two.0 written.head unit.0 unit.1 in
+      subst (λ (j : Job). KeepsRules j.version j.iso j.families kinds j.depends j.sources) is
+      (rules_kept text n ts read keep meet differ ds three.0 kinds unit.0 known fits (record {
         depends = naming_counts text ds one.0 one.1;
         sources = naming_lists text ds one.0 one.1;
         families = naming_families text ds one.0 one.1;
@@ -597,6 +617,6 @@ jobs_kept readable found_is words_stand meet differ bytes job e kinds same =
     let utf8 = utf8_text bytes text one.1 in
     let is = (found_is (length text) ts three.0).0 (job_found (verdict (length text) ts) three.0 three.1) in
     let ds = three.0.declarations in
-    let words = all_back (Stands ts) (number_words three.0.version) (flat_map declaration_words ds) (words_stand ts three.0 is) in
+    let words = all_back (Stands ts) (head_words three.0.head) (flat_map declaration_words ds) (words_stand ts three.0 is) in
     let read : AreRead text ts = readable text ts utf8 (tokens_found (reading text) ts two.1) in
     resolved_kept text ts read meet differ three.0 job (all_of_each (Stands ts) declaration_words ds words) is.grammar three.2 kinds same

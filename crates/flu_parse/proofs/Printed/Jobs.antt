@@ -1,7 +1,7 @@
 -- The normal form of a job is read as that job.
 use Rattle.std.proofs.Common.{◌≡◌, ◌≤◌, ◌+◌, ℕ, pos, Bool, true, false, Option, None, List, [], ◌∷◌, ◌++◌, map, length, Some, Ok, refl, sym, ap, subst, ◌∙◌}
 use Rattle.std.proofs.Common.{append_assoc, arith}
-use Rattle.std.specs.Prelude.{◌==◌, ◌&&◌, ◌||◌, not, slice_get, if◌then◌else◌}
+use Rattle.std.specs.Prelude.{◌==◌, ◌&&◌, ◌||◌, not, slice_get, if◌then◌else◌, codes}
 use Rattle.std.specs.List.{list_all, list_any}
 use Rattle.std.specs.Str.{IsUtf8}
 use Rattle.std.proofs.lemmas.List.Concat.{flat_map-append}
@@ -18,14 +18,21 @@ use Rattle.flu_model.specs.declared.jobs.Family.{Family}
 use Rattle.flu_model.specs.declared.jobs.Source.{Source}
 use Rattle.flu_model.specs.Erasure.{PlainKind, Job}
 use Rattle.flu_model.specs.Rules.{is_same_text, are_distinct}
-use Rattle.flu_model.specs.Versions.{is_named_item}
+use Rattle.flu_model.specs.Texts.{Unit as TimeUnit}
+use Rattle.flu_calendar.specs.declared.unit.Unit.TheVariants.{Seconds, Milliseconds, Microseconds}
+use Rattle.flu_model.specs.Versions.{is_named_item, iso_fits}
 use Rattle.flu_names.specs.declared.reserved.Reserved.TheVariants as r
 use Rattle.flu_rules.specs.Keys.{TagsMeet, TagsDiffer}
 use Rattle.flu_text.specs.declared.written.WrittenNumber.{WrittenNumber}
+use Rattle.flu_syntax.specs.declared.tree.WrittenUnit.{WrittenUnit}
+use Rattle.flu_syntax.specs.declared.tree.WrittenHead.{WrittenHead}
 use Rattle.flu_syntax.specs.Tree.{Declaration, Job as WrittenJob}
 use Rattle.flu_syntax.specs.Machine.{Verdict}
-use Rattle.flu_text.specs.Signs.{IsSign}
-use Rattle.flu_syntax.specs.Grammar.{declaration_signs, declarations_signs, version_signs, job_signs, IsJob}
+use Rattle.flu_text.specs.declared.words.Word.TheVariants as w
+use Rattle.flu_text.specs.declared.words.Contextual.TheVariants as contextual
+use Rattle.flu_text.specs.Spelling.{contextual_of}
+use Rattle.flu_text.specs.Signs.{At, IsSign, is_name_word, span_of}
+use Rattle.flu_syntax.specs.Grammar.{declaration_signs, declarations_signs, iso_signs, head_signs, job_signs, IsJob}
 use Rattle.flu_syntax.specs.Laws.{FoundIsJob}
 use Rattle.flu_names.specs.Names.{is_name}
 use Rattle.flu_layout.specs.Laid.{blank, line_end, reserved, number}
@@ -34,14 +41,15 @@ use Rattle.flu_layout.specs.Laws.{LaidIsRead, BegunAreSigns, KeysAreSpelled, Key
 use Rattle.flu_parse.specs.declared.faults.JobFault.TheVariants as f
 use Rattle.flu_parse.specs.Faults.{Found, ◌>>=◌, ◌>>◌, unless, each}
 use Rattle.flu_parse.specs.Naming.{Naming, in_version, family, no_names, naming_of}
-use Rattle.flu_parse.specs.Resolving.{Drafted, with_declaration, idle_kind, draft_of, version_of, job_with as draft_with, resolved}
+use Rattle.flu_parse.specs.Resolving.{Drafted, with_declaration, idle_kind, draft_of, version_of, unit_named, found_unit, unit_of, iso_of, job_with as draft_with}
+use Rattle.flu_parse.specs.Resolving.{resolved}
 use Rattle.flu_parse.specs.Reading.{text_in, found_tokens, tokens_in, found_job, written_in, job_in}
-use Rattle.flu_parse.specs.Printing.{normal_form}
+use Rattle.flu_parse.specs.Printing.{unit_name, normal_form}
 use Rattle.flu_parse.proofs.Distinct.{distinct_front, distinct_back}
 use Rattle.flu_parse.proofs.ReadingLemmas.{text_in-utf8}
 use Rattle.flu_parse.proofs.Kept.Versions.{items_suit, actions_suit}
 use Rattle.flu_parse.proofs.Printed.Rules.{plain_depend_fits, plain_source_fits, names_of_job, JobFits}
-use Rattle.flu_parse.proofs.Printed.Words.{version_words, cell_line_words, tag_line_words, depends_line_words, source_line_words, job_words, job_layout}
+use Rattle.flu_parse.proofs.Printed.Words.{iso_words, version_words, cell_line_words, tag_line_words, depends_line_words, source_line_words, job_words, job_layout}
 use Rattle.flu_parse.proofs.Printed.LaidLines.{names_of_kinds, job_laid}
 use Rattle.flu_parse.proofs.Printed.ReadTerms.{family_head, FamiliesKnown}
 use Rattle.flu_parse.proofs.Printed.ReadTags.{kind_head, KindsKnown}
@@ -141,39 +149,98 @@ module _ (begun : BegunAreSigns) (meet : TagsMeet) (differ : TagsDiffer) (job : 
 
   -- the tokens are these declarations
   record IsRead (ts : List Token) : Type 0 where
-    version : Option WrittenNumber
+    head : Option WrittenHead
     parts : Parts
-    version_is : version_of version ≡ Ok job.version
-    is : IsJob ts (record { version = version; declarations = all_parts parts })
+    version_is : version_of head ≡ Ok job.version
+    iso_is : iso_of whole job.version head ≡ Ok job.iso
+    is : IsJob ts (record { head = head; declarations = all_parts parts })
 
-  -- the version, as it is read
-  record VersionIs (rest : List Laid) (ts : List Token) : Type 0 where
-    written : Option WrittenNumber
-    took : Took IsSign (Stand whole) (version_signs written) rest ts
-    is : version_of written ≡ Ok job.version
+  -- the unit behind the number of version 3, as it is read
+  record UnitIs (iso : Option TimeUnit) (rest : List Laid) (ts : List Token) : Type 0 where
+    at : ℕ
+    written : Option WrittenUnit
+    took : Took IsSign (Stand whole) (At (w.Number (pos 3)) at ∷ iso_signs written) rest ts
+    is : unit_of whole 3 written ≡ Ok iso
 
-  read_version : (rest : List Laid) (ts : List Token) → Stand whole (version_words job.version rest) ts → VersionIs rest ts
-  read_version rest ts h = by (job.version == 2) (job.version == 3) refl refl h
+  iso_spelled : w.Name (contextual_of (codes "iso")) ≡ w.Name contextual.Iso
+  unfolding contextual_of
+  iso_spelled = refl
+
+  unit_said : (unit : TimeUnit) (at : ℕ) → found_unit at (unit_named (unit_name unit)) ≡ Ok (Some unit)
+  unit_said Seconds at = refl
+  unit_said Milliseconds at = refl
+  unit_said Microseconds at = refl
+
+  read_unit : (iso : Option TimeUnit) (rest : List Laid) (ts : List Token) → Stand whole (iso_words iso rest) ts → UnitIs iso rest ts
+  read_unit None rest ts h = record {
+    at = h.0.from;
+    written = None;
+    took = record { rest = h.1; begins = (h.0, h.1, h.2, (h.3.word, refl), refl); stand = h.4 };
+    is = refl;
+  }
+  read_unit (Some unit) rest ts h =
+      let word = h.4 in
+      let n = word.4 in
+      let written : WrittenUnit = record { at = word.0.from; name = span_of n.0 } in
+      record {
+        at = h.0.from;
+        written = Some written;
+        took = record {
+          rest = n.1;
+          begins = (
+            h.0,
+            h.1,
+            h.2,
+            (h.3.word, refl),
+            (word.0, word.1, word.2, (word.3.word ∙ iso_spelled, refl), (n.0, n.1, n.2, (ap is_name_word n.3.word, refl, refl), refl)),
+          );
+          stand = n.4;
+        };
+        is = ap (λ name. found_unit n.0.from (unit_named name)) (n.3.named refl) ∙ unit_said unit n.0.from;
+      }
+
+  -- the head, as it is read
+  record HeadIs (rest : List Laid) (ts : List Token) : Type 0 where
+    written : Option WrittenHead
+    took : Took IsSign (Stand whole) (head_signs written) rest ts
+    version_is : version_of written ≡ Ok job.version
+    iso_is : iso_of whole job.version written ≡ Ok job.iso
+
+  -- only version 3 has a unit
+  no_unit : (iso : Option TimeUnit) → iso_fits job.version iso ≡ true → (job.version == 3) ≡ false → iso ≡ None
+  no_unit None fits older = refl
+  no_unit (Some unit) fits older = absurd (let both : true ≡ false = sym fits ∙ older in cc)
+
+  read_head : (rest : List Laid) (ts : List Token) → Stand whole (version_words job.version job.iso rest) ts → HeadIs rest ts
+  read_head rest ts h = by (job.version == 2) (job.version == 3) refl refl h
     where
       by : (two three : Bool) → (job.version == 2) ≡ two → (job.version == 3) ≡ three
           → Stand whole (if two then reserved r.Version blank ∷ number (pos 2) line_end ∷ rest
-          else if three then reserved r.Version blank ∷ number (pos 3) line_end ∷ rest else rest) ts
-          → VersionIs rest ts
-      by true three e g h = record {
-        written = Some (record { value = pos 2; at = h.4.0.from });
-        took = record { rest = h.4.1; begins = (h.0, h.1, h.2, h.3.word, (h.4.0, h.4.1, h.4.2, (h.4.3.word, refl), refl)); stand = h.4.4 };
-        is = ap Ok (sym (true_eq job.version 2 e));
-      }
-      by false true e g h = record {
-        written = Some (record { value = pos 3; at = h.4.0.from });
-        took = record { rest = h.4.1; begins = (h.0, h.1, h.2, h.3.word, (h.4.0, h.4.1, h.4.2, (h.4.3.word, refl), refl)); stand = h.4.4 };
-        is = ap Ok (sym (true_eq job.version 3 g));
-      }
+          else if three then reserved r.Version blank ∷ iso_words job.iso rest else rest) ts
+          → HeadIs rest ts
+      by true three e g h =
+          let two = true_eq job.version 2 e in
+          record {
+            written = Some (record { version = record { value = pos 2; at = h.4.0.from }; iso = None });
+            took = record { rest = h.4.1; begins = (h.0, h.1, h.2, h.3.word, (h.4.0, h.4.1, h.4.2, (h.4.3.word, refl), refl)); stand = h.4.4 };
+            version_is = ap Ok (sym two);
+            iso_is = ap Ok (sym (no_unit job.iso fits.known_iso (ap (λ v. v == 3) two)));
+          }
+      by false true e g h =
+          let unit = read_unit job.iso rest h.1 h.4 in
+          let three = true_eq job.version 3 g in
+          record {
+            written = Some (record { version = record { value = pos 3; at = unit.at }; iso = unit.written });
+            took = record { rest = unit.took.rest; begins = (h.0, h.1, h.2, h.3.word, unit.took.begins); stand = unit.took.stand };
+            version_is = ap Ok (sym three);
+            iso_is = ap (λ v. unit_of whole v unit.written) three ∙ unit.is;
+          }
       by false false e g h = record {
         written = None;
         took = took_none IsSign (Stand whole) rest ts h;
-        is = ap Ok (sym (true_eq job.version 1 (or_front (job.version == 1) (job.version == 2)
+        version_is = ap Ok (sym (true_eq job.version 1 (or_front (job.version == 1) (job.version == 2)
             (or_front ((job.version == 1) || (job.version == 2)) (job.version == 3) fits.known_version g) e)));
+        iso_is = ap Ok (sym (no_unit job.iso fits.known_iso g));
       }
 
   begin_more : (a b : List Declaration) (ts more rest : List Token) → Begins IsSign (declarations_signs a) ts more
@@ -184,10 +251,10 @@ module _ (begun : BegunAreSigns) (meet : TagsMeet) (differ : TagsDiffer) (job : 
   read_parts : (ts : List Token) → Stand whole (job_words job) ts → IsRead ts
   unfolding n
   read_parts tokens h =
-      let version = read_version _ tokens h in
-      let ts = version.took.rest in
+      let head = read_head _ tokens h in
+      let ts = head.took.rest in
       let cells = read_lines whole cell_line_words (CellIs whole utf8) (λ (g : Family). is_name g.name)
-      (read_cell_line whole utf8) job.families _ ts fits.families version.took.stand in
+      (read_cell_line whole utf8) job.families _ ts fits.families head.took.stand in
       let tags = read_lines whole tag_line_words (TagIs whole utf8) (λ (k : PlainKind). is_name k.name)
       (read_tag_line whole utf8) job.kinds _ cells.took.rest named_kinds cells.took.stand in
       let deps = read_lines whole (depends_line_words job.kinds) (DependsIs whole utf8 job.kinds named_kinds n known_kinds) (plain_depend_fits job.kinds)
@@ -214,13 +281,14 @@ module _ (begun : BegunAreSigns) (meet : TagsMeet) (differ : TagsDiffer) (job : 
       (deps.written ++ (ons.written ++ (sources.written ++ []))) cells.took.rest tags.took.rest sources.took.rest tags.took.begins third in
       let first = begin_more cells.written
       (tags.written ++ (deps.written ++ (ons.written ++ (sources.written ++ [])))) ts cells.took.rest sources.took.rest cells.took.begins second in
-      let written : WrittenJob = record { version = version.written; declarations = all_parts p } in
-      let whole_job = begins_append IsSign (version_signs version.written)
-      (declarations_signs (all_parts p)) tokens ts sources.took.rest version.took.begins first in
+      let written : WrittenJob = record { head = head.written; declarations = all_parts p } in
+      let whole_job = begins_append IsSign (head_signs head.written)
+      (declarations_signs (all_parts p)) tokens ts sources.took.rest head.took.begins first in
       record {
-        version = version.written;
+        head = head.written;
         parts = p;
-        version_is = version.is;
+        version_is = head.version_is;
+        iso_is = head.iso_is;
         is = record {
           grammar =
               declarations-append cells.written _ cells.are (declarations-append tags.written _ tags.are (declarations-append deps.written _ deps.are
@@ -298,17 +366,19 @@ module _ (begun : BegunAreSigns) (meet : TagsMeet) (differ : TagsDiffer) (job : 
             p.are_sources refl fits.sources fits.own_files few,
       )
 
-  resolved_is : (p : Parts) (version : Option WrittenNumber) → version_of version ≡ Ok job.version
-      → resolved whole (record { version = version; declarations = all_parts p }) ≡ Ok job
+  resolved_is : (p : Parts) (head : Option WrittenHead) → version_of head ≡ Ok job.version → iso_of whole job.version head ≡ Ok job.iso
+      → resolved whole (record { head = head; declarations = all_parts p }) ≡ Ok job
   unfolding n resolved
-  resolved_is p version known =
+  resolved_is p head known unit =
       let d = drafted p in
       let names : Naming = naming_of_job job in
-      ap (λ (r : Found Naming). r >>= λ m. version_of version >>= λ v. draft_of whole (in_version m v) (all_parts p) >>=
-      λ d. Ok (draft_with (in_version m v) d)) (named p)
-      ∙ ap (λ (r : Found ℕ). r >>= λ v. draft_of whole (in_version names v) (all_parts p) >>= λ d. Ok (draft_with (in_version names v) d)) known
-      ∙ ap (λ (r : Found Drafted). r >>= λ d. Ok (draft_with n d)) d.2
-      ∙ ap (λ fs. Ok (let j : Job = record { version = job.version; families = fs; kinds = job.kinds; depends = job.depends; sources = job.sources } in j))
+      ap (λ (r : Found Naming). r >>= λ m. version_of head >>= λ v. iso_of whole v head >>= λ iso. draft_of whole (in_version m v) (all_parts p) >>=
+      λ d. Ok (draft_with iso (in_version m v) d)) (named p)
+      ∙ ap (λ (r : Found ℕ). r >>= λ v. iso_of whole v head >>= λ iso. draft_of whole (in_version names v) (all_parts p) >>=
+      λ d. Ok (draft_with iso (in_version names v) d)) known
+      ∙ ap (λ (r : Found (Option TimeUnit)). r >>= λ iso. draft_of whole n (all_parts p) >>= λ d. Ok (draft_with iso n d)) unit
+      ∙ ap (λ (r : Found Drafted). r >>= λ d. Ok (draft_with job.iso n d)) d.2
+      ∙ ap (λ fs. Ok (let j : Job = record { version = job.version; iso = job.iso; families = fs; kinds = job.kinds; depends = job.depends; sources = job.sources } in j))
       (families_back 0 job.families)
 
 -- the words of the normal form are read as the job
@@ -320,13 +390,13 @@ laid_is_read read begun keys found meet differ job fits utf8 few =
     let ts : List Token = tokens_of 0 (job_words job) in
     let reads = read (job_words job) (job_laid keys job fits) utf8 in
     let parts = read_parts begun meet differ job fits whole utf8 ts reads.1 in
-    let written : WrittenJob = record { version = parts.version; declarations = all_parts begun meet differ job fits whole utf8 parts.parts } in
+    let written : WrittenJob = record { head = parts.head; declarations = all_parts begun meet differ job fits whole utf8 parts.parts } in
     let rest : List ℕ → Found Job = λ text. tokens_in text >>= λ ts. written_in (length text) ts >>= λ written. resolved text written in
     ap (λ b. unless b (f.OverLimit Bytes 1048577) >> (text_in whole >>= rest)) (le_true (length whole) 1048576 few)
     ∙ ap (λ (r : Found (List ℕ)). r >>= rest) (text_in-utf8 whole whole refl utf8)
     ∙ ap (λ (r : TokenReading). found_tokens r >>= λ ts. written_in (length whole) ts >>= λ written. resolved whole written) reads.0
     ∙ ap (λ (v : Verdict WrittenJob). found_job v >>= λ written. resolved whole written) ((found (length whole) ts written).1 parts.is)
-    ∙ resolved_is begun meet differ job fits whole utf8 parts.parts parts.version parts.version_is
+    ∙ resolved_is begun meet differ job fits whole utf8 parts.parts parts.head parts.version_is parts.iso_is
 
 pub job_is_read : LaidIsRead → BegunAreSigns → KeysAreSpelled → KeysAreLaid → FoundIsJob → TagsMeet → TagsDiffer → (job : Job) → JobFits job
     → IsUtf8 (normal_form job)

@@ -1,7 +1,7 @@
 -- The laying out of declarations, and of a whole job.
 use Rattle.std.proofs.Common.{◌≡◌, ◌<◌, ◌≤◌, ◌^◌, ℕ, zero, suc, pos, Bool, true, false, ◌&&◌, ◌||◌, List, [], ◌∷◌, length, Option, Some, None, refl, ap, ◌∙◌}
 use Rattle.std.proofs.Common.{arith}
-use Rattle.std.specs.Prelude.{nat_le, nat_lt, not, ◌==◌, if◌then◌else◌, slice_get}
+use Rattle.std.specs.Prelude.{nat_le, nat_lt, not, ◌==◌, if◌then◌else◌, slice_get, codes}
 use Rattle.std.specs.List.{list_all}
 use Rattle.flu_lemmas.proofs.Booleans.{three_left, three_middle, three_right}
 use Rattle.flu_lemmas.proofs.Elements.{list_all_weaker, passes_at}
@@ -19,6 +19,8 @@ use Rattle.flu_model.specs.declared.jobs.Keys.TheVariants as keys
 use Rattle.flu_model.specs.declared.jobs.TagRef.{TagRef}
 use Rattle.flu_model.specs.declared.jobs.Source.{Source}
 use Rattle.flu_model.specs.Contents.{key_count}
+use Rattle.flu_model.specs.Texts.{Unit}
+use Rattle.flu_calendar.specs.declared.unit.Unit.TheVariants.{Seconds, Milliseconds, Microseconds}
 use Rattle.flu_model.specs.Listing.{tags_of_source}
 use Rattle.flu_model.specs.Erasure.{PlainAction, PlainKind, Job}
 use Rattle.flu_model.specs.PlanRules.{are_small_keys}
@@ -27,10 +29,10 @@ use Rattle.flu_layout.specs.Laid.{blank, line_end, reserved, name, number, EndsN
 use Rattle.flu_layout.specs.Laid.{laid_text, laid_mark, laid_spaced, Follows}
 use Rattle.flu_layout.specs.Lists.{between, behind_kind, keys_words}
 use Rattle.flu_layout.specs.Laws.{KeysAreLaid}
-use Rattle.flu_parse.specs.Printing.{kind_name}
+use Rattle.flu_parse.specs.Printing.{kind_name, unit_name}
 use Rattle.flu_parse.proofs.Kept.Plain.{plain_action_fits, plain_kind_fits}
 use Rattle.flu_parse.proofs.Printed.Rules.{plain_kind_is_keyed, plain_depend_fits, plain_listed_fits, plain_tag_fits, plain_source_fits, JobFits}
-use Rattle.flu_parse.proofs.Printed.Words.{action_words, version_words, keyed_words, sort_reserved, cell_line_words, item_words, value_reserved}
+use Rattle.flu_parse.proofs.Printed.Words.{action_words, iso_words, version_words, keyed_words, sort_reserved, cell_line_words, item_words, value_reserved}
 use Rattle.flu_parse.proofs.Printed.Words.{tag_line_words, behind_depends, same_words, depends_line_words, actions_words, on_line_words, tag_words}
 use Rattle.flu_parse.proofs.Printed.Words.{listed_words, behind_rate, slack_words, source_line_words, job_words}
 use Rattle.flu_parse.proofs.Printed.LaidActions.{laid_action}
@@ -236,13 +238,24 @@ names_of_kinds families kinds h =
     (λ (k : PlainKind) fits. three_left (is_name k.name) (nat_le (length k.actions) 32)
     (list_all (plain_action_fits families k.keyed k.has_value) k.actions) fits) h
 
-laid_version : (version : ℕ) (rest : List Laid) → AreLaid rest → AreLaid (version_words version rest)
-laid_version version rest laid = by (version == 2) (version == 3)
+unit_is_name : (unit : Unit) → is_name (unit_name unit) ≡ true
+unit_is_name Seconds = refl
+unit_is_name Milliseconds = refl
+unit_is_name Microseconds = refl
+
+laid_iso : (iso : Option Unit) (rest : List Laid) → AreLaid rest → AreLaid (iso_words iso rest)
+laid_iso None rest laid = laid_number (pos 3) line_end rest refl refl refl laid
+laid_iso (Some unit) rest laid =
+    laid_number (pos 3) blank _ refl refl refl
+    (laid_name (codes "iso") blank _ refl refl refl (laid_name (unit_name unit) line_end rest (unit_is_name unit) refl refl laid))
+
+laid_version : (version : ℕ) (iso : Option Unit) (rest : List Laid) → AreLaid rest → AreLaid (version_words version iso rest)
+laid_version version iso rest laid = by (version == 2) (version == 3)
   where
     by : (two three : Bool) → AreLaid (if two then reserved r.Version blank ∷ number (pos 2) line_end ∷ rest
-        else if three then reserved r.Version blank ∷ number (pos 3) line_end ∷ rest else rest)
+        else if three then reserved r.Version blank ∷ iso_words iso rest else rest)
     by true three = laid_reserved r.Version blank _ refl refl (laid_number (pos 2) line_end rest refl refl refl laid)
-    by false true = laid_reserved r.Version blank _ refl refl (laid_number (pos 3) line_end rest refl refl refl laid)
+    by false true = laid_reserved r.Version blank _ refl refl (laid_iso iso rest laid)
     by false false = laid
 
 -- the words of the normal form are laid out
@@ -256,4 +269,4 @@ job_laid laid_keys job fits =
     let depends = lines_hold (depends_line_words job.kinds) (plain_depend_fits job.kinds) AreLaid
     (laid_depends_line job.kinds named) job.depends _ fits.depends ons in
     let tags = lines_hold tag_line_words (plain_kind_fits job.families) AreLaid (laid_tag_line job.families fits.families) job.kinds _ fits.kinds depends in
-    laid_version job.version _ (lines_hold cell_line_words (λ (f : Family). is_name f.name) AreLaid laid_cell_line job.families _ fits.families tags)
+    laid_version job.version job.iso _ (lines_hold cell_line_words (λ (f : Family). is_name f.name) AreLaid laid_cell_line job.families _ fits.families tags)

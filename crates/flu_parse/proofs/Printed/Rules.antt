@@ -13,6 +13,8 @@ use Rattle.flu_model.specs.Erasure.{PlainKind, plain_kind, Job}
 use Rattle.flu_model.specs.Rules.{is_version, is_same_text, are_distinct, kind_is_keyed, depend_fits, keys_fit, listed_kind_fits, tag_ref_fits, is_file_text}
 use Rattle.flu_model.specs.Rules.{is_same_tag, source_fits}
 use Rattle.flu_model.specs.Listing.{tags_of_source, itags_of_sources}
+use Rattle.flu_model.specs.Texts.{Unit}
+use Rattle.flu_model.specs.Versions.{iso_fits}
 use Rattle.flu_rules.specs.Kept.{KeepsRules}
 use Rattle.flu_parse.specs.Laws.{job_with}
 use Rattle.flu_names.specs.Names.{is_name}
@@ -47,6 +49,7 @@ names_of_job job = map (λ (f : Family). f.name) job.families ++ map (λ (k : Pl
 -- the rules of a job
 pub record JobFits (job : Job) : Type 0 where
   pub known_version : is_version job.version ≡ true
+  pub known_iso : iso_fits job.version job.iso ≡ true
   pub few_families : length job.families ≤ 64
   pub few_kinds : length job.kinds ≤ 64
   pub few_depends : length job.depends ≤ 4096
@@ -90,10 +93,11 @@ same_names [] = refl
 same_names (k ∷ kinds) = ap (λ ns. k.name ∷ ns) (same_names kinds)
 
 -- what keeps the rules keeps them as plain data
-pub job_fits : (version : ℕ) (families : List Family) (kinds : List Kind) (depends : List Depend) (sources : List Source)
-    → KeepsRules version families kinds depends sources → JobFits (job_with version families kinds depends sources)
-job_fits version families kinds depends sources kept = record {
+pub job_fits : (version : ℕ) (iso : Option Unit) (families : List Family) (kinds : List Kind) (depends : List Depend) (sources : List Source)
+    → KeepsRules version iso families kinds depends sources → JobFits (job_with version iso families kinds depends sources)
+job_fits version iso families kinds depends sources kept = record {
   known_version = kept.known_version;
+  known_iso = kept.known_iso;
   few_families = kept.few_families;
   few_kinds = rw (length-map kinds plain_kind) kept.few_kinds;
   few_depends = kept.few_depends;

@@ -23,12 +23,13 @@ use Rattle.flu_model.specs.declared.jobs.TagRef.{TagRef}
 use Rattle.flu_model.specs.declared.jobs.Source.{Source}
 use Rattle.flu_model.specs.Erasure.{Term, Literal, EventValue, EventKey, EventItem, EventTime, CellRead, CellHeld, Negative, Negation, Operation, Adding}
 use Rattle.flu_model.specs.Erasure.{Raising, Setting, Clearing, ClearingFamily, Emitting, Flushing, PlainAction, PlainKind, Job, PlainAct}
+use Rattle.flu_model.specs.Texts.{Unit}
 use Rattle.flu_model.specs.Templates.{family_name, written_key, written_cell, written_template}
 use Rattle.flu_syntax.specs.Grammar.{op_word}
 use Rattle.flu_layout.specs.Laid.{blank, line_end, quoted, reserved, mark, name, item, text, number}
 use Rattle.flu_layout.specs.Lists.{separated, between, items_words, keys_text, behind_kind, keys_words}
 use Rattle.flu_layout.specs.Laws.{KeysAreSpelled}
-use Rattle.flu_parse.specs.Printing.{op_text, term_text, act_text, guard_text, action_text, version_line, keyed_text, sort_text, cell_line, item_text}
+use Rattle.flu_parse.specs.Printing.{op_text, term_text, act_text, guard_text, action_text, unit_name, iso_text, version_line, keyed_text, sort_text, cell_line, item_text}
 use Rattle.flu_parse.specs.Printing.{value_text, tag_line, kind_name, same_text, depends_line, actions_line, on_line, tag_text, slack_text, source_line}
 use Rattle.flu_parse.specs.Printing.{normal_form}
 
@@ -167,21 +168,34 @@ action_layout families a behind rest =
 
 -- ---- declarations
 
+-- the number of version 3, and the unit of the times
+abbrev pub iso_words : Option Unit → List Laid → List Laid
+iso_words None rest = number (pos 3) line_end ∷ rest
+iso_words (Some unit) rest = number (pos 3) blank ∷ name (codes "iso") blank ∷ name (unit_name unit) line_end ∷ rest
+
 -- nothing, or the version
-abbrev pub version_words : ℕ → List Laid → List Laid
-version_words version rest =
+abbrev pub version_words : ℕ → Option Unit → List Laid → List Laid
+version_words version iso rest =
     if version == 2 then reserved r.Version blank ∷ number (pos 2) line_end ∷ rest
-    else if version == 3 then reserved r.Version blank ∷ number (pos 3) line_end ∷ rest
+    else if version == 3 then reserved r.Version blank ∷ iso_words iso rest
     else rest
 
-version_layout : (version : ℕ) (rest : List Laid) → layout (version_words version rest) ≡ version_line version ++ layout rest
-version_layout version rest = by (version == 2) (version == 3)
+iso_layout : (iso : Option Unit) (rest : List Laid)
+    → codes "version " ++ layout (iso_words iso rest) ≡ (codes "version 3" ++ iso_text iso ++ line_end) ++ layout rest
+iso_layout None rest = ap (λ d. codes "version " ++ (d ++ (line_end ++ layout rest))) (decimal_digit 3 (omega arith))
+iso_layout (Some unit) rest =
+    ap (λ d. codes "version " ++ (d ++ (codes " iso " ++ (unit_name unit ++ (line_end ++ layout rest))))) (decimal_digit 3 (omega arith))
+    ∙ regroup_four (codes "version 3") (codes " iso ") (unit_name unit) line_end (layout rest)
+    ∙ ap (λ l. l ++ line_end ++ layout rest) (append_assoc (codes "version 3") (codes " iso ") (unit_name unit))
+
+version_layout : (version : ℕ) (iso : Option Unit) (rest : List Laid) → layout (version_words version iso rest) ≡ version_line version iso ++ layout rest
+version_layout version iso rest = by (version == 2) (version == 3)
   where
     by : (two three : Bool) → layout (if two then reserved r.Version blank ∷ number (pos 2) line_end ∷ rest
-        else if three then reserved r.Version blank ∷ number (pos 3) line_end ∷ rest else rest)
-        ≡ (if two then codes "version 2" ++ line_end else if three then codes "version 3" ++ line_end else []) ++ layout rest
+        else if three then reserved r.Version blank ∷ iso_words iso rest else rest)
+        ≡ (if two then codes "version 2" ++ line_end else if three then codes "version 3" ++ iso_text iso ++ line_end else []) ++ layout rest
     by true three = ap (λ d. codes "version " ++ (d ++ (line_end ++ layout rest))) (decimal_digit 2 (omega arith))
-    by false true = ap (λ d. codes "version " ++ (d ++ (line_end ++ layout rest))) (decimal_digit 3 (omega arith))
+    by false true = iso_layout iso rest
     by false false = refl
 
 abbrev pub keyed_words : Bool → List Laid → List Laid
@@ -323,7 +337,7 @@ source_line_layout spelled kinds s rest =
 
 abbrev pub job_words : Job → List Laid
 job_words job =
-    version_words job.version (lines_before cell_line_words job.families
+    version_words job.version job.iso (lines_before cell_line_words job.families
     (lines_before tag_line_words job.kinds (lines_before (depends_line_words job.kinds) job.depends
     (lines_before (on_line_words job.families) job.kinds (lines_before (source_line_words job.kinds) job.sources [])))))
 
@@ -335,13 +349,13 @@ job_layout spelled job =
     let depends = lines_before (depends_line_words job.kinds) job.depends ons in
     let tags = lines_before tag_line_words job.kinds depends in
     let cells = lines_before cell_line_words job.families tags in
-    version_layout job.version cells
-    ∙ ap (λ l. version_line job.version ++ l) (lines_out cell_line_words layout cell_line cell_line_layout job.families tags
+    version_layout job.version job.iso cells
+    ∙ ap (λ l. version_line job.version job.iso ++ l) (lines_out cell_line_words layout cell_line cell_line_layout job.families tags
     ∙ rw (
       lines_out tag_line_words layout tag_line tag_line_layout job.kinds depends,
       lines_out (depends_line_words job.kinds) layout (depends_line job.kinds) (depends_line_layout job.kinds) job.depends ons,
       lines_out (on_line_words job.families) layout (on_line job.families) (λ k rest. actions_layout job.families k.name k.actions rest) job.kinds sources,
       lines_out (source_line_words job.kinds) layout (source_line job.kinds) (source_line_layout spelled job.kinds) job.sources [],
     ) refl)
-    ∙ regroup_job (version_line job.version) (flat_map cell_line job.families) (flat_map tag_line job.kinds) (flat_map (depends_line job.kinds) job.depends)
+    ∙ regroup_job (version_line job.version job.iso) (flat_map cell_line job.families) (flat_map tag_line job.kinds) (flat_map (depends_line job.kinds) job.depends)
     (flat_map (on_line job.families) job.kinds) (flat_map (source_line job.kinds) job.sources)
