@@ -1,0 +1,141 @@
+-- An event has the same effect for programs of one job.
+use Rattle.std.proofs.Common.{◌≡◌, refl, sym, ap, ◌∙◌, ℕ, ℤ, pos, List, [], ◌∷◌, ◌++◌, Bool, true, map, Option, Some, None}
+use Rattle.std.specs.Prelude.{option_map, slice_get, slice_index_or, not, neg_ℤ, is_some, if◌then◌else◌}
+use Rattle.std.proofs.lemmas.Option.{slice_get-map}
+use Rattle.flu_model.specs.declared.events.Event.{Event}
+use Rattle.flu_model.specs.declared.events.Itag.{Itag}
+use Rattle.flu_model.specs.declared.events.Tag.{Tag}
+use Rattle.flu_model.specs.declared.events.Worth.TheVariants.{Last}
+use Rattle.flu_model.specs.declared.jobs.Act.{Act}
+use Rattle.flu_model.specs.declared.jobs.Act.TheVariants.{Add, Raise, Set, Clear, ClearFamily, Emit, Flush}
+use Rattle.flu_model.specs.declared.jobs.Action.{Action}
+use Rattle.flu_model.specs.declared.jobs.Expr.{Expr}
+use Rattle.flu_model.specs.declared.jobs.Expr.TheVariants.{Lit, Value, Key, Item as EventsItem, Time, Read, Has, Neg', Not', Two'}
+use Rattle.flu_model.specs.declared.jobs.Family.{Family}
+use Rattle.flu_model.specs.declared.jobs.Kind.{Kind}
+use Rattle.flu_model.specs.declared.jobs.Program.{Program}
+use Rattle.flu_model.specs.declared.jobs.Source.{Source}
+use Rattle.flu_model.specs.Contents.{Contents, cell, with_worth, added, raised, number_in, held_keys, without_family}
+use Rattle.flu_model.specs.Erasure.{Term, Literal, EventValue, EventKey, EventItem as ItemTerm, EventTime, CellRead, CellHeld, Negative, Negation, Operation}
+use Rattle.flu_model.specs.Erasure.{term_of, PlainAct, Adding, Raising, Setting, Clearing, ClearingFamily, Emitting, Flushing, plain_act, PlainAction}
+use Rattle.flu_model.specs.Erasure.{plain_action, PlainKind, plain_kind, Job, job_of, IsSameJob}
+use Rattle.flu_model.specs.Expressions.{cell_of, item_of, clamped, as_number, is_true, result_of, value_of_expr}
+use Rattle.flu_model.specs.Listing.{tag, itags_of_sources}
+use Rattle.flu_model.specs.Texts.{Unit, pieces_text}
+use Rattle.flu_model.specs.Updates.{Effect, changes_to, effect_of_act, passes_guard, effect_of_action, effect_of_actions, actions_of, effect_of}
+
+-- ---- the update depends on the actions as plain data
+value_of_term : Term → Contents → Event → ℕ → ℤ
+value_of_term (Literal n) s x key = n
+value_of_term EventValue s x key = x.value
+value_of_term EventKey s x key = pos key
+value_of_term ItemTerm s x key = pos (item_of x)
+value_of_term EventTime s x key = clamped (pos x.time)
+value_of_term (CellRead r) s x key = number_in (s (cell_of r key (item_of x)))
+value_of_term (CellHeld r) s x key = as_number (is_some (s (cell_of r key (item_of x))))
+value_of_term (Negative e) s x key = clamped (neg_ℤ (value_of_term e s x key))
+value_of_term (Negation e) s x key = as_number (not (is_true (value_of_term e s x key)))
+value_of_term (Operation op a b) s x key = result_of op (value_of_term a s x key) (value_of_term b s x key)
+
+value-term : (e : Expr) (s : Contents) (x : Event) (key : ℕ) → value_of_expr e s x key ≡ value_of_term (term_of e) s x key
+unfolding value_of_term
+value-term (Lit n) s x key = refl
+value-term Value s x key = refl
+value-term Key s x key = refl
+value-term EventsItem s x key = refl
+value-term Time s x key = refl
+value-term (Read r) s x key = refl
+value-term (Has r) s x key = refl
+value-term (Neg' p e) s x key = ap (λ z. clamped (neg_ℤ z)) (value-term e s x key)
+value-term (Not' p e) s x key = ap (λ z. as_number (not (is_true z))) (value-term e s x key)
+value-term (Two' op p a q b) s x key = λ i. result_of op (value-term a s x key i) (value-term b s x key i)
+
+effect_of_plain_act : Option Unit → List Family → PlainAct → Contents → Event → ℕ → Effect
+effect_of_plain_act iso families (Adding r e) s x key =
+    changes_to (with_worth s (cell_of r key (item_of x)) (added (s (cell_of r key (item_of x))) (value_of_term e s x key)))
+effect_of_plain_act iso families (Raising r e) s x key =
+    changes_to (with_worth s (cell_of r key (item_of x)) (raised (s (cell_of r key (item_of x))) (value_of_term e s x key)))
+effect_of_plain_act iso families (Setting r e) s x key = changes_to (with_worth s (cell_of r key (item_of x)) (Some (Last (value_of_term e s x key))))
+effect_of_plain_act iso families (Clearing r) s x key = changes_to (with_worth s (cell_of r key (item_of x)) None)
+effect_of_plain_act iso families (ClearingFamily f) s x key = changes_to (without_family s f)
+effect_of_plain_act iso families (Emitting ps) s x key = record { cells = s; texts = pieces_text iso families ps s x key None ∷ [] }
+effect_of_plain_act iso families (Flushing f ps) s x key =
+    record { cells = without_family s f; texts = map (λ k. pieces_text iso families ps s x k (s (cell f k))) (held_keys s f) }
+
+act-plain : (iso : Option Unit) (families : List Family) (act : Act) (s : Contents) (x : Event) (key : ℕ)
+    → effect_of_act iso families act s x key ≡ effect_of_plain_act iso families (plain_act act) s x key
+unfolding effect_of_plain_act
+act-plain iso families (Add r e) s x key =
+    ap (λ z. changes_to (with_worth s (cell_of r key (item_of x)) (added (s (cell_of r key (item_of x))) z))) (value-term e s x key)
+act-plain iso families (Raise r e) s x key =
+    ap (λ z. changes_to (with_worth s (cell_of r key (item_of x)) (raised (s (cell_of r key (item_of x))) z))) (value-term e s x key)
+act-plain iso families (Set r e) s x key = ap (λ z. changes_to (with_worth s (cell_of r key (item_of x)) (Some (Last z)))) (value-term e s x key)
+act-plain iso families (Clear r) s x key = refl
+act-plain iso families (ClearFamily f) s x key = refl
+act-plain iso families (Emit ps) s x key = refl
+act-plain iso families (Flush f ps) s x key = refl
+
+passes_plain_guard : Option Term → Contents → Event → ℕ → Bool
+passes_plain_guard None s x key = true
+passes_plain_guard (Some e) s x key = is_true (value_of_term e s x key)
+
+guard-plain : (guard : Option Expr) (s : Contents) (x : Event) (key : ℕ)
+    → passes_guard guard s x key ≡ passes_plain_guard (option_map term_of guard) s x key
+unfolding passes_plain_guard
+guard-plain None s x key = refl
+guard-plain (Some e) s x key = ap is_true (value-term e s x key)
+
+effect_of_plain_action : Option Unit → List Family → PlainAction → Contents → Event → ℕ → Effect
+effect_of_plain_action iso families a s x key =
+    if passes_plain_guard a.guard s x key then effect_of_plain_act iso families a.act s x key else changes_to s
+
+action-plain : (iso : Option Unit) (families : List Family) (a : Action) (s : Contents) (x : Event) (key : ℕ)
+    → effect_of_action iso families a s x key ≡ effect_of_plain_action iso families (plain_action a) s x key
+unfolding effect_of_plain_action
+action-plain iso families a s x key = λ i. if guard-plain a.guard s x key i then act-plain iso families a.act s x key i else changes_to s
+
+-- one effect, and then another
+abbrev both : Effect → Effect → Effect
+both first others = record { cells = others.cells; texts = first.texts ++ others.texts }
+
+effect_of_plain_actions : Option Unit → List Family → List PlainAction → Contents → Event → ℕ → Effect
+effect_of_plain_actions iso families [] s x key = changes_to s
+effect_of_plain_actions iso families (a ∷ rest) s x key =
+    both (effect_of_plain_action iso families a s x key) (effect_of_plain_actions iso families rest (effect_of_plain_action iso families a s x key).cells x key)
+
+actions-plain : (iso : Option Unit) (families : List Family) (all : List Action) (s : Contents) (x : Event) (key : ℕ)
+    → effect_of_actions iso families all s x key ≡ effect_of_plain_actions iso families (map plain_action all) s x key
+unfolding effect_of_plain_actions
+actions-plain iso families [] s x key = refl
+actions-plain iso families (a ∷ rest) s x key =
+    ap (λ (first : Effect). both first (effect_of_actions iso families rest first.cells x key)) (action-plain iso families a s x key)
+    ∙ ap (λ (others : Effect). both (effect_of_plain_action iso families (plain_action a) s x key) others)
+    (actions-plain iso families rest (effect_of_plain_action iso families (plain_action a) s x key).cells x key)
+
+plain_actions_of : Option PlainKind → List PlainAction
+plain_actions_of None = []
+plain_actions_of (Some k) = k.actions
+
+kind-plain : (kind : Option Kind) → map plain_action (actions_of kind) ≡ plain_actions_of (option_map plain_kind kind)
+unfolding plain_actions_of
+kind-plain None = refl
+kind-plain (Some k) = refl
+
+-- the tag of an itag
+abbrev tag_at : List Source → Itag → Tag
+tag_at sources i = (slice_index_or (itags_of_sources 0 sources) i.0 (tag 0 0, 0)).0
+
+plain_effect : Job → Contents → Event → Effect
+plain_effect j s x =
+    effect_of_plain_actions j.iso j.families (plain_actions_of (slice_get j.kinds (tag_at j.sources x.itag).kind)) s x (tag_at j.sources x.itag).key
+
+effect-plain : (p : Program) (s : Contents) (x : Event) → effect_of p s x ≡ plain_effect (job_of p) s x
+unfolding plain_effect
+effect-plain p s x =
+    let t = tag_at p.sources x.itag in
+    actions-plain p.iso p.families (actions_of (slice_get p.kinds t.kind)) s x t.key
+    ∙ ap (λ all. effect_of_plain_actions p.iso p.families all s x t.key)
+    (kind-plain (slice_get p.kinds t.kind) ∙ ap plain_actions_of (sym (slice_get-map plain_kind p.kinds t.kind)))
+
+pub same_effect : (p q : Program) (s : Contents) (x : Event) → IsSameJob p q → effect_of p s x ≡ effect_of q s x
+same_effect p q s x same = effect-plain p s x ∙ (ap (λ (j : Job). plain_effect j s x) same ∙ sym (effect-plain q s x))
