@@ -31,7 +31,7 @@ use Rattle.flu_model.specs.Folding.{outputs_at, outputs_with, outputs_of, final_
 use Rattle.flu_model.specs.Listing.{tag, itags_of_sources}
 use Rattle.flu_model.specs.Merging.{merged}
 use Rattle.flu_model.specs.Reports.{name_with_key, kind_text, line_of, line_cmp, line_bytes, report}
-use Rattle.flu_model.specs.Texts.{pieces_text}
+use Rattle.flu_model.specs.Texts.{Unit, pieces_text}
 use Rattle.flu_model.specs.Updates.{Effect, changes_to, effect_of_act, passes_guard, effect_of_action, effect_of_actions, actions_of, effect_of}
 use Rattle.flu_outside.specs.Outside.{Contents as Files}
 use Rattle.flu_rows.specs.Row.{form_of}
@@ -68,30 +68,30 @@ value-term (Neg' p e) s x key = ap (λ z. clamped (neg_ℤ z)) (value-term e s x
 value-term (Not' p e) s x key = ap (λ z. as_number (not (is_true z))) (value-term e s x key)
 value-term (Two' op p a q b) s x key = λ i. result_of op (value-term a s x key i) (value-term b s x key i)
 
-effect_of_plain_act : List Family → PlainAct → Contents → Event → ℕ → Effect
-effect_of_plain_act families (Adding r e) s x key =
+effect_of_plain_act : Option Unit → List Family → PlainAct → Contents → Event → ℕ → Effect
+effect_of_plain_act iso families (Adding r e) s x key =
     changes_to (with_worth s (cell_of r key (item_of x)) (added (s (cell_of r key (item_of x))) (value_of_term e s x key)))
-effect_of_plain_act families (Raising r e) s x key =
+effect_of_plain_act iso families (Raising r e) s x key =
     changes_to (with_worth s (cell_of r key (item_of x)) (raised (s (cell_of r key (item_of x))) (value_of_term e s x key)))
-effect_of_plain_act families (Setting r e) s x key = changes_to (with_worth s (cell_of r key (item_of x)) (Some (Last (value_of_term e s x key))))
-effect_of_plain_act families (Clearing r) s x key = changes_to (with_worth s (cell_of r key (item_of x)) None)
-effect_of_plain_act families (ClearingFamily f) s x key = changes_to (without_family s f)
-effect_of_plain_act families (Emitting ps) s x key = record { cells = s; texts = pieces_text families ps s x key None ∷ [] }
-effect_of_plain_act families (Flushing f ps) s x key =
-    record { cells = without_family s f; texts = map (λ k. pieces_text families ps s x k (s (cell f k))) (held_keys s f) }
+effect_of_plain_act iso families (Setting r e) s x key = changes_to (with_worth s (cell_of r key (item_of x)) (Some (Last (value_of_term e s x key))))
+effect_of_plain_act iso families (Clearing r) s x key = changes_to (with_worth s (cell_of r key (item_of x)) None)
+effect_of_plain_act iso families (ClearingFamily f) s x key = changes_to (without_family s f)
+effect_of_plain_act iso families (Emitting ps) s x key = record { cells = s; texts = pieces_text iso families ps s x key None ∷ [] }
+effect_of_plain_act iso families (Flushing f ps) s x key =
+    record { cells = without_family s f; texts = map (λ k. pieces_text iso families ps s x k (s (cell f k))) (held_keys s f) }
 
-act-plain : (families : List Family) (act : Act) (s : Contents) (x : Event) (key : ℕ)
-    → effect_of_act families act s x key ≡ effect_of_plain_act families (plain_act act) s x key
+act-plain : (iso : Option Unit) (families : List Family) (act : Act) (s : Contents) (x : Event) (key : ℕ)
+    → effect_of_act iso families act s x key ≡ effect_of_plain_act iso families (plain_act act) s x key
 unfolding effect_of_plain_act
-act-plain families (Add r e) s x key =
+act-plain iso families (Add r e) s x key =
     ap (λ z. changes_to (with_worth s (cell_of r key (item_of x)) (added (s (cell_of r key (item_of x))) z))) (value-term e s x key)
-act-plain families (Raise r e) s x key =
+act-plain iso families (Raise r e) s x key =
     ap (λ z. changes_to (with_worth s (cell_of r key (item_of x)) (raised (s (cell_of r key (item_of x))) z))) (value-term e s x key)
-act-plain families (Set r e) s x key = ap (λ z. changes_to (with_worth s (cell_of r key (item_of x)) (Some (Last z)))) (value-term e s x key)
-act-plain families (Clear r) s x key = refl
-act-plain families (ClearFamily f) s x key = refl
-act-plain families (Emit ps) s x key = refl
-act-plain families (Flush f ps) s x key = refl
+act-plain iso families (Set r e) s x key = ap (λ z. changes_to (with_worth s (cell_of r key (item_of x)) (Some (Last z)))) (value-term e s x key)
+act-plain iso families (Clear r) s x key = refl
+act-plain iso families (ClearFamily f) s x key = refl
+act-plain iso families (Emit ps) s x key = refl
+act-plain iso families (Flush f ps) s x key = refl
 
 passes_plain_guard : Option Term → Contents → Event → ℕ → Bool
 passes_plain_guard None s x key = true
@@ -103,32 +103,32 @@ unfolding passes_plain_guard
 guard-plain None s x key = refl
 guard-plain (Some e) s x key = ap is_true (value-term e s x key)
 
-effect_of_plain_action : List Family → PlainAction → Contents → Event → ℕ → Effect
-effect_of_plain_action families a s x key =
-    if passes_plain_guard a.guard s x key then effect_of_plain_act families a.act s x key else changes_to s
+effect_of_plain_action : Option Unit → List Family → PlainAction → Contents → Event → ℕ → Effect
+effect_of_plain_action iso families a s x key =
+    if passes_plain_guard a.guard s x key then effect_of_plain_act iso families a.act s x key else changes_to s
 
-action-plain : (families : List Family) (a : Action) (s : Contents) (x : Event) (key : ℕ)
-    → effect_of_action families a s x key ≡ effect_of_plain_action families (plain_action a) s x key
+action-plain : (iso : Option Unit) (families : List Family) (a : Action) (s : Contents) (x : Event) (key : ℕ)
+    → effect_of_action iso families a s x key ≡ effect_of_plain_action iso families (plain_action a) s x key
 unfolding effect_of_plain_action
-action-plain families a s x key = λ i. if guard-plain a.guard s x key i then act-plain families a.act s x key i else changes_to s
+action-plain iso families a s x key = λ i. if guard-plain a.guard s x key i then act-plain iso families a.act s x key i else changes_to s
 
 -- one effect, and then another
 abbrev both : Effect → Effect → Effect
 both first others = record { cells = others.cells; texts = first.texts ++ others.texts }
 
-effect_of_plain_actions : List Family → List PlainAction → Contents → Event → ℕ → Effect
-effect_of_plain_actions families [] s x key = changes_to s
-effect_of_plain_actions families (a ∷ rest) s x key =
-    both (effect_of_plain_action families a s x key) (effect_of_plain_actions families rest (effect_of_plain_action families a s x key).cells x key)
+effect_of_plain_actions : Option Unit → List Family → List PlainAction → Contents → Event → ℕ → Effect
+effect_of_plain_actions iso families [] s x key = changes_to s
+effect_of_plain_actions iso families (a ∷ rest) s x key =
+    both (effect_of_plain_action iso families a s x key) (effect_of_plain_actions iso families rest (effect_of_plain_action iso families a s x key).cells x key)
 
-actions-plain : (families : List Family) (all : List Action) (s : Contents) (x : Event) (key : ℕ)
-    → effect_of_actions families all s x key ≡ effect_of_plain_actions families (map plain_action all) s x key
+actions-plain : (iso : Option Unit) (families : List Family) (all : List Action) (s : Contents) (x : Event) (key : ℕ)
+    → effect_of_actions iso families all s x key ≡ effect_of_plain_actions iso families (map plain_action all) s x key
 unfolding effect_of_plain_actions
-actions-plain families [] s x key = refl
-actions-plain families (a ∷ rest) s x key =
-    ap (λ (first : Effect). both first (effect_of_actions families rest first.cells x key)) (action-plain families a s x key)
-    ∙ ap (λ (others : Effect). both (effect_of_plain_action families (plain_action a) s x key) others)
-    (actions-plain families rest (effect_of_plain_action families (plain_action a) s x key).cells x key)
+actions-plain iso families [] s x key = refl
+actions-plain iso families (a ∷ rest) s x key =
+    ap (λ (first : Effect). both first (effect_of_actions iso families rest first.cells x key)) (action-plain iso families a s x key)
+    ∙ ap (λ (others : Effect). both (effect_of_plain_action iso families (plain_action a) s x key) others)
+    (actions-plain iso families rest (effect_of_plain_action iso families (plain_action a) s x key).cells x key)
 
 plain_actions_of : Option PlainKind → List PlainAction
 plain_actions_of None = []
@@ -145,14 +145,14 @@ tag_at sources i = (slice_index_or (itags_of_sources 0 sources) i.0 (tag 0 0, 0)
 
 plain_effect : Job → Contents → Event → Effect
 plain_effect j s x =
-    effect_of_plain_actions j.families (plain_actions_of (slice_get j.kinds (tag_at j.sources x.itag).kind)) s x (tag_at j.sources x.itag).key
+    effect_of_plain_actions j.iso j.families (plain_actions_of (slice_get j.kinds (tag_at j.sources x.itag).kind)) s x (tag_at j.sources x.itag).key
 
 effect-plain : (p : Program) (s : Contents) (x : Event) → effect_of p s x ≡ plain_effect (job_of p) s x
 unfolding plain_effect
 effect-plain p s x =
     let t = tag_at p.sources x.itag in
-    actions-plain p.families (actions_of (slice_get p.kinds t.kind)) s x t.key
-    ∙ ap (λ all. effect_of_plain_actions p.families all s x t.key)
+    actions-plain p.iso p.families (actions_of (slice_get p.kinds t.kind)) s x t.key
+    ∙ ap (λ all. effect_of_plain_actions p.iso p.families all s x t.key)
     (kind-plain (slice_get p.kinds t.kind) ∙ ap plain_actions_of (sym (slice_get-map plain_kind p.kinds t.kind)))
 
 same_effect : (p q : Program) (s : Contents) (x : Event) → IsSameJob p q → effect_of p s x ≡ effect_of q s x
@@ -218,7 +218,8 @@ same_line p q o same = ap (λ text. record { time = o.time; tag = text; text = o
 
 pub same_lines_of : (p q : Program) (outs : List Out) → IsSameJob p q → report p outs ≡ report q outs
 same_lines_of p q outs same =
-    ap (λ f. flat_map line_bytes (in_order (λ a b. is_lt (line_cmp a b)) (map f outs))) (fun_ext (λ (o : Out). same_line p q o same))
+    ap (λ f. flat_map (line_bytes p.iso) (in_order (λ a b. is_lt (line_cmp a b)) (map f outs))) (fun_ext (λ (o : Out). same_line p q o same))
+    ∙ ap (λ (j : Job). flat_map (line_bytes j.iso) (in_order (λ a b. is_lt (line_cmp a b)) (map (line_of q) outs))) same
 
 -- of the outputs of the same sources, from one state
 pub same_report : (p q : Program) (s : Contents) (left : Files) → IsSameJob p q

@@ -68,7 +68,7 @@ same_line a b e =
 pub same_report_of : (p : Program) (outs others : List Out) → IsPermutation outs others → report p others ≡ report p outs
 same_report_of p outs others moved =
     let lines : List Line = in_order (λ a b. is_lt (line_cmp a b)) (map (line_of p) others) in
-    ap (flat_map line_bytes)
+    ap (flat_map (line_bytes p.iso))
     (in_order-only line_cmp line_cmp-total (map (line_of p) outs) lines (λ a b here there. same_line a b)
     (in_order-sorted line_cmp line_cmp-total (map (line_of p) others))
     (IsPermutation-trans (map (line_of p) outs) (map (line_of p) others) lines (IsPermutation-map (line_of p) outs others moved)

@@ -7,13 +7,16 @@ ghost use Rattle.flu_model.specs.Texts as meaning;
 ghost use Rattle.flu_cells.specs.Holding.{held};
 
 use flu_cells::State;
-use flu_model::{Cell, Event, Family, Piece, Sort, Text, Worth, cell_of, item_of};
+use flu_model::{
+    Cell, Event, Family, Piece, Sort, Text, Unit, Worth, cell_of, item_of, push_shown_time,
+};
 use std::alloc::{AllocError, Global};
 
-/// What the fields of a template are filled from: the families of the job, a state, an event, the key that `{key}` is, and what
-/// the cell that `{cell}` names holds, which is not neutral.
+/// What the fields of a template are filled from: the unit and the families of the job, a state, an event, the key that `{key}` is, and
+/// what the cell that `{cell}` names holds, which is not neutral.
 #[derive(Clone, Copy)]
 pub struct Filling<'a> {
+    pub iso: Option<Unit>,
     pub families: &'a [Family],
     pub state: &'a State,
     pub event: &'a Event,
@@ -23,7 +26,8 @@ pub struct Filling<'a> {
 
 /// The text of a template.
 pub fn text_of(alloc: Global, pieces: &[Piece], at: &Filling<'_>) -> Result<Text, AllocError>
-    ensures { IfOk result (λ t. t ≡ meaning.pieces_text at.now.families.now pieces.now (held at.now.state.now) at.now.event.now at.now.key at.now.there) }
+    ensures { IfOk result (λ t. t
+        ≡ meaning.pieces_text at.now.iso at.now.families.now pieces.now (held at.now.state.now) at.now.event.now at.now.key at.now.there) }
 {
     let mut text = String::new(alloc);
     for piece in pieces {
@@ -35,14 +39,14 @@ pub fn text_of(alloc: Global, pieces: &[Piece], at: &Filling<'_>) -> Result<Text
 // One piece at the end of a text.
 fn push_piece(text: &mut String, piece: &Piece, at: &Filling<'_>) -> Result<(), AllocError>
     ensures { OnOk result (string_bytes text.new ≡ string_bytes text.old
-        ++ meaning.piece_text at.now.families.now piece.now (held at.now.state.now) at.now.event.now at.now.key at.now.there) }
+        ++ meaning.piece_text at.now.iso at.now.families.now piece.now (held at.now.state.now) at.now.event.now at.now.key at.now.there) }
 {
     match piece {
         Piece::Plain(plain) => text.push_str(plain.as_str()),
         Piece::Value => push_signed(text, at.event.value),
         Piece::Key => push_number(text, u64::from(at.key)),
         Piece::Item => push_number(text, u64::from(item_of(at.event))),
-        Piece::Time => push_number(text, at.event.time),
+        Piece::Time => push_shown_time(text, at.iso, at.event.time),
         Piece::Read(r) => {
             let neutral = neutral_of(at.families, r.family);
             let item = item_of(at.event);

@@ -16,14 +16,15 @@ use crate::expressions::{is_true, value_of};
 use crate::texts::{Filling, text_of};
 use flu_cells::State;
 use flu_model::{
-    Act, Action, Cell, Event, Expr, Family, Out, Outs, Piece, Program, Tag, Text, actions_of,
+    Act, Action, Cell, Event, Expr, Family, Out, Outs, Piece, Program, Tag, Text, Unit, actions_of,
     cell_of, item_of, tag_of,
 };
 use std::alloc::{AllocError, Global};
 
-/// What actions are done at: an event with its tag, beside the families of the job.
+/// What actions are done at: an event with its tag, beside the unit and the families of the job.
 #[derive(Clone, Copy)]
 struct Moment<'a> {
+    iso: Option<Unit>,
     families: &'a [Family],
     event: &'a Event,
     tag: Tag,
@@ -46,6 +47,7 @@ pub fn update(
 {
     let tag = tag_of(p, x.itag);
     let moment = Moment {
+        iso: p.iso,
         families: p.families.items(),
         event: x,
         tag,
@@ -62,9 +64,10 @@ fn do_actions(
     outs: &mut Outs,
 ) -> Result<(), AllocError>
     requires { IsTrue (list_all (λ a. has_target_in_range a.act at.now.tag.key (expressions.item_of at.now.event.now)) actions.now) }
-    ensures cells { OnOk result (held s.new ≡ (effect_of_actions at.now.families.now actions.now (held s.old) at.now.event.now at.now.tag.key).cells) }
-    ensures outputs { OnOk result (outs.new ≡ outs.old
-        ++ outputs_at at.now.event.now.time at.now.tag (effect_of_actions at.now.families.now actions.now (held s.old) at.now.event.now at.now.tag.key).texts) }
+    ensures cells { OnOk result (held s.new
+        ≡ (effect_of_actions at.now.iso at.now.families.now actions.now (held s.old) at.now.event.now at.now.tag.key).cells) }
+    ensures outputs { OnOk result (outs.new ≡ outs.old ++ outputs_at at.now.event.now.time at.now.tag
+        (effect_of_actions at.now.iso at.now.families.now actions.now (held s.old) at.now.event.now at.now.tag.key).texts) }
 {
     for action in actions {
         do_action(alloc, at, action, s, outs)?;
@@ -81,9 +84,9 @@ fn do_action(
     outs: &mut Outs,
 ) -> Result<(), AllocError>
     requires { IsTrue (has_target_in_range action.now.act at.now.tag.key (expressions.item_of at.now.event.now)) }
-    ensures cells { OnOk result (held s.new ≡ (effect_of_action at.now.families.now action.now (held s.old) at.now.event.now at.now.tag.key).cells) }
-    ensures outputs { OnOk result (outs.new ≡ outs.old
-        ++ outputs_at at.now.event.now.time at.now.tag (effect_of_action at.now.families.now action.now (held s.old) at.now.event.now at.now.tag.key).texts) }
+    ensures cells { OnOk result (held s.new ≡ (effect_of_action at.now.iso at.now.families.now action.now (held s.old) at.now.event.now at.now.tag.key).cells) }
+    ensures outputs { OnOk result (outs.new ≡ outs.old ++ outputs_at at.now.event.now.time at.now.tag
+        (effect_of_action at.now.iso at.now.families.now action.now (held s.old) at.now.event.now at.now.tag.key).texts) }
 {
     if guard_holds(&action.guard, s, at.event, at.tag.key) {
         do_act(alloc, at, &action.act, s, outs)
@@ -111,9 +114,9 @@ fn do_act(
     outs: &mut Outs,
 ) -> Result<(), AllocError>
     requires { IsTrue (has_target_in_range act.now at.now.tag.key (expressions.item_of at.now.event.now)) }
-    ensures cells { OnOk result (held s.new ≡ (effect_of_act at.now.families.now act.now (held s.old) at.now.event.now at.now.tag.key).cells) }
-    ensures outputs { OnOk result (outs.new ≡ outs.old
-        ++ outputs_at at.now.event.now.time at.now.tag (effect_of_act at.now.families.now act.now (held s.old) at.now.event.now at.now.tag.key).texts) }
+    ensures cells { OnOk result (held s.new ≡ (effect_of_act at.now.iso at.now.families.now act.now (held s.old) at.now.event.now at.now.tag.key).cells) }
+    ensures outputs { OnOk result (outs.new ≡ outs.old ++ outputs_at at.now.event.now.time at.now.tag
+        (effect_of_act at.now.iso at.now.families.now act.now (held s.old) at.now.event.now at.now.tag.key).texts) }
 {
     let key = at.tag.key;
     let item = item_of(at.event);
@@ -140,6 +143,7 @@ fn do_act(
         }
         Act::Emit(pieces) => {
             let filling = Filling {
+                iso: at.iso,
                 families: at.families,
                 state: &*s,
                 event: at.event,
@@ -175,11 +179,13 @@ fn flush(
 ) -> Result<(), AllocError>
     ensures cells { OnOk result (held s.new ≡ without_family (held s.old) family) }
     ensures outputs { OnOk result (outs.new ≡ outs.old ++ outputs_at at.now.event.now.time at.now.tag
-        (map (λ k. pieces_text at.now.families.now pieces.now (held s.old) at.now.event.now k (held s.old (cell family k))) (held_keys (held s.old) family))) }
+        (map (λ k. pieces_text at.now.iso at.now.families.now pieces.now (held s.old) at.now.event.now k (held s.old (cell family k)))
+        (held_keys (held s.old) family))) }
 {
     let keys = s.keys(family)?;
     for key in &keys {
         let filling = Filling {
+            iso: at.iso,
             families: at.families,
             state: &*s,
             event: at.event,

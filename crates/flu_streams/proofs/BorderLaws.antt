@@ -101,10 +101,10 @@ report_cut p t us vs early late =
     ∙ ap (λ l. front ++ l) (kept_none f back back_late) ∙ append-nil front in
     let second : filter g (front ++ back) ≡ back = filter-append g front back ∙ ap (λ l. l ++ filter g back) (kept_none g front front_twice)
     ∙ kept_all g back back_late in
-    ap (λ ls. flat_map line_bytes (in_order lt ls)) (map-append (line_of p) us vs)
-    ∙ ap (flat_map line_bytes) (in_order-cut lt f (line_first t) (line_last t) (front ++ back)
+    ap (λ ls. flat_map (line_bytes p.iso) (in_order lt ls)) (map-append (line_of p) us vs)
+    ∙ ap (flat_map (line_bytes p.iso)) (in_order-cut lt f (line_first t) (line_last t) (front ++ back)
     ∙ ap (λ ls. in_order lt ls ++ in_order lt (filter g (front ++ back))) first ∙ ap (λ ls. in_order lt front ++ in_order lt ls) second)
-    ∙ flat_map-append line_bytes (in_order lt front) (in_order lt back)
+    ∙ flat_map-append (line_bytes p.iso) (in_order lt front) (in_order lt back)
 
 -- ---- the law
 pub folds_in_turn : LawOfBorders

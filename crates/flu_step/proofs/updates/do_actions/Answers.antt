@@ -15,7 +15,7 @@ do_action-requires c =
 
 pub loop-action-preserved : goal.loop-action-preserved
 loop-action-preserved c =
-    actions_turn c.args.at.now.families.now c.args.actions.now (held c.loop-action.s) (held c.do_action.new.s) c.args.at.now.event.now c.args.at.now.tag
-    c.loop-action.action-index c.action-item.result c.loop-action.outs c.do_action.new.outs c.args.outs.now
-    (effect_of_actions c.args.at.now.families.now c.args.actions.now (held c.args.s.now) c.args.at.now.event.now c.args.at.now.tag.key)
+    actions_turn c.args.at.now.iso c.args.at.now.families.now c.args.actions.now (held c.loop-action.s) (held c.do_action.new.s)
+    c.args.at.now.event.now c.args.at.now.tag c.loop-action.action-index c.action-item.result c.loop-action.outs c.do_action.new.outs c.args.outs.now
+    (effect_of_actions c.args.at.now.iso c.args.at.now.families.now c.args.actions.now (held c.args.s.now) c.args.at.now.event.now c.args.at.now.tag.key)
     c.loop-action-test.true c.action-item.is c.in_ok-do_action.ensures.cells c.in_ok-do_action.ensures.outputs c.loop-action.invariant
