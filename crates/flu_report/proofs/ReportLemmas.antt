@@ -31,7 +31,8 @@ same_line a b e =
 -- a report of some outputs is the one that the plain program makes
 pub only_report : (p : Program) (outs : List Out) (bytes : List ℕ) → IsReport p outs bytes → bytes ≡ report p outs
 only_report p outs bytes r =
-    r.is ∙ ap (flat_map line_bytes) (in_order-only line_cmp line_cmp-total (map (line_of p) outs) r.lines (λ a b here there. same_line a b) r.sorted r.all)
+    r.is
+    ∙ ap (flat_map (line_bytes p.iso)) (in_order-only line_cmp line_cmp-total (map (line_of p) outs) r.lines (λ a b here there. same_line a b) r.sorted r.all)
 
 -- the plain program makes a report of the outputs in any order
 pub report_in_any_order : (p : Program) (outs others : List Out) → IsPermutation outs others → IsReport p outs (report p others)

@@ -10,7 +10,7 @@ use flu_model::{Out, Outs, Program, Text};
 use std::alloc::{AllocError, Global};
 
 /// The report of some outputs: one line `time,tag,text` for each of them, sorted by time as a number, then by the
-/// tag's bytes, then by the text's bytes; equal lines are kept.
+/// tag's bytes, then by the text's bytes; equal lines are kept. Times are shown by the job's unit, where it has one.
 ///
 /// The order of the outputs does not matter.
 pub fn report_text(alloc: Global, p: &Program, outs: Outs) -> Result<Text, AllocError>
@@ -29,5 +29,5 @@ fn sorted_text(alloc: Global, p: &Program, outs: &[Out]) -> Result<Text, AllocEr
     let tags = tags_of(alloc, p, outs)?;
     let mut entries = entries_of(alloc, &tags, outs, p)?;
     entries.sort()?;
-    text_of(alloc, &entries)
+    text_of(alloc, p.iso, &entries)
 }

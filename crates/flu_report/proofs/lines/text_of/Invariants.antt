@@ -6,4 +6,4 @@ use Rattle.flu_report.specs.Entries.{line_at}
 use Rattle.flu_report.proofs.lines.text_of.Given as goal
 
 abbrev pub invariant-loop-entry : goal.invariant-loop-entry
-invariant-loop-entry l = string_bytes l.text ≡ flat_map line_bytes (map line_at (take l.entry-index l.entries))
+invariant-loop-entry l = string_bytes l.text ≡ flat_map (line_bytes l.iso) (map line_at (take l.entry-index l.entries))
