@@ -3,7 +3,7 @@ use Rattle.std.proofs.Common.{◌≡◌, ◌≢◌, sym, ap, ◌∙◌, refl, su
 use Rattle.std.specs.Prelude.{List, IsTrue}
 use Rattle.flu_outside.specs.Outside.{Contents}
 use Rattle.flu_model.specs.declared.jobs.Program.{Program}
-use Rattle.flu_model.specs.Erasure.{IsSameJob, job_of}
+use Rattle.flu_model.specs.Erasure.{job_of}
 use Rattle.flu_model.specs.declared.plans.Node.{Node}
 use Rattle.flu_model.specs.Modes.{IsAccepted}
 use Rattle.flu_model.specs.Validity.{IsValid}

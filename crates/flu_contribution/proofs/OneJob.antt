@@ -1,5 +1,5 @@
 -- Programs of one job: the same nodes may be apart, contribute the same, and are joined alike.
-use Rattle.std.proofs.Common.{◌≡◌, refl, sym, ap, ◌∙◌, subst, ℕ, ◌<◌, List, [], ◌∷◌, ◌++◌, map, Bool, false, true, ◌&&◌, ◌||◌, not, cond}
+use Rattle.std.proofs.Common.{◌≡◌, refl, sym, ap, ◌∙◌, subst, ℕ, ◌<◌, List, [], ◌∷◌, ◌++◌, Bool, ◌&&◌, ◌||◌, not}
 use Rattle.std.specs.Prelude.{◌+◌, None, Some, if◌then◌else◌}
 use Rattle.std.specs.List.{list_any, filter, range_with_len, AllByRecursion}
 use Rattle.flu_model.specs.declared.events.Cell.{Cell}
@@ -7,26 +7,25 @@ use Rattle.flu_model.specs.declared.events.Event.{Event}
 use Rattle.flu_model.specs.declared.events.Item.{Item}
 use Rattle.flu_model.specs.declared.events.Tag.{Tag}
 use Rattle.flu_model.specs.declared.jobs.Program.{Program}
-use Rattle.flu_model.specs.declared.modes.Mode.{Mode}
 use Rattle.flu_model.specs.declared.plans.Node.{Node}
 use Rattle.flu_model.specs.Contents.{Contents}
 use Rattle.flu_model.specs.Erasure.{IsSameJob}
 use Rattle.flu_model.specs.Itags.{count_of_itags}
 use Rattle.flu_model.specs.Merging.{merged}
-use Rattle.flu_model.specs.Modes.{mode_of, uses}
+use Rattle.flu_model.specs.Modes.{uses}
 use Rattle.flu_model.specs.Sorts.{IsStateOf}
 use Rattle.flu_laws.specs.Consistency.{within, outside as without}
 use Rattle.flu_laws.specs.OneJob.{JobsHaveTheSameItags, JobsDoTheSame, JobsAreAcceptedAlike, JobsHaveTheSameOwners}
 use Rattle.flu_laws.specs.Uses.{needs}
 use Rattle.flu_apart.specs.declared.classes.Class.TheVariants.{Unused, Kept, Contributed, Shared}
-use Rattle.flu_apart.specs.Apart.{MayBeApart, IsReason, IsFirstReason}
-use Rattle.flu_apart.specs.Classes.{itag, inside, mode_at, is_used, is_contributed, is_kept, class_of}
-use Rattle.flu_contribution.specs.Combining.{Combined, with_effect, is_of_none, is_kept_by_one}
+use Rattle.flu_apart.specs.Apart.{MayBeApart, IsReason}
+use Rattle.flu_apart.specs.Classes.{itag, inside, mode_at, is_used, is_contributed, is_kept}
+use Rattle.flu_contribution.specs.Combining.{Combined, with_effect, is_of_none}
 use Rattle.flu_contribution.specs.Contributions.{is_class_kept, keeps, Contribution, opened, with_event, closed, contributions_from, contributions}
-use Rattle.flu_contribution.specs.Laws.{IsApart, AreNodesApart, IsSetting}
+use Rattle.flu_contribution.specs.Laws.{IsApart, IsSetting}
 use Rattle.flu_contribution.specs.OneJob.{MayBeApartAlike, ContributeTheSame}
-use Rattle.flu_contribution.specs.Sending.{sent, with_due, without_due, with_last, joined_from, start_of}
-use Rattle.flu_contribution.specs.Sharing.{needs_itag, is_itag_of_none, all_sent, joined_parts}
+use Rattle.flu_contribution.specs.Sending.{sent, with_due, without_due, joined_from, start_of}
+use Rattle.flu_contribution.specs.Sharing.{is_itag_of_none, all_sent, joined_parts}
 
 -- what is the same of two programs of a job, by the laws of jobs
 pub record LawsOfJobs : Type 0 where

@@ -6,7 +6,6 @@ use Rattle.flu_model.specs.declared.plans.Node.{Node}
 use Rattle.flu_model.specs.Erasure.{IsSameJob}
 use Rattle.flu_outside.specs.Outside.{Contents, WhereTold}
 use Rattle.flu_parse.specs.Printing.{normal_form}
-use Rattle.flu_partial.specs.declared.values.PartialHead.{PartialHead}
 use Rattle.flu_partial.specs.Partial.{head_text, line_of}
 use Rattle.flu_plan.specs.Laws.{JobsReadPlansAlike}
 use Rattle.flu_readers.specs.OneJob.{JobsReadTheSameParts}
@@ -54,7 +53,7 @@ module _ (laws : LawsBelow) (p q : Program) (same : IsSameJob p q) where
   same_fault is_read left left' (SourceFaulty f) (declared, told) = (
     subst (λ (sources : List Source). f.source < length sources) (λ j. (same j).sources) declared,
     subst (λ (first : (ℕ → Bool) → Contents → Option SourceFault). WhereTold left left' (λ was now. first is_read was ≡ Some f))
-    (laws.selecting p q same).faults told,
+        (laws.selecting p q same).faults told,
   )
   same_fault is_read left left' ReadFault first = first
   same_fault is_read left left' WriteFault first = first

@@ -1,5 +1,5 @@
 -- Programs of one job read the same plan from a text, and print the same text of a plan.
-use Rattle.std.proofs.Common.{◌≡◌, refl, sym, ap, ◌∙◌, ℕ, List, [], ◌∷◌, ◌++◌, length, map, Option, Some, None, Ok}
+use Rattle.std.proofs.Common.{◌≡◌, refl, sym, ap, ◌∙◌, ℕ, List, [], ◌∷◌, ◌++◌, length, Option, Some, None, Ok}
 use Rattle.std.specs.Prelude.{option_map, slice_get, position, nat_le, codes}
 use Rattle.std.specs.List.{flat_map}
 use Rattle.std.proofs.Math.Path.{fun_ext}
@@ -23,7 +23,7 @@ use Rattle.flu_plan.specs.declared.written.WrittenNode.{WrittenNode}
 use Rattle.flu_plan.specs.Faults.{◌>>=◌, ◌>>◌, unless, found_of_each}
 use Rattle.flu_plan.specs.Laws.{ReadPlansAlike}
 use Rattle.flu_plan.specs.Machine.{written_in}
-use Rattle.flu_plan.specs.Printing.{name_of_kind, name_of_source, kind_text, source_text, pred_text, preds_text, kids_text, node_line, printed}
+use Rattle.flu_plan.specs.Printing.{name_of_kind, name_of_source, kind_text, source_text, pred_text, preds_text, kids_text, printed}
 use Rattle.flu_plan.specs.Reading.{text_in, tokens_in, tree_in, resolved, plan_in}
 use Rattle.flu_plan.specs.Resolving.{kind_named, source_named, known, kind_of, source_of, pred_of, kids_of, node_of, names_of}
 

@@ -1,5 +1,5 @@
 -- Programs of one job read the same of the same selected sources.
-use Rattle.std.proofs.Common.{◌≡◌, sym, ◌∙◌, subst, ℕ, List, length, Bool, false, Option, None}
+use Rattle.std.proofs.Common.{◌≡◌, sym, ◌∙◌, subst, ℕ, List, length, Bool, None}
 use Rattle.std.specs.Prelude.{option_map, Contains, if◌then◌else◌}
 use Rattle.std.specs.List.{filter_map}
 use Rattle.flu_model.specs.declared.jobs.Program.{Program}
@@ -13,7 +13,7 @@ use Rattle.flu_streams.specs.Files.{files_of}
 use Rattle.flu_streams.specs.OneJob.{JobsReadTheSame}
 use Rattle.flu_selected.specs.Gathering.{IsRead}
 use Rattle.flu_selected.specs.Laws.{closed_file, closed_files, selected, read_items, first_read_fault}
-use Rattle.flu_selected.specs.OneJob.{SelectTheSame, JobsSelectTheSame}
+use Rattle.flu_selected.specs.OneJob.{JobsSelectTheSame}
 use Rattle.flu_selected.specs.Selecting.{is_among, closed_at}
 
 module _ (law : JobsReadTheSame) (p q : Program) (same : IsSameJob p q) where

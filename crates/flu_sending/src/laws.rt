@@ -2,7 +2,9 @@
 
 ghost use Rattle.flu_sending.specs.Laws.{SentByNeeded, SentByParts, SentLinesMayCome, WhatIsSentCanBeHandedOver, JobsSendTheSame};
 
-use flu_contribution::laws::{merged_lists_agree, only_needed_events_matter, programs_of_a_job_contribute_the_same};
+use flu_contribution::laws::{
+    merged_lists_agree, only_needed_events_matter, programs_of_a_job_contribute_the_same,
+};
 use flu_laws::{programs_of_a_job_are_alike, updates_are_changes};
 use flu_model::laws::itags_have_tags;
 

@@ -5,16 +5,14 @@ use Rattle.std.specs.List.{position, filter_map, flat_map, range_with_len}
 use Rattle.std.proofs.Math.Path.{fun_ext}
 use Rattle.std.proofs.lemmas.Option.{slice_get-map}
 use Rattle.flu_lemmas.proofs.Places.{position-map}
-use Rattle.flu_model.specs.declared.events.Item.{Item}
 use Rattle.flu_model.specs.declared.events.Item.TheVariants.{Event as EventItem, End as EndItem}
 use Rattle.flu_model.specs.declared.events.Tag.{Tag}
 use Rattle.flu_model.specs.declared.jobs.Kind.{Kind}
 use Rattle.flu_model.specs.declared.jobs.Program.{Program}
 use Rattle.flu_model.specs.declared.jobs.Source.{Source}
-use Rattle.flu_model.specs.Erasure.{PlainKind, plain_kind, Job, IsSameJob}
+use Rattle.flu_model.specs.Erasure.{PlainKind, plain_kind, IsSameJob}
 use Rattle.flu_model.specs.Listing.{tag, tags_of_source}
 use Rattle.flu_model.specs.Rules.{is_same_text, is_same_tag}
-use Rattle.flu_outside.specs.Outside.{Contents}
 use Rattle.flu_outside.specs.Taking.{bytes_left}
 use Rattle.flu_rows.specs.declared.row.RowForm.{RowForm}
 use Rattle.flu_rows.specs.declared.row.Fields.{Fields}
@@ -27,7 +25,7 @@ use Rattle.flu_rows.specs.Reading.{read_file}
 use Rattle.flu_streams.specs.declared.faults.Why.{Why}
 use Rattle.flu_streams.specs.declared.faults.Why.TheVariants.{BadRow, UnknownTag, AfterEnd}
 use Rattle.flu_streams.specs.Before.{each_with_before, first_some}
-use Rattle.flu_streams.specs.Good.{rows_in, items_held, event_of, item_in, in_time_order, items_at, lists_of_rows, lists_of, first_fault}
+use Rattle.flu_streams.specs.Good.{rows_in, items_held, event_of, item_in, in_time_order, lists_of_rows, lists_of, first_fault}
 use Rattle.flu_streams.specs.OneJob.{ReadRowsAlike, ReadTheSame}
 use Rattle.flu_streams.specs.Rounds.{row_fault, line_defect, defect_in}
 use Rattle.flu_streams.specs.Tags.{kind_named, key_named, tag_named, place_named, given, given_by, given_to, width}
