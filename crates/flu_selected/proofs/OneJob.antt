@@ -31,9 +31,9 @@ module _ (law : JobsReadTheSame) (p q : Program) (same : IsSameJob p q) where
       else None) (each_with_before (same i).sources)
 
   same_read : (is_read : ℕ → Bool) (name : List ℕ) → IsRead p is_read name → IsRead q is_read name
-  same_read is_read name (is_file, open) = (
+  same_read is_read name (is_file, unclosed) = (
     subst (λ sources. Contains (files_of sources) name) (λ i. (same i).sources) is_file,
-    sym (λ i. is_among (same_closed i is_read) name) ∙ open,
+    sym (λ i. is_among (same_closed i is_read) name) ∙ unclosed,
   )
 
 pub jobs_select_the_same : JobsReadTheSame → JobsSelectTheSame
