@@ -8,6 +8,8 @@ mod moments;
 #[cfg(test)]
 mod rules;
 #[cfg(test)]
+mod shown_times;
+#[cfg(test)]
 mod states;
 #[cfg(test)]
 mod tables;
