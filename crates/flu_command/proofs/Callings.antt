@@ -42,7 +42,8 @@ use Rattle.flu_command.proofs.SameJob.{same_good}
 use Rattle.flu_command.proofs.OneRuns.{LawsOfJobs, one_ending_of_trace, same_job}
 use Rattle.flu_command.proofs.Starts.{same_start, same_name_stops, bad_checkpoint_stops}
 
--- texts are read by their grammar, programs of one job are alike, a defect that a round meets is the first of its source, bytes with a fault are no checkpoint, and a trace has one ending
+-- texts are read by their grammar, programs of one job are alike, a defect that a round meets is the first of its source, bytes with a fault
+-- are no checkpoint, and a trace has one ending
 pub record LawsBelow : Type 0 where
   pub jobs : JobsAreGrammar
   pub plans : PlansAreGrammar

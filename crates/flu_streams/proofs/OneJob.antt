@@ -10,7 +10,7 @@ use Rattle.flu_model.specs.declared.events.Tag.{Tag}
 use Rattle.flu_model.specs.declared.jobs.Kind.{Kind}
 use Rattle.flu_model.specs.declared.jobs.Program.{Program}
 use Rattle.flu_model.specs.declared.jobs.Source.{Source}
-use Rattle.flu_model.specs.Erasure.{PlainKind, plain_kind, IsSameJob}
+use Rattle.flu_model.specs.Erasure.{PlainKind, plain_kind, Job, IsSameJob}
 use Rattle.flu_model.specs.Listing.{tag, tags_of_source}
 use Rattle.flu_model.specs.Rules.{is_same_text, is_same_tag}
 use Rattle.flu_outside.specs.Taking.{bytes_left}
@@ -97,7 +97,8 @@ module _ (kinds others : List Kind) (alike : map plain_kind kinds ≡ map plain_
       ∙ sym (given_plain others name fields))
 
   -- ---- so do the tests, and the first defect
-  same_tests : (s : Source) (ended : Bool) (earlier : List ℕ) (held : ℕ) (row : Row) → tests kinds s ended earlier held row ≡ tests others s ended earlier held row
+  same_tests : (s : Source) (ended : Bool) (earlier : List ℕ) (held : ℕ) (row : Row)
+      → tests kinds s ended earlier held row ≡ tests others s ended earlier held row
   same_tests s ended earlier held (Event time name key fields) = λ j.
       where_true ended AfterEnd ∷ where_true (is_none (same_place s name key j)) UnknownTag
       ∷ where_true (not (is_some (same_given name fields j))) BadRow ∷ test_time s.slack earlier (Event time name key fields)
@@ -152,6 +153,10 @@ module _ (kinds others : List Kind) (alike : map plain_kind kinds ≡ map plain_
   rows_alike = record { defects = same_first_defect; in_lines = same_in_lines; lists = same_row_lists }
 
 -- ---- the sources of a job
+-- the form of its rows
+abbrev form_in : Job → RowForm
+form_in j = form_of j.version
+
 module _ (p q : Program) (same : IsSameJob p q) where
   alike_rows : ReadRowsAlike p.kinds q.kinds
   alike_rows = rows_alike p.kinds q.kinds (ap (λ j. j.kinds) same)
@@ -159,11 +164,11 @@ module _ (p q : Program) (same : IsSameJob p q) where
   same_faults : first_fault p ≡ first_fault q
   same_faults = λ i left. first_some (λ (e : List Source × Source).
       option_map (λ (d : ℕ × Why). record { source = length e.0; row = d.0; why = d.1 })
-      (alike_rows.defects (form_of (same i).version) i e.1 (items_held (form_of (same i).version) left e.0) (bytes_left left e.1.file))) (each_with_before (same i).sources)
+      (alike_rows.defects (form_in (same i)) i e.1 (items_held (form_in (same i)) left e.0) (bytes_left left e.1.file))) (each_with_before (same i).sources)
 
   same_lists : lists_of p ≡ lists_of q
   same_lists = λ i left. flat_map (λ (e : List Source × Source). alike_rows.lists i e.1 (sum_by width e.0)
-      (rows_in (form_of (same i).version) left e.1)) (each_with_before (same i).sources)
+      (rows_in (form_in (same i)) left e.1)) (each_with_before (same i).sources)
 
 pub jobs_read_the_same : (p q : Program) → IsSameJob p q → ReadTheSame p q
 jobs_read_the_same p q same = record { rows = alike_rows p q same; faults = same_faults p q same; lists = same_lists p q same }
