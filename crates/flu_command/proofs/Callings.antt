@@ -3,7 +3,7 @@ use Rattle.std.proofs.Common.{◌≡◌, ◌≢◌, sym, ap, ◌∙◌, refl, su
 use Rattle.std.specs.Prelude.{List, IsTrue}
 use Rattle.flu_outside.specs.Outside.{Contents}
 use Rattle.flu_model.specs.declared.jobs.Program.{Program}
-use Rattle.flu_model.specs.Erasure.{IsSameJob, job_of}
+use Rattle.flu_model.specs.Erasure.{job_of}
 use Rattle.flu_model.specs.declared.plans.Node.{Node}
 use Rattle.flu_model.specs.Modes.{IsAccepted}
 use Rattle.flu_model.specs.Validity.{IsValid}
@@ -11,8 +11,8 @@ use Rattle.flu_deps.specs.Checking.{program_of}
 use Rattle.flu_parse.specs.declared.faults.JobFault.{JobFault}
 use Rattle.flu_parse.specs.Reading.{job_in}
 use Rattle.flu_plan.specs.Reading.{plan_in}
-use Rattle.flu_grammar.specs.Plans.{IsPlanText}
-use Rattle.flu_grammar.specs.Laws.{JobsAreGrammar, PlansAreGrammar}
+use Rattle.flu_grammar.specs.Laws.{JobsAreGrammar, PlansAreGrammar, PlanTextsFitEach}
+use Rattle.flu_laws.specs.OneJob.{JobsAreAcceptedAlike, JobsHaveTheSameOwners}
 use Rattle.flu_plan.specs.declared.fault.PlanFault.{PlanFault}
 use Rattle.flu_outside.specs.Taking.{bytes_left}
 use Rattle.flu_save.specs.Laws.{LawOfFaults}
@@ -39,15 +39,17 @@ use Rattle.flu_command.specs.TextFaults.{IsFirstJobFault}
 use Rattle.flu_command.specs.Calling as calls
 use Rattle.flu_command.proofs.Defects.{good_or_bad, met_defect}
 use Rattle.flu_command.proofs.SameJob.{same_good}
-use Rattle.flu_command.proofs.SameAcceptance.{same_accepted}
-use Rattle.flu_command.proofs.SamePlans.{same_plan, same_valid}
-use Rattle.flu_command.proofs.OneRuns.{one_ending_of_trace, same_job}
+use Rattle.flu_command.proofs.OneRuns.{LawsOfJobs, one_ending_of_trace, same_job}
 use Rattle.flu_command.proofs.Starts.{same_start, same_name_stops, bad_checkpoint_stops}
 
--- texts are read by their grammar, a defect that a round meets is the first of its source, bytes with a fault are no checkpoint, and a trace has one ending
+-- texts are read by their grammar, programs of one job are alike, a defect that a round meets is the first of its source, bytes with a fault
+-- are no checkpoint, and a trace has one ending
 pub record LawsBelow : Type 0 where
   pub jobs : JobsAreGrammar
   pub plans : PlansAreGrammar
+  pub texts_fit : PlanTextsFitEach
+  pub acceptance : JobsAreAcceptedAlike
+  pub of_jobs : LawsOfJobs
   pub meeting : LawOfMeeting
   pub saves : LawOfFaults
   pub traces : OneEnding
@@ -66,15 +68,11 @@ record Leads (wanted : ℕ) (command : Command) (left : Contents) : Type 0 where
   trace : (p : Program) (trace : List ℕ) (ending : Ending) → trace_named command ≡ Some trace → IsGood command left p → ReplaysTo command trace left p ending
       → ending ≢ Complete → wanted ≡ 13
 
--- a plan's text for a program is one for another that is the same job
-same_plan_text : PlansAreGrammar → (p q : Program) (bytes : List ℕ) (nodes : List Node) → IsSameJob p q → IsPlanText p bytes nodes → IsPlanText q bytes nodes
-same_plan_text plans p q bytes nodes same is = (plans q bytes nodes).0 (sym (same_plan p q bytes same) ∙ (plans p bytes nodes).1 is)
-
-pub valid_of_text : JobsAreGrammar → PlansAreGrammar → (job : WantedJob) (plan : List ℕ) (left : Contents) (p q : Program)
+pub valid_of_text : JobsAreGrammar → PlanTextsFitEach → JobsHaveTheSameOwners → (job : WantedJob) (plan : List ℕ) (left : Contents) (p q : Program)
     → HasJob job left p → HasJob job left q → HasValidPlan job plan left p → HasValidPlan job plan left q
-valid_of_text jobs plans job plan left p q first second found =
+valid_of_text jobs fit owners job plan left p q first second found =
     let same = same_job jobs job left p q first second in
-    (found.0, same_plan_text plans p q (plan_behind job plan left) found.0 same found.1, same_valid p q found.0 same found.2)
+    (found.0, fit p q same (plan_behind job plan left) found.0 found.1, (owners p q same).valid found.0 found.2)
 
 module _ (laws : LawsBelow) where
   not_both : (job : WantedJob) (name : List ℕ) (left : Contents) (p : Program) (fault : JobFault) → job ≡ Named name → HasJob job left p
@@ -86,15 +84,15 @@ module _ (laws : LawsBelow) where
   no_defect : (command : Command) (left : Contents) (p q : Program) → HasJob (job_wanted command) left p → HasJob (job_wanted command) left q
       → AreSourcesGood (how_read command) (texts_named command) left p → HasDefect (how_read command) (texts_named command) left q → ⊥
   no_defect command left p q first second good bad =
-      good_or_bad (how_read command) (texts_named command) left q (same_good (how_read command) (texts_named command) left p q
+      good_or_bad (how_read command) (texts_named command) left q (same_good laws.of_jobs.reading (how_read command) (texts_named command) left p q
       (same_job laws.jobs (job_wanted command) left p q first second) good) bad
 
   accepted_of_text : (job : WantedJob) (left : Contents) (p q : Program) → HasJob job left p → HasJob job left q → IsAccepted p → IsAccepted q
-  accepted_of_text job left p q first second = same_accepted p q (same_job laws.jobs job left p q first second)
+  accepted_of_text job left p q first second = (laws.acceptance p q (same_job laws.jobs job left p q first second)).accepted
 
   same_plan_asked : (job : WantedJob) (plan : List ℕ) (left : Contents) (p q : Program) → HasJob job left p → HasJob job left q → HasValidPlan job plan left p
       → HasValidPlan job plan left q
-  same_plan_asked = valid_of_text laws.jobs laws.plans
+  same_plan_asked = valid_of_text laws.jobs laws.texts_fit laws.of_jobs.owners
 
   start_of_text : (command : Command) (left : Contents) (p q : Program) → HasJob (job_wanted command) left p → HasJob (job_wanted command) left q
       → CanStart command left p → CanStart command left q
@@ -115,7 +113,7 @@ module _ (laws : LawsBelow) where
 
   -- ---- traces that end otherwise
   one_ending : OneEndingOfATrace
-  one_ending = one_ending_of_trace laws.jobs laws.plans laws.traces
+  one_ending = one_ending_of_trace laws.jobs laws.of_jobs laws.traces
 
   only_complete : (command : Command) (left : Contents) (p : Program) → HasJob (job_wanted command) left p → HasCompleteTrace command left p
       → ¬ HasFaultyTrace command left

@@ -1,12 +1,9 @@
 pub mod DemoAccepted
 pub mod RateLemmas
 pub mod SameJob
-pub mod SameReport
 pub mod SameFold
 pub mod Mendings
 pub mod Defects
-pub mod SameAcceptance
-pub mod SamePlans
 pub mod SameViews
 pub mod Starts
 pub mod OneRuns

@@ -1,23 +1,23 @@
--- Programs that are the same job have the same report of the rows of some sources behind what was read, from an opening.
-use Rattle.std.proofs.Common.{◌≡◌, ap, ◌∙◌, ℕ, List}
-use Rattle.flu_model.specs.declared.events.Item.{Item}
+-- Programs that are the same job have the same report of the same sources, and of their rows behind what was read, from an opening.
+use Rattle.std.proofs.Common.{◌≡◌, ℕ, List}
+use Rattle.flu_laws.specs.OneJob.{DoTheSame, ReportTheSame}
 use Rattle.flu_model.specs.declared.jobs.Program.{Program}
-use Rattle.flu_model.specs.Erasure.{IsSameJob}
+use Rattle.flu_model.specs.Contents.{Contents}
 use Rattle.flu_model.specs.Folding.{final_outputs}
 use Rattle.flu_model.specs.Merging.{merged}
 use Rattle.flu_model.specs.Reports.{report}
 use Rattle.flu_outside.specs.Outside.{Contents as Files}
 use Rattle.flu_rounds.specs.Written.{lists_above}
 use Rattle.flu_streams.specs.Good.{lists_of}
+use Rattle.flu_streams.specs.OneJob.{ReadTheSame}
 use Rattle.flu_command.specs.Behind.{emptied_each, lists_behind}
 use Rattle.flu_command.specs.Openings.{Opening, report_from}
-use Rattle.flu_command.proofs.SameReport.{same_outputs, same_lines_of, same_lists}
 
-module _ (p q : Program) (same : IsSameJob p q) where
+module _ (p q : Program) (updates : DoTheSame p q) (reports : ReportTheSame p q) (reading : ReadTheSame p q) where
+  pub same_report : (s : Contents) (left : Files) → report p (final_outputs p s (lists_of p left)) ≡ report q (final_outputs q s (lists_of q left))
+  same_report s left = λ j. reports.reports j (updates.outputs j s (merged (reading.lists j left)))
+
   pub same_report_from : (o : Opening) (texts : List (List ℕ)) (left : Files) → report_from o texts left p ≡ report_from o texts left q
   unfolding lists_behind
-  same_report_from o texts left =
-      let files = emptied_each texts left in
-      same_lines_of p q (final_outputs p o.cells (lists_above o.border (lists_of p files))) same
-      ∙ ap (report q) (same_outputs p q o.cells (merged (lists_above o.border (lists_of p files))) same)
-      ∙ ap (λ (lists : List (List Item)). report q (final_outputs q o.cells (lists_above o.border lists))) (same_lists p q files same)
+  same_report_from o texts left = λ j.
+      reports.reports j (updates.outputs j o.cells (merged (lists_above o.border (reading.lists j (emptied_each texts left)))))

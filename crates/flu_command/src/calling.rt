@@ -3,9 +3,10 @@
 ghost use Rattle.flu_command.specs.Calling.{CallsForOneStatus, DoneIsCalledFor, JobFaultIsCalledFor, ConflictIsCalledFor, PlanDefectIsCalledFor};
 ghost use Rattle.flu_command.specs.Calling.{SaveDefectIsCalledFor, SourceFaultIsCalledFor, TraceFaultIsCalledFor};
 
-use flu_grammar::laws::{jobs_are_grammar, plans_are_grammar};
+use flu_grammar::laws::{jobs_are_grammar, plans_are_grammar, programs_of_a_job_have_one_plan};
+use flu_laws::programs_of_a_job_are_alike;
 use flu_save::faults_are_no_checkpoints;
-use flu_streams::rounds_meet_what_is_there;
+use flu_streams::{programs_of_a_job_read_the_same, rounds_meet_what_is_there};
 use flu_trace::laws::a_trace_has_one_ending;
 
 /// A command and its files call for one status at most, so that the refusals come in an order.
@@ -16,6 +17,9 @@ pub fn files_call_for_one_status()
     faults_are_no_checkpoints();
     jobs_are_grammar();
     plans_are_grammar();
+    programs_of_a_job_are_alike();
+    programs_of_a_job_have_one_plan();
+    programs_of_a_job_read_the_same();
     rounds_meet_what_is_there();
 }
 
@@ -34,5 +38,8 @@ pub fn what_ends_a_command_is_called_for()
     faults_are_no_checkpoints();
     jobs_are_grammar();
     plans_are_grammar();
+    programs_of_a_job_are_alike();
+    programs_of_a_job_have_one_plan();
+    programs_of_a_job_read_the_same();
     rounds_meet_what_is_there();
 }

@@ -3,7 +3,9 @@
 ghost use Rattle.flu_command.specs.OneText.{TextsHaveOneJob, PlansFitEach, JobsHaveOneReport, JobsHaveOneRest, JobsHaveGoodSources};
 ghost use Rattle.flu_command.specs.OneText.{JobsHaveMendedSources, GoodSourcesHaveNone, StartsHaveRows};
 
-use flu_grammar::laws::{jobs_are_grammar, plans_are_grammar};
+use flu_grammar::laws::{jobs_are_grammar, programs_of_a_job_have_one_plan};
+use flu_laws::programs_of_a_job_are_alike;
+use flu_streams::programs_of_a_job_read_the_same;
 
 /// The programs of a text are one job: they differ only in the places of their expressions in memory.
 pub fn texts_have_one_job()
@@ -17,7 +19,8 @@ pub fn plans_fit_each()
     ensures { PlansFitEach }
 {
     jobs_are_grammar();
-    plans_are_grammar();
+    programs_of_a_job_are_alike();
+    programs_of_a_job_have_one_plan();
 }
 
 /// Programs that are one job have one report of the rows of the same files, from a state and from an opening; and sources are good for one
@@ -27,7 +30,10 @@ pub fn programs_of_a_job_agree()
     ensures rest { JobsHaveOneRest }
     ensures good { JobsHaveGoodSources }
     ensures mended { JobsHaveMendedSources }
-{}
+{
+    programs_of_a_job_are_alike();
+    programs_of_a_job_read_the_same();
+}
 
 /// Good sources have no defect.
 pub fn good_sources_have_no_defect()

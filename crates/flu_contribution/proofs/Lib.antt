@@ -10,3 +10,4 @@ pub mod Merged
 pub mod Sent
 pub mod Reading
 pub mod KeptLemmas
+pub mod OneJob

@@ -4,3 +4,4 @@ pub mod Laws
 pub mod Sending
 pub mod Sharing
 pub mod Parts
+pub mod OneJob

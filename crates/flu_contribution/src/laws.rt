@@ -1,6 +1,7 @@
 //! Laws of nodes apart whose events are handled by processes of their own, which read only some of the streams and send what their events
 //! contributed (`docs/SCALE.md`). Each law is the contract of a function that does nothing.
 
+ghost use Rattle.flu_contribution.specs.OneJob.{JobsMayBeApartAlike, JobsContributeTheSame};
 ghost use Rattle.flu_contribution.specs.Sharing.{OnlyNeededEventsMatter, MergedListsAgree, WhatIsSentIsJoined, PartsGiveTheReport};
 
 use crate::contributions_give_the_fold;
@@ -38,4 +39,13 @@ pub fn parts_give_the_report()
     only_needed_events_matter();
     merged_lists_agree();
     what_is_sent_is_joined();
+}
+
+/// For programs of one job, which differ only in where the boxes of their expressions lie in memory, the same nodes of a plan may be apart,
+/// each contributes the same, and what the nodes sent is joined to the same.
+pub fn programs_of_a_job_contribute_the_same()
+    ensures apart { JobsMayBeApartAlike }
+    ensures contributions { JobsContributeTheSame }
+{
+    flu_laws::programs_of_a_job_are_alike();
 }

@@ -18,9 +18,9 @@ use Rattle.flu_plan.specs.Faults.{◌>>=◌}
 use Rattle.flu_plan.specs.Machine.{written_in}
 use Rattle.flu_plan.specs.Grammar.{ArePlan, FoundIsPlan}
 use Rattle.flu_plan.specs.Reading.{text_in, found_tokens, tokens_in, resolved, plan_in}
-use Rattle.flu_plan.specs.Laws.{PlansKeepRules}
+use Rattle.flu_plan.specs.Laws.{PlansKeepRules, JobsReadPlansAlike}
 use Rattle.flu_grammar.specs.Plans.{IsPlanText}
-use Rattle.flu_grammar.specs.Laws.{PlansAreGrammar, TextsHaveOnePlan}
+use Rattle.flu_grammar.specs.Laws.{PlansAreGrammar, TextsHaveOnePlan, PlanTextsFitEach, JobsHaveOnePlan}
 use Rattle.flu_grammar.proofs.Looks.{ok_same, passed, passes, binds}
 use Rattle.flu_grammar.proofs.PlanRead.{resolved_means}
 use Rattle.flu_grammar.proofs.PlanWritten.{means_resolved}
@@ -75,3 +75,11 @@ plans_are_grammar tokens found kept = λ p bytes plan. (is_text tokens found kep
 
 pub texts_have_one_plan : PlansAreGrammar → TextsHaveOnePlan
 texts_have_one_plan grammar = λ p bytes a b is_a is_b. ok_same a b (sym ((grammar p bytes a).1 is_a) ∙ (grammar p bytes b).1 is_b)
+
+-- ---- for programs of one job
+pub texts_fit_each : PlansAreGrammar → JobsReadPlansAlike → PlanTextsFitEach
+texts_fit_each grammar alike = λ p q same bytes plan is.
+    (grammar q bytes plan).0 ((λ i. (sym (alike p q same).reads) i bytes) ∙ (grammar p bytes plan).1 is)
+
+pub jobs_have_one_plan : PlansAreGrammar → TextsHaveOnePlan → JobsReadPlansAlike → JobsHaveOnePlan
+jobs_have_one_plan grammar one alike = λ p q same bytes a b is_a is_b. one q bytes a b (texts_fit_each grammar alike p q same bytes a is_a) is_b

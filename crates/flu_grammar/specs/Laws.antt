@@ -8,7 +8,7 @@ use Rattle.flu_model.specs.declared.jobs.Kind.{Kind}
 use Rattle.flu_model.specs.declared.jobs.Depend.{Depend}
 use Rattle.flu_model.specs.declared.jobs.Source.{Source}
 use Rattle.flu_model.specs.Texts.{Unit}
-use Rattle.flu_model.specs.Erasure.{Job, job_of}
+use Rattle.flu_model.specs.Erasure.{Job, job_of, IsSameJob}
 use Rattle.flu_rules.specs.Kept.{KeepsRules}
 use Rattle.flu_parse.specs.Laws.{job_with}
 use Rattle.flu_parse.specs.Printing.{normal_form}
@@ -26,6 +26,15 @@ PlansAreGrammar = (p : Program) (bytes : List ℕ) (plan : List Node) → (plan_
 -- no bytes are the text of two plans
 abbrev pub TextsHaveOnePlan : Type 0
 TextsHaveOnePlan = (p : Program) (bytes : List ℕ) (a b : List Node) → IsPlanText p bytes a → IsPlanText p bytes b → a ≡ b
+
+-- programs of one job differ only in where the boxes of their expressions lie in memory: a plan's text for one is its text for the other, and
+-- no bytes are the texts of two plans for them
+abbrev pub PlanTextsFitEach : Type 0
+PlanTextsFitEach = (p q : Program) → IsSameJob p q → (bytes : List ℕ) (plan : List Node) → IsPlanText p bytes plan → IsPlanText q bytes plan
+
+abbrev pub JobsHaveOnePlan : Type 0
+JobsHaveOnePlan =
+    (p q : Program) → IsSameJob p q → (bytes : List ℕ) (a b : List Node) → IsPlanText p bytes a → IsPlanText q bytes b → a ≡ b
 
 -- the job that is read from some bytes is the one whose text they are
 abbrev pub JobsAreGrammar : Type 0

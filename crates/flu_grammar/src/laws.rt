@@ -7,10 +7,10 @@ ghost use Rattle.flu_grammar.specs.Faults.{TwiceNamedIsOnTwice, TwiceNamedIsFile
 ghost use Rattle.flu_grammar.specs.BrokenJobs.{FaultsAreByRule};
 ghost use Rattle.flu_grammar.specs.BrokenPlans.{PlanFaultsAreByRule};
 ghost use Rattle.flu_grammar.specs.Laws.{JobsAreGrammar, TextsHaveOneJob, PlansAreGrammar, TextsHaveOnePlan, NormalFormIsText, PrintedIsText};
-ghost use Rattle.flu_grammar.specs.Laws.{JobTextsKeepRules, NormalFormIsShort, NormalFormIsUtf8};
+ghost use Rattle.flu_grammar.specs.Laws.{JobTextsKeepRules, NormalFormIsShort, NormalFormIsUtf8, PlanTextsFitEach, JobsHaveOnePlan};
 
 use flu_parse::laws::{jobs_keep_rules, printed_is_read};
-use flu_plan::laws::{found_is_plan, plans_keep_rules};
+use flu_plan::laws::{found_is_plan, plans_keep_rules, programs_of_a_job_read_plans_alike};
 use flu_syntax::laws::{found_is_job, too_deep_is_the_65th, unexpected_is_first};
 use flu_text::laws::{reading_is_exact, tokens_stand};
 
@@ -43,6 +43,16 @@ pub fn texts_have_one_plan()
     ensures { TextsHaveOnePlan }
 {
     plans_are_grammar();
+}
+
+/// Programs of one job, which differ only in where the boxes of their expressions lie in memory, have the same plan of a text.
+pub fn programs_of_a_job_have_one_plan()
+    ensures each { PlanTextsFitEach }
+    ensures one { JobsHaveOnePlan }
+{
+    plans_are_grammar();
+    texts_have_one_plan();
+    programs_of_a_job_read_plans_alike();
 }
 
 /// What is printed of a job, or of a plan, is a text of it.

@@ -20,3 +20,6 @@ pub mod SpanLemmas
 pub mod Histories
 pub mod Central
 pub mod Versions
+pub mod PlainEffects
+pub mod PlainModes
+pub mod OneJob

@@ -6,3 +6,4 @@ pub mod Lawful
 pub mod Spans
 pub mod Lots
 pub mod Versions
+pub mod OneJob

@@ -5,6 +5,7 @@
 ghost use Rattle.flu_laws.specs.Consistency.{UpdatesLeft, UpdatesRight, Commutes, JoinsSplits};
 ghost use Rattle.flu_laws.specs.Lawful.{AcceptanceByUses, AcceptedIsLawful, DependencyTurns};
 ghost use Rattle.flu_laws.specs.Lots.{CentralLaw};
+ghost use Rattle.flu_laws.specs.OneJob.{JobsHaveTheSameItags, JobsDoTheSame, JobsAreAcceptedAlike, JobsHaveTheSameOwners, JobsReportTheSame};
 ghost use Rattle.flu_laws.specs.Spans.{MomentsAreOfEvents, PlacesRise, SpansAddUp, UpdatesInPlace};
 ghost use Rattle.flu_laws.specs.Updating.{TextsAreLocal, CellsAreLocal, ChangesAreLocal, UpdatesAreChanges, KeepsSorts, FoldKeepsSorts, UnwrittenKeeps};
 ghost use Rattle.flu_laws.specs.Updating.{ChangesKeepSorts, ChangesMix};
@@ -100,4 +101,15 @@ pub fn version_1_reads_are_owned()
     ensures nothing_is_shared { NothingIsShared }
     ensures modes { OwnsWhatItReads }
     ensures conflicts { ConflictsWithoutRead }
+{}
+
+/// Programs of one job differ only in where the boxes of their expressions lie in memory. So they have the same itags, an event does the
+/// same for them, tags use cells in the same modes, the nodes of a plan own the same itags, and outputs have the same report. One is
+/// accepted if the other is, and a plan is valid for one if it is for the other.
+pub fn programs_of_a_job_are_alike()
+    ensures itags { JobsHaveTheSameItags }
+    ensures updates { JobsDoTheSame }
+    ensures acceptance { JobsAreAcceptedAlike }
+    ensures owners { JobsHaveTheSameOwners }
+    ensures reports { JobsReportTheSame }
 {}

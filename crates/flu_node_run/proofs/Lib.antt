@@ -1,2 +1,3 @@
 pub mod Assembled
 pub mod Moved
+pub mod OneJob

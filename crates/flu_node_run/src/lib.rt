@@ -3,6 +3,7 @@
 
 mod faults;
 mod gathering;
+pub mod laws;
 mod texts;
 mod writing;
 

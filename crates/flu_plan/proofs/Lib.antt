@@ -19,3 +19,4 @@ pub mod PlanBack
 pub mod Lengths
 pub mod PrintedPlan
 pub mod HasText
+pub mod OneJob

@@ -1,7 +1,7 @@
 //! Laws of plan texts, each the contract of a function that does nothing.
 
 ghost use Rattle.flu_plan.specs.Grammar.{FoundIsPlan, PlansAreUnique, UnexpectedIsFirst};
-ghost use Rattle.flu_plan.specs.Laws.{PlansKeepRules, PlansHaveText, PrintedIsRead};
+ghost use Rattle.flu_plan.specs.Laws.{PlansKeepRules, PlansHaveText, PrintedIsRead, JobsReadPlansAlike};
 
 use flu_layout::laws::{keys_are_laid, laid_is_read, read_may_be_printed};
 use flu_text::laws::signs_stand;
@@ -39,3 +39,9 @@ pub fn printed_is_read()
     laid_is_read();
     keys_are_laid();
 }
+
+/// Programs of one job, which differ only in where the boxes of their expressions lie in memory, read the same plan from a text, or the
+/// same fault, and print the same text of a plan.
+pub fn programs_of_a_job_read_plans_alike()
+    ensures { JobsReadPlansAlike }
+{}

@@ -2,6 +2,7 @@
 
 ghost use Rattle.flu_readers.specs.Laws.{FilesThatAreReadMatter, GoodSourcesGiveStreams, GoodWhereRead, GoodPartsGiveStreams, ANodeReadsItsPart, TheRestIsRead};
 ghost use Rattle.flu_readers.specs.Laws.{SelectedPartsGiveTheReport, GoodSourcesGiveTheReport};
+ghost use Rattle.flu_readers.specs.OneJob.{JobsReadTheSameParts};
 
 /// Where the files of the sources that are read have the same bytes, what is read of them is the same, and the same defect is the first,
 /// whatever the other files have: each process may have files of its own.
@@ -60,4 +61,14 @@ pub fn selected_parts_give_the_report()
     a_node_reads_its_part();
     the_rest_is_read();
     flu_contribution::laws::parts_give_the_report();
+}
+
+/// For programs of one job, which differ only in where the boxes of their expressions lie in memory, a node apart and the one that combines
+/// read the same sources, and the same of them.
+pub fn programs_of_a_job_read_the_same_parts()
+    ensures { JobsReadTheSameParts }
+{
+    flu_streams::programs_of_a_job_read_the_same();
+    flu_contribution::laws::programs_of_a_job_contribute_the_same();
+    flu_selected::programs_of_a_job_select_the_same();
 }

@@ -4,3 +4,4 @@ mod Names
 mod Lists
 mod Faults
 mod ReadSources
+mod OneJob

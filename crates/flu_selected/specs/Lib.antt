@@ -4,3 +4,4 @@ pub mod Origin
 pub mod Shared
 pub mod Laws
 pub mod Gathering
+pub mod OneJob

@@ -1,6 +1,7 @@
 //! Laws of what is read where files are closed, each the contract of a function that does nothing.
 
 ghost use Rattle.flu_selected.specs.Laws.{OpenNamesAgree, OpenNamesAgreeAtStart, LawOfLists, LawOfLength, StreamsStay, LawOfDefects, GoodStayGood};
+ghost use Rattle.flu_selected.specs.OneJob.{JobsSelectTheSame};
 
 /// A name that is not closed has what the files behind have under it, at every moment.
 pub fn open_names_agree()
@@ -23,3 +24,11 @@ pub fn closed_sources_have_no_defect()
     ensures first { LawOfDefects }
     ensures good { GoodStayGood }
 {}
+
+/// The law of jobs: for programs of one job, which differ only in where the boxes of their expressions lie in memory, the same files are
+/// closed where the same sources are read, and the same fault is the first.
+pub fn programs_of_a_job_select_the_same()
+    ensures { JobsSelectTheSame }
+{
+    flu_streams::programs_of_a_job_read_the_same();
+}

@@ -11,7 +11,10 @@ mod selected;
 
 pub use closed::ClosedNames;
 pub use gathering::{closed_files, gather_selected};
-pub use laws::{closed_sources_have_no_defect, open_names_agree, selected_sources_are_read};
+pub use laws::{
+    closed_sources_have_no_defect, open_names_agree, programs_of_a_job_select_the_same,
+    selected_sources_are_read,
+};
 pub use lent::Lent;
 pub use origin::Origin;
 pub use selected::Selected;

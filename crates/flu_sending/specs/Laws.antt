@@ -6,6 +6,7 @@ use Rattle.flu_model.specs.declared.events.Event.{Event}
 use Rattle.flu_model.specs.declared.events.Item.{Item}
 use Rattle.flu_model.specs.declared.jobs.Program.{Program}
 use Rattle.flu_model.specs.declared.plans.Node.{Node}
+use Rattle.flu_model.specs.Erasure.{IsSameJob}
 use Rattle.flu_model.specs.Itags.{count_of_itags}
 use Rattle.flu_model.specs.Merging.{all_events, merged}
 use Rattle.flu_model.specs.Streaming.{are_streams}
@@ -16,7 +17,7 @@ use Rattle.flu_partial.specs.Order.{AreRest}
 use Rattle.flu_partial.specs.Partial.{IsTime}
 use Rattle.flu_handover.specs.Handing.{line_of, IsSendable}
 use Rattle.flu_handover.specs.Laws.{IsInRange}
-use Rattle.flu_sending.specs.Lines.{all_times, last_time, sent_by}
+use Rattle.flu_sending.specs.Lines.{all_times, last_time, lines_of, sent_by}
 
 -- items as code holds them: their times are below 2^63, their events have values of 64 bits, and there are fewer than 2^64 events
 pub record AreReadable (lists : List (List Item)) : Type 0 where
@@ -55,3 +56,11 @@ abbrev pub SentLinesMayCome : Type 0
 SentLinesMayCome =
     (p : Program) (nodes : List Node) (w : ℕ) (last : Option ℕ) (lists : List (List Item))
     → RiseStrictly (merged lists) → AreRest Head (map (line_of p last) (sent_by p nodes w lists))
+
+-- PROGRAMS OF ONE JOB differ only in where the boxes of their expressions lie in memory: a node sends the same, in the same lines
+pub record SendTheSame (p q : Program) : Type 0 where
+  pub lines : lines_of p ≡ lines_of q
+  pub sent : sent_by p ≡ sent_by q
+
+abbrev pub JobsSendTheSame : Type 0
+JobsSendTheSame = (p q : Program) → IsSameJob p q → SendTheSame p q

@@ -1,9 +1,11 @@
 //! Laws of what a node apart sends, each the contract of a function that does nothing.
 
-ghost use Rattle.flu_sending.specs.Laws.{SentByNeeded, SentByParts, SentLinesMayCome, WhatIsSentCanBeHandedOver};
+ghost use Rattle.flu_sending.specs.Laws.{SentByNeeded, SentByParts, SentLinesMayCome, WhatIsSentCanBeHandedOver, JobsSendTheSame};
 
-use flu_contribution::laws::{merged_lists_agree, only_needed_events_matter};
-use flu_laws::updates_are_changes;
+use flu_contribution::laws::{
+    merged_lists_agree, only_needed_events_matter, programs_of_a_job_contribute_the_same,
+};
+use flu_laws::{programs_of_a_job_are_alike, updates_are_changes};
 use flu_model::laws::itags_have_tags;
 
 /// Each contribution that a node sends of streams can be handed over, and its times and numbers are in the range of a line: the streams have one
@@ -32,3 +34,12 @@ pub fn lines_are_determined()
 pub fn sent_lines_may_come()
     ensures { SentLinesMayCome }
 {}
+
+/// For programs of one job, which differ only in where the boxes of their expressions lie in memory, a node sends the same of the same
+/// streams, in the same lines.
+pub fn programs_of_a_job_send_the_same()
+    ensures { JobsSendTheSame }
+{
+    programs_of_a_job_are_alike();
+    programs_of_a_job_contribute_the_same();
+}

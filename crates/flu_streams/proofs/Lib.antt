@@ -25,3 +25,4 @@ pub mod RefillEnds
 pub mod Cuts
 pub mod Fronts
 pub mod Later
+pub mod OneJob

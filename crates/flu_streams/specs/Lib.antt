@@ -13,3 +13,4 @@ pub mod Holding
 pub mod LoopHeld
 pub mod Fronts
 pub mod Counts
+pub mod OneJob

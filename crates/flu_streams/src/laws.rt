@@ -4,6 +4,7 @@ ghost use Rattle.flu_streams.specs.Borders.{LawOfBorders, ItemsAreCut};
 ghost use Rattle.flu_streams.specs.Counts.{OneMoreInTurn, LawOfCounts};
 ghost use Rattle.flu_streams.specs.Holding.{LawOfStart, LawOfEnds, LawOfBounds};
 ghost use Rattle.flu_streams.specs.Fronts.{LawOfFronts, LawOfFrontsAbove, LawOfMeeting};
+ghost use Rattle.flu_streams.specs.OneJob.{JobsReadTheSame};
 ghost use Rattle.flu_streams.specs.Rounds.{LawOfRounds, LawOfNoRows, LawOfLastRound, LawOfLastAbove};
 
 /// The law of borders: what is cut at a time can be folded in turn. The fold of the events up to the time, and then, from its state,
@@ -63,4 +64,10 @@ pub fn rounds_meet_what_is_there()
 /// ends.
 pub fn rounds_hold_few()
     ensures { LawOfBounds }
+{}
+
+/// The law of jobs: programs of one job, which differ only in where the boxes of their expressions lie in memory, read the same of the same
+/// files: the same first fault and the same lists of items.
+pub fn programs_of_a_job_read_the_same()
+    ensures { JobsReadTheSame }
 {}

@@ -1,7 +1,7 @@
--- Programs that are the same job are accepted alike.
-use Rattle.std.proofs.Common.{◌≡◌, refl, sym, ap, ◌∙◌, subst, ℕ, List, Bool, false, ◌||◌, ◌==◌, map, Option, Some, None}
+-- A tag has the same mode on a cell for programs of one job.
+use Rattle.std.proofs.Common.{◌≡◌, refl, sym, ap, ◌∙◌, ℕ, List, Bool, false, ◌||◌, ◌==◌, map, Option, Some, None}
 use Rattle.std.specs.Prelude.{option_map, slice_get}
-use Rattle.std.specs.List.{list_any, Contains}
+use Rattle.std.specs.List.{list_any}
 use Rattle.std.proofs.Math.Path.{fun_ext}
 use Rattle.std.proofs.lemmas.Option.{slice_get-map}
 use Rattle.flu_lemmas.proofs.Searches.{list_any-map}
@@ -10,21 +10,16 @@ use Rattle.flu_model.specs.declared.events.Tag.{Tag}
 use Rattle.flu_model.specs.declared.jobs.Act.{Act}
 use Rattle.flu_model.specs.declared.jobs.Act.TheVariants.{Add, Raise, Set, Clear, ClearFamily, Emit, Flush}
 use Rattle.flu_model.specs.declared.jobs.Action.{Action}
-use Rattle.flu_model.specs.declared.jobs.Depend.{Depend}
 use Rattle.flu_model.specs.declared.jobs.Expr.{Expr}
 use Rattle.flu_model.specs.declared.jobs.Expr.TheVariants.{Lit, Value, Key, Item, Time, Read, Has, Neg', Not', Two'}
 use Rattle.flu_model.specs.declared.jobs.Kind.{Kind}
 use Rattle.flu_model.specs.declared.jobs.Program.{Program}
-use Rattle.flu_model.specs.declared.jobs.Source.{Source}
 use Rattle.flu_model.specs.declared.modes.Mode.{Mode}
 use Rattle.flu_model.specs.Erasure.{Term, Literal, EventValue, EventKey, EventItem, EventTime, CellRead, CellHeld, Negative, Negation, Operation, term_of}
 use Rattle.flu_model.specs.Erasure.{PlainAct, Adding, Raising, Setting, Clearing, ClearingFamily, Emitting, Flushing, plain_act, PlainAction}
-use Rattle.flu_model.specs.Erasure.{plain_action, PlainKind, plain_kind, Job}
-use Rattle.flu_model.specs.Erasure.{IsSameJob}
-use Rattle.flu_model.specs.Itags.{ties_tags}
-use Rattle.flu_model.specs.Listing.{itags_of_sources}
+use Rattle.flu_model.specs.Erasure.{plain_action, PlainKind, plain_kind, Job, IsSameJob}
 use Rattle.flu_model.specs.Modes.{means, expr_reads, guard_reads, piece_reads, act_reads, action_reads, act_overwrites, act_adds, act_raises, mode_from}
-use Rattle.flu_model.specs.Modes.{mode_among, mode_of, modes_conflict, IsInUniverse, IsAccepted}
+use Rattle.flu_model.specs.Modes.{mode_among, mode_of}
 use Rattle.flu_model.specs.Updates.{actions_of}
 
 -- ---- the mode of a tag depends on its kind as plain data
@@ -162,17 +157,7 @@ mode_by_plain : (version : ℕ) (kinds : List Kind) (t : Tag) (c : Cell)
 mode_by_plain version kinds t c = mode-plain version t.key c (slice_get kinds t.kind)
     ∙ ap (plain_mode version t.key c) (sym (slice_get-map plain_kind kinds t.kind))
 
-same_mode : (p q : Program) (t : Tag) (c : Cell) → IsSameJob p q → mode_of p t c ≡ mode_of q t c
+pub same_mode : (p q : Program) (t : Tag) (c : Cell) → IsSameJob p q → mode_of p t c ≡ mode_of q t c
 same_mode p q t c same =
     mode_by_plain p.version p.kinds t c
     ∙ (ap (λ (j : Job). plain_mode j.version t.key c (slice_get j.kinds t.kind)) same ∙ sym (mode_by_plain q.version q.kinds t c))
-
--- ---- so does acceptance
-same_universe : (p q : Program) (t : Tag) → IsSameJob p q → IsInUniverse q t → IsInUniverse p t
-same_universe p q t same = subst (λ (ss : List Source). (n : ℕ) × Contains (itags_of_sources 0 ss) (t, n)) (ap (λ j. j.sources) (sym same))
-
-pub same_accepted : (p q : Program) → IsSameJob p q → IsAccepted p → IsAccepted q
-same_accepted p q same accepted a b c in_a in_b conflict =
-    ap (λ (ds : List Depend). list_any (ties_tags a b) ds) (ap (λ j. j.depends) (sym same))
-    ∙ accepted a b c (same_universe p q a same in_a) (same_universe p q b same in_b)
-    ((λ i. modes_conflict (same_mode p q a c same i) (same_mode p q b c same i)) ∙ conflict)
