@@ -34,6 +34,8 @@ pub enum Status {
     PutFault,
     /// A trace has a fault, or stops too early.
     TraceFault,
+    /// A partial has a defect.
+    PartialDefect,
 }
 
 impl Status {
@@ -54,6 +56,7 @@ impl Status {
             Status::SaveDefect => 11,
             Status::PutFault => 12,
             Status::TraceFault => 13,
+            Status::PartialDefect => 14,
         }
     }
 }
