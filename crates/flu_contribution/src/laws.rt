@@ -2,7 +2,7 @@
 //! contributed (`docs/SCALE.md`). Each law is the contract of a function that does nothing.
 
 ghost use Rattle.flu_contribution.specs.OneJob.{JobsMayBeApartAlike, JobsContributeTheSame};
-ghost use Rattle.flu_contribution.specs.Sharing.{OnlyNeededEventsMatter, MergedListsAgree, WhatIsSentIsJoined, PartsGiveTheReport};
+ghost use Rattle.flu_contribution.specs.Sharing.{OnlyNeededEventsMatter, MergedEventsRiseStrictly, MergedListsAgree, WhatIsSentIsJoined, PartsGiveTheReport};
 
 use crate::contributions_give_the_fold;
 
@@ -15,6 +15,11 @@ pub fn only_needed_events_matter()
 /// lists, in the same order.
 pub fn merged_lists_agree()
     ensures { MergedListsAgree }
+{}
+
+/// The merged events of streams rise strictly: each is before all later ones.
+pub fn merged_events_rise_strictly()
+    ensures { MergedEventsRiseStrictly }
 {}
 
 /// A node sends its contributions in order, without those of no event, but always the last one. The fold over the events that are inside none of

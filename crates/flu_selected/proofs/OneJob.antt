@@ -19,7 +19,7 @@ use Rattle.flu_selected.specs.Selecting.{is_among, closed_at}
 
 -- the form of a job's rows
 abbrev form_in : Job → RowForm
-form_in j = form_of j.version
+form_in j = form_of j.version j.iso
 
 module _ (law : JobsReadTheSame) (p q : Program) (same : IsSameJob p q) where
   same_closed : closed_files p ≡ closed_files q

@@ -6,3 +6,4 @@ pub mod Sendable
 pub mod Sorts
 pub mod Widths
 pub mod OneJob
+pub mod Texts

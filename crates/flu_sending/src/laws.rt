@@ -1,6 +1,6 @@
 //! Laws of what a node apart sends, each the contract of a function that does nothing.
 
-ghost use Rattle.flu_sending.specs.Laws.{SentByNeeded, SentByParts, SentLinesMayCome, WhatIsSentCanBeHandedOver, JobsSendTheSame};
+ghost use Rattle.flu_sending.specs.Laws.{SentByNeeded, SentByParts, SentLinesMayCome, SentTextsAreUtf8, WhatIsSentCanBeHandedOver, JobsSendTheSame};
 
 use flu_contribution::laws::{
     merged_lists_agree, only_needed_events_matter, programs_of_a_job_contribute_the_same,
@@ -43,3 +43,9 @@ pub fn programs_of_a_job_send_the_same()
     programs_of_a_job_are_alike();
     programs_of_a_job_contribute_the_same();
 }
+
+/// The outputs of what a node sends have UTF-8 texts and tags, where the plain pieces of the job's templates are UTF-8: all else in a text is
+/// digits and words.
+pub fn sent_texts_are_utf8()
+    ensures { SentTextsAreUtf8 }
+{}

@@ -155,7 +155,7 @@ module _ (kinds others : List Kind) (alike : map plain_kind kinds ≡ map plain_
 -- ---- the sources of a job
 -- the form of its rows
 abbrev form_in : Job → RowForm
-form_in j = form_of j.version
+form_in j = form_of j.version j.iso
 
 module _ (p q : Program) (same : IsSameJob p q) where
   alike_rows : ReadRowsAlike p.kinds q.kinds
