@@ -9,8 +9,12 @@ use Rattle.std.specs.Str.{IsUtf8, IsAscii}
 use Rattle.std.proofs.lemmas.Bool.Decides.{nat_tests}
 use Rattle.std.proofs.lemmas.Grind.{common_steps}
 use Rattle.std.proofs.lemmas.Str.{IsUtf8-nil, IsUtf8-append, IsUtf8-from_ascii}
-use Rattle.flu_lemmas.proofs.Elements.{all_append, all_filter, all_map, list_all_weaker, passes_at}
+use Rattle.flu_lemmas.proofs.Elements.{all_append, all_filter, all_map, list_all_push, list_all_weaker, passes_at}
 use Rattle.flu_lemmas.proofs.Tests.{and_left, and_right, true_lt}
+use Rattle.flu_calendar.specs.declared.unit.Unit.TheVariants.{Seconds, Milliseconds, Microseconds}
+use Rattle.flu_calendar.specs.Calendar.{year_of, month_of, day_in_month}
+use Rattle.flu_calendar.specs.Units.{times_end, units_in_second}
+use Rattle.flu_calendar.specs.Texts.{last_digits, printed_fraction, second_text, time_text}
 use Rattle.flu_names.specs.Names.{begins_as_name, is_name, is_name_byte, is_reserved}
 use Rattle.flu_model.specs.declared.events.Event.{Event}
 use Rattle.flu_model.specs.declared.events.Out.{Out}
@@ -35,7 +39,7 @@ use Rattle.flu_model.specs.Itags.{tag_of_itag}
 use Rattle.flu_model.specs.Merging.{merged}
 use Rattle.flu_model.specs.Reports.{kind_text, name_with_key, text_of_tag}
 use Rattle.flu_model.specs.Rules.{action_fits, kind_fits}
-use Rattle.flu_model.specs.Texts.{key_in, neutral_of, neutral_text, piece_text, pieces_text, worth_text}
+use Rattle.flu_model.specs.Texts.{Unit, shown_time, key_in, neutral_of, neutral_text, piece_text, pieces_text, worth_text}
 use Rattle.flu_model.specs.Updates.{actions_of, effect_of, effect_of_act, effect_of_action, effect_of_actions, passes_guard}
 use Rattle.flu_contribution.specs.Contributions.{is_inside, is_above, Contribution, opened, with_event, closed, contributions_from, contributions}
 use Rattle.flu_contribution.specs.Sending.{is_idle}
@@ -115,6 +119,38 @@ tag p t = by (slice_get p.kinds t.kind) refl
         (and_left (is_name k.name && nat_le (length k.actions) 32) (list_all (action_fits p.families k.keyed k.has_value) k.actions) fits) in
         with_key k.name k.keyed t.key (name k.name named)
 
+-- ---- times
+
+two_low : (n : ℕ) → nat_lt (48 + n % 10) 128 ≡ true
+two_low n = grind (arith, nat_tests)
+
+last_low : (count n : ℕ) → list_all (λ b. nat_lt b 128) (last_digits count n) ≡ true
+last_low zero n = refl
+last_low (suc count) n = list_all_push (λ b. nat_lt b 128) (last_digits count (n / 10)) (48 + n % 10) (last_low count (n / 10)) (two_low n)
+
+last : (count n : ℕ) → Utf8 (last_digits count n)
+last count n = ascii (last_digits count n) (last_low count n)
+
+fraction : (unit : Unit) (n : ℕ) → Utf8 (printed_fraction unit n)
+fraction Seconds n = none
+fraction Milliseconds n = ascii (codes ".") refl also last 3 n
+fraction Microseconds n = ascii (codes ".") refl also last 6 n
+
+shown : (iso : Option Unit) (t : ℕ) → Utf8 (shown_time iso t)
+shown None t = number t
+shown (Some unit) t = by (nat_lt t (times_end unit))
+  where
+    second : (n : ℕ) → Utf8 (second_text n)
+    second n =
+        let day = n / 86400 in
+        (last 4 (year_of day) also (ascii (codes "-") refl also (last 2 (month_of day) also (ascii (codes "-") refl also last 2 (day_in_month day)))))
+        also (ascii (codes "T") refl also (last 2 (n / 3600 % 24) also (ascii (codes ":") refl also (last 2 (n / 60 % 60)
+        also (ascii (codes ":") refl also last 2 (n % 60))))))
+
+    by : (b : Bool) → Utf8 (cond b (time_text unit t) (decimal t))
+    by true = second (t / units_in_second unit) also (fraction unit (t % units_in_second unit) also ascii (codes "Z") refl)
+    by false = number t
+
 -- ---- texts
 
 neutral_sort : (s : Sort) → Utf8 (neutral_text s)
@@ -132,54 +168,54 @@ worth text (Some (Sum n)) is = signed n
 worth text (Some (Max v)) is = signed v
 worth text (Some (Last v)) is = signed v
 
-piece : (families : List Family) (piece : Piece) (s : Contents) (x : Event) (key : ℕ) (held : Option Worth) → IsUtf8Piece piece
-    → Utf8 (piece_text families piece s x key held)
-piece families (Plain t) s x key held is = record { is = is }
-piece families Value s x key held is = signed x.value
-piece families Key s x key held is = number key
-piece families Item s x key held is = number (item_of x)
-piece families Time s x key held is = number x.time
-piece families (Read r) s x key held is =
+piece : (iso : Option Unit) (families : List Family) (piece : Piece) (s : Contents) (x : Event) (key : ℕ) (held : Option Worth) → IsUtf8Piece piece
+    → Utf8 (piece_text iso families piece s x key held)
+piece iso families (Plain t) s x key held is = record { is = is }
+piece iso families Value s x key held is = signed x.value
+piece iso families Key s x key held is = number key
+piece iso families Item s x key held is = number (item_of x)
+piece iso families Time s x key held is = shown iso x.time
+piece iso families (Read r) s x key held is =
     worth (neutral_of (slice_get families r.family)) (s (cell_of r key (item_of x))) (neutral (slice_get families r.family))
-piece families CellValue s x key held is = worth (codes "none") held (ascii (codes "none") refl)
-piece families (FamilyCell f) s x key held is =
+piece iso families CellValue s x key held is = worth (codes "none") held (ascii (codes "none") refl)
+piece iso families (FamilyCell f) s x key held is =
     let family = slice_get families f in worth (neutral_of family) (s (cell f (key_in family key))) (neutral family)
 
-pieces : (families : List Family) (ps : List Piece) (s : Contents) (x : Event) (key : ℕ) (held : Option Worth) → AllByRecursion IsUtf8Piece ps
-    → Utf8 (pieces_text families ps s x key held)
-pieces families [] s x key held all = none
-pieces families (p ∷ ps) s x key held all = piece families p s x key held all.0 also pieces families ps s x key held all.1
+pieces : (iso : Option Unit) (families : List Family) (ps : List Piece) (s : Contents) (x : Event) (key : ℕ) (held : Option Worth) → AllByRecursion IsUtf8Piece ps
+    → Utf8 (pieces_text iso families ps s x key held)
+pieces iso families [] s x key held all = none
+pieces iso families (p ∷ ps) s x key held all = piece iso families p s x key held all.0 also pieces iso families ps s x key held all.1
 
-each_key : (families : List Family) (f : ℕ) (ps : List Piece) (s : Contents) (x : Event) (keys : List ℕ) → AllByRecursion IsUtf8Piece ps
-    → AllByRecursion IsUtf8 (map (λ k. pieces_text families ps s x k (s (cell f k))) keys)
-each_key families f ps s x [] all = tt
-each_key families f ps s x (k ∷ keys) all = ((pieces families ps s x k (s (cell f k)) all).is, each_key families f ps s x keys all)
+each_key : (iso : Option Unit) (families : List Family) (f : ℕ) (ps : List Piece) (s : Contents) (x : Event) (keys : List ℕ) → AllByRecursion IsUtf8Piece ps
+    → AllByRecursion IsUtf8 (map (λ k. pieces_text iso families ps s x k (s (cell f k))) keys)
+each_key iso families f ps s x [] all = tt
+each_key iso families f ps s x (k ∷ keys) all = ((pieces iso families ps s x k (s (cell f k)) all).is, each_key iso families f ps s x keys all)
 
-act : (families : List Family) (a : Act) (s : Contents) (x : Event) (key : ℕ) → EmitsUtf8 a → AllByRecursion IsUtf8 (effect_of_act families a s x key).texts
-act families (Add r e) s x key is = tt
-act families (Raise r e) s x key is = tt
-act families (Set r e) s x key is = tt
-act families (Clear r) s x key is = tt
-act families (ClearFamily f) s x key is = tt
-act families (Emit ps) s x key is = ((pieces families ps s x key None is).is, tt)
-act families (Flush f ps) s x key is = each_key families f ps s x (held_keys s f) is
+act : (iso : Option Unit) (families : List Family) (a : Act) (s : Contents) (x : Event) (key : ℕ) → EmitsUtf8 a → AllByRecursion IsUtf8 (effect_of_act iso families a s x key).texts
+act iso families (Add r e) s x key is = tt
+act iso families (Raise r e) s x key is = tt
+act iso families (Set r e) s x key is = tt
+act iso families (Clear r) s x key is = tt
+act iso families (ClearFamily f) s x key is = tt
+act iso families (Emit ps) s x key is = ((pieces iso families ps s x key None is).is, tt)
+act iso families (Flush f ps) s x key is = each_key iso families f ps s x (held_keys s f) is
 
-action : (families : List Family) (a : Action) (s : Contents) (x : Event) (key : ℕ) → EmitsUtf8 a.act
-    → AllByRecursion IsUtf8 (effect_of_action families a s x key).texts
-action families a s x key is =
+action : (iso : Option Unit) (families : List Family) (a : Action) (s : Contents) (x : Event) (key : ℕ) → EmitsUtf8 a.act
+    → AllByRecursion IsUtf8 (effect_of_action iso families a s x key).texts
+action iso families a s x key is =
     elim (passes_guard a.guard s x key)
-    as (λ b. AllByRecursion IsUtf8 (cond b (effect_of_act families a.act s x key) (record { cells = s; texts = [] })).texts) [
-      | true ↦ act families a.act s x key is
+    as (λ b. AllByRecursion IsUtf8 (cond b (effect_of_act iso families a.act s x key) (record { cells = s; texts = [] })).texts) [
+      | true ↦ act iso families a.act s x key is
       | false ↦ tt
     ]
 
-actions : (families : List Family) (some : List Action) (s : Contents) (x : Event) (key : ℕ) → AllByRecursion (λ (a : Action). EmitsUtf8 a.act) some
-    → AllByRecursion IsUtf8 (effect_of_actions families some s x key).texts
-actions families [] s x key all = tt
-actions families (a ∷ some) s x key all =
-    let first = effect_of_action families a s x key in
-    all_append IsUtf8 first.texts (effect_of_actions families some first.cells x key).texts (action families a s x key all.0)
-    (actions families some first.cells x key all.1)
+actions : (iso : Option Unit) (families : List Family) (some : List Action) (s : Contents) (x : Event) (key : ℕ) → AllByRecursion (λ (a : Action). EmitsUtf8 a.act) some
+    → AllByRecursion IsUtf8 (effect_of_actions iso families some s x key).texts
+actions iso families [] s x key all = tt
+actions iso families (a ∷ some) s x key all =
+    let first = effect_of_action iso families a s x key in
+    all_append IsUtf8 first.texts (effect_of_actions iso families some first.cells x key).texts (action iso families a s x key all.0)
+    (actions iso families some first.cells x key all.1)
 
 kind_actions : (kinds : List Kind) → TemplatesAreUtf8 kinds → (i : ℕ) → AllByRecursion (λ (a : Action). EmitsUtf8 a.act) (actions_of (slice_get kinds i))
 kind_actions [] all i = tt
@@ -193,7 +229,7 @@ module _ (p : Program) (nodes : List Node) (w : ℕ) (templates : TemplatesAreUt
   event : (s : Contents) (x : Event) → AllByRecursion IsUtf8 (effect_of p s x).texts
   event s x =
       let t = tag_of_itag p x.itag in
-      actions p.families (actions_of (slice_get p.kinds t.kind)) s x t.key (kind_actions p.kinds templates t.kind)
+      actions p.iso p.families (actions_of (slice_get p.kinds t.kind)) s x t.key (kind_actions p.kinds templates t.kind)
 
   outputs : (time : ℕ) (t : Tag) (texts : List (List ℕ)) → AllByRecursion IsUtf8 texts → AllByRecursion (IsUtf8Output p) (outputs_at time t texts)
   outputs time t [] all = tt
