@@ -17,3 +17,4 @@ code statuses.NoMemory = 9
 code statuses.SaveDefect = 11
 code statuses.PutFault = 12
 code statuses.TraceFault = 13
+code statuses.PartialDefect = 14
