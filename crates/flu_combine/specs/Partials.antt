@@ -73,9 +73,9 @@ pub record IsFirstRelated (p : Program) (nodes : List Node) (ws : List ℕ) (w p
 
 -- WHAT IS WRONG WITH A NODE, beside these: the first reason that applies
 abbrev pub IsDefectOfNode : Program → List Node → List ℕ → ℕ → PartialDefect → Type 0
-IsDefectOfNode p nodes ws w (NotApart reason) = IsFirstReason p nodes w reason.tag reason.cell
-IsDefectOfNode p nodes ws w (Twice place) = IsFirstRelated p nodes ws w place × (slice_index_or ws place 0 ≡ w)
-IsDefectOfNode p nodes ws w (Within place) = IsFirstRelated p nodes ws w place × (slice_index_or ws place 0 ≢ w)
+IsDefectOfNode p nodes ws w (NotApart u reason) = (u ≡ w) × IsFirstReason p nodes w reason.tag reason.cell
+IsDefectOfNode p nodes ws w (Twice u) = (u ≡ w) × ((place : ℕ) × IsFirstRelated p nodes ws w place × (slice_index_or ws place 0 ≡ w))
+IsDefectOfNode p nodes ws w (Within u v) = (place : ℕ) × IsFirstRelated p nodes ws w place × (slice_index_or ws place 0 ≢ w)
 IsDefectOfNode p nodes ws w defect = ⊥
 
 -- WHAT IS WRONG WITH A HEAD, likewise: it is of no node of the plan, or there is something wrong with its node

@@ -92,14 +92,14 @@ fn apart_beside(c: &Checked, v: &Valid, nodes: &[u32], w: u32) -> Result<u32, Pa
     ensures defect { IfErr result (IsDefectOfNode (program_of c.now) (plan_of v.now).nodes nodes.now w) }
 {
     if let Err(reason) = apart(c, v, w) {
-        return Err(PartialDefect::NotApart(reason));
+        return Err(PartialDefect::NotApart(w, reason));
     }
     match first_related(v.plan(), nodes, w) {
         Some(place) => {
             if nodes[place] == w {
-                Err(PartialDefect::Twice(place))
+                Err(PartialDefect::Twice(w))
             } else {
-                Err(PartialDefect::Within(place))
+                Err(PartialDefect::Within(w, nodes[place]))
             }
         }
         None => Ok(w),

@@ -22,11 +22,11 @@ pub enum PartialDefect {
     /// Its node is none of the plan.
     UnknownNode,
     /// Its node may not be apart, for this reason.
-    NotApart(Reason),
+    NotApart(u32, Reason),
     /// Its node is that of an earlier partial, the first whose node is this one, or within it or above it.
-    Twice(usize),
+    Twice(u32),
     /// Its node is within that of an earlier partial or above it, the first such.
-    Within(usize),
+    Within(u32, u32),
     /// Something that it has is to be joined before an event that did not come, or in another order than the events.
     LeftOver,
 }
