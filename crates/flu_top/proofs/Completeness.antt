@@ -50,6 +50,7 @@ module _ (laws : LawsOfCalls) (command : Command) (left : Contents) (old new : O
   by_ended statuses.SaveDefect ended apart = inl (laws.save_defect command left old.left new.left ended.0 told ended.1)
   by_ended statuses.PutFault ended apart = absurd (apart.2 refl)
   by_ended statuses.TraceFault ended apart = inl (laws.trace_fault command left old.left new.left ended.0 told ended.1)
+  by_ended statuses.PartialDefect ended apart = absurd ended
 
 -- where nothing failed, no status of a failure comes
 unfailed : (words : List (List ℕ)) (told : Option Contents) (before now : Faults) (status : ℕ) (command : Command) → FaultsFirst words told before now status

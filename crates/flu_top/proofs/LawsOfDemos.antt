@@ -63,6 +63,7 @@ by_ended n seed old new statuses.NoMemory ended apart = (2, omega arith, refl)
 by_ended n seed old new statuses.SaveDefect ended apart = absurd (no_save_defect n seed old.left new.left ended.0 ended.1)
 by_ended n seed old new statuses.PutFault ended apart = absurd (ended.0.saves refl)
 by_ended n seed old new statuses.TraceFault ended apart = absurd (not_named None ended.1.trace refl ended.1.named)
+by_ended n seed old new statuses.PartialDefect ended apart = absurd ended
 
 pub statuses_law : DemoStatuses
 statuses_law words old new status before now outcome faults n seed word =

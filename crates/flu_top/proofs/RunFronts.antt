@@ -219,6 +219,7 @@ module _ (starts_some : StartsHaveRows) (job : List ℕ) (plan : Option (List �
   by_ended old new statuses.SaveDefect ended told = nothing old.out new.out ended.2.nothing
   by_ended old new statuses.PutFault ended told = unsaved_written LeavesAnything old.left new.left old.out new.out told ended.0
   by_ended old new statuses.TraceFault ended told = nothing old.out new.out ended.2.nothing
+  by_ended old new statuses.PartialDefect ended told = absurd ended
 
   pub what_was_written : (words : List (List ℕ)) (old new : Outside) (status : ℕ) → Outcome words old new status → command_in words ≡ Ok (Run job plan options)
       → old.left ≡ Some left

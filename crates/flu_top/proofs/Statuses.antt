@@ -40,6 +40,7 @@ one_number statuses.NoMemory statuses.NoMemory same = refl
 one_number statuses.SaveDefect statuses.SaveDefect same = refl
 one_number statuses.PutFault statuses.PutFault same = refl
 one_number statuses.TraceFault statuses.TraceFault same = refl
+one_number statuses.PartialDefect statuses.PartialDefect same = refl
 one_number a b same = absurd (omega arith)
 
 -- how a command ended, whose status has a number
@@ -70,26 +71,28 @@ no_command_at words old new number (cases.OfCommand status is command word ended
 no_command_at words old new number (cases.OfNone is at bad files refused) two = (at, bad, files, refused)
 
 -- ---- what holds at more than one status
-listed : (status : Status) → Contains (0 ∷ 2 ∷ 3 ∷ 4 ∷ 5 ∷ 6 ∷ 7 ∷ 8 ∷ 9 ∷ 11 ∷ 12 ∷ 13 ∷ []) (code status)
-listed statuses.Done = (0, omega arith, refl)
-listed statuses.BadWords = (1, omega arith, refl)
-listed statuses.JobFault = (2, omega arith, refl)
-listed statuses.Conflict = (3, omega arith, refl)
-listed statuses.PlanDefect = (4, omega arith, refl)
-listed statuses.SourceFault = (5, omega arith, refl)
-listed statuses.ReadFault = (6, omega arith, refl)
-listed statuses.WriteFault = (7, omega arith, refl)
-listed statuses.NoMemory = (8, omega arith, refl)
-listed statuses.SaveDefect = (9, omega arith, refl)
-listed statuses.PutFault = (10, omega arith, refl)
-listed statuses.TraceFault = (11, omega arith, refl)
+listed : (command : Command) (old new : Outside) (status : Status) → Ended command old new status
+    → Contains (0 ∷ 2 ∷ 3 ∷ 4 ∷ 5 ∷ 6 ∷ 7 ∷ 8 ∷ 9 ∷ 11 ∷ 12 ∷ 13 ∷ []) (code status)
+listed command old new statuses.Done ended = (0, omega arith, refl)
+listed command old new statuses.BadWords ended = absurd ended
+listed command old new statuses.JobFault ended = (2, omega arith, refl)
+listed command old new statuses.Conflict ended = (3, omega arith, refl)
+listed command old new statuses.PlanDefect ended = (4, omega arith, refl)
+listed command old new statuses.SourceFault ended = (5, omega arith, refl)
+listed command old new statuses.ReadFault ended = (6, omega arith, refl)
+listed command old new statuses.WriteFault ended = (7, omega arith, refl)
+listed command old new statuses.NoMemory ended = (8, omega arith, refl)
+listed command old new statuses.SaveDefect ended = (9, omega arith, refl)
+listed command old new statuses.PutFault ended = (10, omega arith, refl)
+listed command old new statuses.TraceFault ended = (11, omega arith, refl)
+listed command old new statuses.PartialDefect ended = absurd ended
 
 pub known_status : (words : List (List ℕ)) (old new : Outside) (number : ℕ) → Outcome words old new number
     → Contains (0 ∷ 2 ∷ 3 ∷ 4 ∷ 5 ∷ 6 ∷ 7 ∷ 8 ∷ 9 ∷ 11 ∷ 12 ∷ 13 ∷ []) number
 known_status words old new number (cases.OfCommand status is command word ended) =
-    subst (Contains (0 ∷ 2 ∷ 3 ∷ 4 ∷ 5 ∷ 6 ∷ 7 ∷ 8 ∷ 9 ∷ 11 ∷ 12 ∷ 13 ∷ [])) (sym is) (listed status)
+    subst (Contains (0 ∷ 2 ∷ 3 ∷ 4 ∷ 5 ∷ 6 ∷ 7 ∷ 8 ∷ 9 ∷ 11 ∷ 12 ∷ 13 ∷ [])) (sym is) (listed command old new status ended)
 known_status words old new number (cases.OfNone is at bad files refused) =
-    subst (Contains (0 ∷ 2 ∷ 3 ∷ 4 ∷ 5 ∷ 6 ∷ 7 ∷ 8 ∷ 9 ∷ 11 ∷ 12 ∷ 13 ∷ [])) (sym is) (listed statuses.BadWords)
+    subst (Contains (0 ∷ 2 ∷ 3 ∷ 4 ∷ 5 ∷ 6 ∷ 7 ∷ 8 ∷ 9 ∷ 11 ∷ 12 ∷ 13 ∷ [])) (sym is) (1, omega arith, refl)
 
 -- where nothing is read in rounds nothing was written
 wrote_unread : (reading : Reading) (text : List ℕ) (had has : Option (List ℕ)) → reading ≢ InRounds → Wrote reading text had has → has ≡ had
@@ -141,6 +144,7 @@ unwritten_apart command old new statuses.SaveDefect ended some other apart = end
 unwritten_apart command old new statuses.PutFault ended some other apart =
     absurd (unsaved_in_rounds LeavesAnything command old.left new.left old.out new.out apart ended.0)
 unwritten_apart command old new statuses.TraceFault ended some other apart = ended.2.nothing
+unwritten_apart command old new statuses.PartialDefect ended some other apart = absurd ended
 
 pub nothing_written : (words : List (List ℕ)) (old new : Outside) (number : ℕ) → Outcome words old new number → number ≢ 0 → number ≢ 8
     → ((command : Command) → command_in words ≡ Ok command → how_read command ≢ InRounds) → new.out ≡ old.out

@@ -75,6 +75,8 @@ Ended command old new statuses.SaveDefect = (defect : SaveDefect) × HasSaveDefe
 Ended command old new statuses.PutFault = WroteForPut command old.left new.left old.out new.out × Said old new put_fault_line
 -- the command reads a trace, nothing refuses the command before that, and this stops the replay of the trace
 Ended command old new statuses.TraceFault = (fault : ReplayFault) × HasTraceFault command old.left new.left fault × Refused old new (trace_fault_line fault)
+-- none of these commands reads a partial
+Ended command old new statuses.PartialDefect = ⊥
 
 -- the words are a command, which ended as its status says; or they are none: the one at this place does not fit, and no file was read
 pub data Outcome (words : List (List ℕ)) (old new : Outside) (number : ℕ) : Type 0 where

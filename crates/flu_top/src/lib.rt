@@ -26,4 +26,5 @@ mod top;
 mod traces;
 mod validating;
 
+pub use planned::{Planned, planned_by};
 pub use top::{answer_words, flumina};

@@ -31,11 +31,19 @@ use std::alloc::Global;
 /// An accepted job, and a plan that is valid for it.
 #[derive(Drop)]
 pub struct Planned {
+    /// The job, which is accepted.
     pub checked: Checked,
+    /// The plan, which is valid for the job.
     pub valid: Valid,
 }
 
-/// The job that a file holds, if it is accepted, with the plan that another file holds, if it is valid for the job.
+/// The job under one name and the plan under another, which `valid JOB PLAN` would accept. The job is read first, and the plan only if the job
+/// is accepted; no other name is read, and none is written.
+///
+/// # Errors
+///
+/// The refusal of `valid JOB PLAN`: the job's text has a fault, the job is not accepted, the plan's text has a fault, the plan is not valid for
+/// the job, a file failed, or memory ran out.
 pub fn planned_by<F: Files>(
     alloc: Global,
     files: &mut F,

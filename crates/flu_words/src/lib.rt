@@ -3,8 +3,10 @@
 
 mod laws;
 mod numbers;
+mod parts;
 mod words;
 
-pub use laws::rounds_have_rows;
+pub use laws::{languages_are_apart, rounds_have_rows};
 pub use numbers::{Depth, Draws, Rows, Seed, USUAL_DEPTH, USUAL_ROWS};
+pub use parts::{PartCommand, is_part_call, read_part_words};
 pub use words::{BadWords, Command, RunOptions, read_words};

@@ -388,7 +388,7 @@ fn depth_and_rest(at: usize, words: &[String]) -> Result<(Depth, usize, &[String
 }
 
 // The names of a job and a plan that the words after a command begin with, and the words after them.
-fn both_and_rest(operands: &[String]) -> Result<(&str, &str, &[String]), BadWords>
+pub(crate) fn both_and_rest(operands: &[String]) -> Result<(&str, &str, &[String]), BadWords>
     ensures { MatchResult result
         (λ begun. both_and_rest (map string_bytes operands.now) ≡ Ok (begun.0.now, begun.1.now, map string_bytes begun.2.now))
         (λ bad. both_and_rest (map string_bytes operands.now) ≡ Err bad.at) }
@@ -520,7 +520,7 @@ fn is_other_file(job: &str, plan: Option<&str>, word: &str) -> bool
 }
 
 // A word that can name a file: it is not empty and does not begin with a dash.
-fn is_file_name(word: &str) -> bool
+pub(crate) fn is_file_name(word: &str) -> bool
     ensures { result ≡ is_file_name word.now }
 {
     match word.as_bytes() {
