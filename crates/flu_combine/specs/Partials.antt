@@ -1,10 +1,10 @@
 -- WHAT A PARTIAL IS of a job and a plan, and what is wrong with another.
-use Rattle.std.specs.Prelude.{◌≡◌, ◌≢◌, ℕ, ◌<◌, ◌≤◌, Option, Some, None, List, [], ◌∷◌, length, position, slice_index_or, ⊤}
+use Rattle.std.specs.Prelude.{◌≡◌, ◌≢◌, ℕ, ◌<◌, ◌≤◌, false, Option, Some, None, List, [], ◌∷◌, length, position, slice_index_or, ◌⊎◌, IsTrue, ⊤}
 use Rattle.flu_lemmas.specs.Items.{Pairs}
 use Rattle.flu_model.specs.declared.jobs.Program.{Program}
 use Rattle.flu_model.specs.declared.plans.Node.{Node}
 use Rattle.flu_model.specs.Erasure.{job_of}
-use Rattle.flu_model.specs.Owners.{are_related}
+use Rattle.flu_model.specs.Owners.{are_related, is_within}
 use Rattle.flu_model.specs.Rules.{is_same_text}
 use Rattle.flu_outside.specs.Outside.{Contents}
 use Rattle.flu_outside.specs.Taking.{bytes_left}
@@ -71,11 +71,18 @@ pub record IsFirstRelated (p : Program) (nodes : List Node) (ws : List ℕ) (w p
   pub may : MayBeApart p nodes w
   pub first : position (λ u. are_related nodes u w) ws ≡ Some place
 
+-- u and v are a node w and another one: w is within it, and so is u within v; or else it is within w
+abbrev pub AreNested : List Node → ℕ → ℕ → ℕ → ℕ → Type 0
+AreNested nodes other w u v =
+    ((u ≡ w) × (v ≡ other) × IsTrue (is_within nodes other w))
+    ⊎ ((u ≡ other) × (v ≡ w) × (is_within nodes other w ≡ false) × IsTrue (is_within nodes w other))
+
 -- WHAT IS WRONG WITH A NODE, beside these: the first reason that applies
 abbrev pub IsDefectOfNode : Program → List Node → List ℕ → ℕ → PartialDefect → Type 0
 IsDefectOfNode p nodes ws w (NotApart u reason) = (u ≡ w) × IsFirstReason p nodes w reason.tag reason.cell
 IsDefectOfNode p nodes ws w (Twice u) = (u ≡ w) × ((place : ℕ) × IsFirstRelated p nodes ws w place × (slice_index_or ws place 0 ≡ w))
-IsDefectOfNode p nodes ws w (Within u v) = (place : ℕ) × IsFirstRelated p nodes ws w place × (slice_index_or ws place 0 ≢ w)
+IsDefectOfNode p nodes ws w (Within u v) =
+    (place : ℕ) × IsFirstRelated p nodes ws w place × (slice_index_or ws place 0 ≢ w) × AreNested nodes (slice_index_or ws place 0) w u v
 IsDefectOfNode p nodes ws w defect = ⊥
 
 -- WHAT IS WRONG WITH A HEAD, likewise: it is of no node of the plan, or there is something wrong with its node
@@ -85,8 +92,9 @@ IsDefectOfHead p nodes ws h OtherPlan = IsOfJob p h × (h.plan ≢ printed p nod
 IsDefectOfHead p nodes ws h UnknownNode = IsOfPlan p nodes h × (node_named nodes h.node ≡ None)
 IsDefectOfHead p nodes ws h defect = (w : ℕ) × IsOfNode p nodes h w × IsDefectOfNode p nodes ws w defect
 
--- WHAT IS WRONG WITH BYTES that are read as a partial: there are too many, or they are no partial of the job, or there is something wrong with its head
+-- WHAT IS WRONG WITH BYTES that are read as a partial: there are too many, or else they are no partial of the job, or else there is something wrong
+-- with its head
 abbrev pub IsDefect : Program → List Node → List ℕ → List ℕ → PartialDefect → Type 0
 IsDefect p nodes ws bytes TooLong = most_bytes < length bytes
-IsDefect p nodes ws bytes (Text fault) = IsFirstFault p bytes fault
-IsDefect p nodes ws bytes defect = (r : Received) × IsRead p bytes r × IsDefectOfHead p nodes ws r.head defect
+IsDefect p nodes ws bytes (Text fault) = (length bytes ≤ most_bytes) × IsFirstFault p bytes fault
+IsDefect p nodes ws bytes defect = (length bytes ≤ most_bytes) × ((r : Received) × IsRead p bytes r × IsDefectOfHead p nodes ws r.head defect)

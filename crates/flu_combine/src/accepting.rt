@@ -1,6 +1,6 @@
 //! Which partials are accepted.
 
-ghost use Rattle.std.specs.Prelude.{◌≡◌, ◌<◌, ◌≤◌, ℕ, List, IfOk, IfErr, IfSome, OnOk, length, position};
+ghost use Rattle.std.specs.Prelude.{◌≡◌, ◌<◌, ◌≤◌, ℕ, List, IfOk, IfErr, IfSome, IsTrue, OnOk, length, position};
 ghost use Rattle.flu_model.specs.declared.plans.Node.{Node as NodeOf};
 ghost use Rattle.flu_model.specs.Erasure.{job_of};
 ghost use Rattle.flu_model.specs.Owners.{are_related};
@@ -11,11 +11,11 @@ ghost use Rattle.flu_receiving.specs.Receiving.{IsRead};
 ghost use Rattle.flu_parse.specs.Printing.{normal_form};
 ghost use Rattle.flu_plan.specs.Printing.{printed};
 ghost use Rattle.flu_combine.specs.Partials.{most_bytes, node_named, IsOfNode, IsPartialOf, IsDefectOfNode, IsDefectOfHead};
-ghost use Rattle.flu_combine.specs.Reading.{IsApartBeside, IsRefusedAs};
+ghost use Rattle.flu_combine.specs.Reading.{IsApartBeside, IsDefectBeside, IsRefusedAs};
 
 use crate::fault::{PartialDefect, Refused};
 use flu_apart::apart;
-use flu_deps::nodes::related;
+use flu_deps::nodes::{is_within, related};
 use flu_deps::{Checked, Valid};
 use flu_joining::Queue;
 use flu_model::{Node, Plan, Program};
@@ -83,6 +83,20 @@ fn first_related(plan: &Plan, nodes: &[u32], w: u32) -> Option<usize>
     nodes.iter().position(|u| related(plan, *u, w))
 }
 
+// What is wrong with a node beside one that is it, or within it, or above it.
+fn defect_beside(plan: &Plan, other: u32, w: u32) -> PartialDefect
+    requires { IsTrue (are_related plan.now.nodes other w) }
+    ensures { IsDefectBeside plan.now.nodes other w result }
+{
+    if other == w {
+        PartialDefect::Twice(w)
+    } else if is_within(plan, other, w) {
+        PartialDefect::Within(w, other)
+    } else {
+        PartialDefect::Within(other, w)
+    }
+}
+
 // The node, if it may be apart beside others.
 fn apart_beside(c: &Checked, v: &Valid, nodes: &[u32], w: u32) -> Result<u32, PartialDefect>
     requires valid { IsValidFor (program_of c.now) v.now }
@@ -95,13 +109,7 @@ fn apart_beside(c: &Checked, v: &Valid, nodes: &[u32], w: u32) -> Result<u32, Pa
         return Err(PartialDefect::NotApart(w, reason));
     }
     match first_related(v.plan(), nodes, w) {
-        Some(place) => {
-            if nodes[place] == w {
-                Err(PartialDefect::Twice(w))
-            } else {
-                Err(PartialDefect::Within(w, nodes[place]))
-            }
-        }
+        Some(place) => Err(defect_beside(v.plan(), nodes[place], w)),
         None => Ok(w),
     }
 }
@@ -130,6 +138,7 @@ fn judge(
 
 // The bytes, read as a partial of the job.
 fn received(alloc: Global, p: &Program, bytes: &[u8]) -> Result<Received, Refused>
+    requires { length bytes.now ≤ most_bytes }
     ensures read { IfOk result (IsRead p.now bytes.now) }
     ensures refused { IfErr result (λ e. (nodes : List NodeOf) (ws : List ℕ) → IsRefusedAs p.now nodes ws bytes.now e) }
 {

@@ -13,7 +13,7 @@ ghost use Rattle.flu_readers.specs.Reading.{reads_rest};
 ghost use Rattle.flu_joining.specs.Joining.{events_of_none};
 ghost use Rattle.flu_joining.specs.Parts.{waiting_in_each};
 ghost use Rattle.flu_combine.specs.Combined.{IsCombined, LeavesUnread};
-ghost use Rattle.flu_combine.specs.Faults.{IsCause};
+ghost use Rattle.flu_combine.specs.Faults.{IsCause, HidesNoPartialDefect};
 ghost use Rattle.flu_combine.specs.Resting.{IsJoined, IsJoinFault, IsRest, IsRestFault};
 
 use crate::fault::{CombineFault, PartialDefect};
@@ -69,6 +69,8 @@ fn rest_text<F: Files>(
         (IsRest (program_of c.now) (plan_of v.now).nodes nodes.now (waiting_in_each queues.items) text)) }
     ensures fault { IfErr result (IsRestFault (program_of c.now) (plan_of v.now).nodes nodes.now (waiting_in_each queues.items)
         (F.left files.old) (F.left files.new) (F.faults files.old) (F.faults files.new)) }
+    ensures hides { IsErrOf result CombineFault.ReadFault → selected.HidesNoReadDefect (program_of c.now)
+        (reads_rest (program_of c.now) (plan_of v.now).nodes nodes.now) (F.left files.old) (F.left files.new) (F.faults files.old) (F.faults files.new) }
     ensures fronts { WhereTold (F.left files.old) (F.left files.new) TookFronts }
     ensures others { WhereTold (F.left files.old) (F.left files.new)
         (selected.LeavesUnread (program_of c.now) (reads_rest (program_of c.now) (plan_of v.now).nodes nodes.now)) }
@@ -97,6 +99,8 @@ fn combined_text<F: Files>(
     ensures cause { IfErr result (IsCause (program_of c.now) (plan_of v.now).nodes names.now (F.left files.old) (F.left files.new)
         (F.faults files.old) (F.faults files.new)) }
     ensures no_write { result ≢ Err CombineFault.WriteFault }
+    ensures hides { IsErrOf result CombineFault.ReadFault → HidesNoPartialDefect (program_of c.now) (plan_of v.now).nodes names.now
+        (F.left files.old) (F.left files.new) (F.faults files.old) (F.faults files.new) }
     ensures fronts { WhereTold (F.left files.old) (F.left files.new) TookFronts }
     ensures others { WhereTold (F.left files.old) (F.left files.new) (LeavesUnread (program_of c.now) (plan_of v.now).nodes names.now) }
     ensures quiet { result ≢ Err CombineFault.ReadFault → SameCounts (F.faults files.old) (F.faults files.new) }
@@ -140,6 +144,10 @@ pub fn combine<F: Files, K: Sink>(
         × WhereTold (K.taken out.old) (K.taken out.new) (AppendsPart text) }
     ensures failed { IsErrOf result CombineFault.WriteFault → Rose (K.faults out.old) (K.faults out.new) }
     ensures kept { IfErr result (λ e. e ≢ CombineFault.WriteFault → K.taken out.new ≡ K.taken out.old) }
+
+    // A read fault hides no defect: the partials before it are accepted, and what was taken of the one that failed, or of the sources, has none.
+    ensures hides { IsErrOf result CombineFault.ReadFault → HidesNoPartialDefect (program_of c.now) (plan_of v.now).nodes names.now
+        (F.left files.old) (F.left files.new) (F.faults files.old) (F.faults files.new) }
 
     // It only takes bytes from the front of the partials and of the files of the sources that are read, and puts none.
     ensures fronts { WhereTold (F.left files.old) (F.left files.new) TookFronts }

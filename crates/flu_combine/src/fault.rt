@@ -8,7 +8,7 @@ use flu_receiving::PartialFault;
 use flu_streams::SourceFault;
 use std::alloc::AllocError;
 
-/// What is wrong with a partial: the first of these, in this order, that applies. A place is that of an earlier partial, from 0.
+/// What is wrong with a partial: the first of these, in this order, that applies. A number is that of a node of the plan.
 #[derive(Clone, Copy, Debug, PartialEq, Eq)]
 pub enum PartialDefect {
     /// It has more than 536,870,912 bytes.
@@ -21,11 +21,12 @@ pub enum PartialDefect {
     OtherPlan,
     /// Its node is none of the plan.
     UnknownNode,
-    /// Its node may not be apart, for this reason.
+    /// Its node, which is this one, may not be apart, for this reason.
     NotApart(u32, Reason),
-    /// Its node is that of an earlier partial, the first whose node is this one, or within it or above it.
+    /// Its node, which is this one, is that of an earlier partial: the first whose node is this one, or within it or above it.
     Twice(u32),
-    /// Its node is within that of an earlier partial or above it, the first such.
+    /// The first node is within the second. One of them is its node, and the other that of an earlier partial: the first whose node is within
+    /// its own or above it.
     Within(u32, u32),
     /// Something that it has is to be joined before an event that did not come, or in another order than the events.
     LeftOver,

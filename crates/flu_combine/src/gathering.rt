@@ -8,7 +8,7 @@ ghost use Rattle.flu_outside.specs.Taking.{TookFronts};
 ghost use Rattle.flu_deps.specs.Checking.{program_of};
 ghost use Rattle.flu_deps.specs.Validated.{plan_of, IsValidFor};
 ghost use Rattle.flu_streams.specs.Files.{files_of, OneRose};
-ghost use Rattle.flu_selected.specs.Gathering.{LeavesUnread, ReadAreGood, AreReadLists, ReadAreOut, ReadRose, IsFirstReadFault};
+ghost use Rattle.flu_selected.specs.Gathering.{LeavesUnread, ReadAreGood, AreReadLists, ReadAreOut, ReadRose, HidesNoReadDefect, IsFirstReadFault};
 ghost use Rattle.flu_readers.specs.Reading.{reads_rest};
 
 use flu_deps::{Checked, Valid};
@@ -41,6 +41,8 @@ pub(crate) fn gather_rest<F: Files>(
         (LeavesUnread (program_of c.now) (reads_rest (program_of c.now) (plan_of v.now).nodes nodes.now)) }
     ensures quiet { result ≢ Err GatherFault.ReadFault → SameCounts (F.faults files.old) (F.faults files.new) }
     ensures puts { SameCounts (F.put_faults files.old) (F.put_faults files.new) }
+    ensures hides { IsErrOf result GatherFault.ReadFault → HidesNoReadDefect (program_of c.now)
+        (reads_rest (program_of c.now) (plan_of v.now).nodes nodes.now) (F.left files.old) (F.left files.new) (F.faults files.old) (F.faults files.new) }
     ensures cause { IsErrOf result GatherFault.ReadFault → OneRose (files_of (program_of c.now).sources) (F.faults files.old) (F.faults files.new) }
     ensures read { IsErrOf result GatherFault.ReadFault → ReadRose (program_of c.now) (reads_rest (program_of c.now) (plan_of v.now).nodes nodes.now)
         (F.left files.old) (F.faults files.old) (F.faults files.new) }

@@ -1,6 +1,6 @@
 //! Reading the partials.
 
-ghost use Rattle.std.specs.Prelude.{◌≡◌, ◌≢◌, [], ◌∷◌, ◌++◌, Err, IfOk, IfErr, OnOk, length};
+ghost use Rattle.std.specs.Prelude.{◌≡◌, ◌≢◌, [], ◌∷◌, ◌++◌, Err, IfOk, IfErr, IsErrOf, OnOk, length};
 ghost use Rattle.flu_model.specs.Erasure.{job_of};
 ghost use Rattle.flu_outside.specs.Outside.{WhereTold, SameCounts};
 ghost use Rattle.flu_outside.specs.Taking.{TakesFrom, TookFronts};
@@ -11,7 +11,7 @@ ghost use Rattle.flu_streams.specs.Files.{LeavesOthers};
 ghost use Rattle.flu_joining.specs.Parts.{waiting_in, waiting_in_each};
 ghost use Rattle.flu_parse.specs.Printing.{normal_form};
 ghost use Rattle.flu_plan.specs.Printing.{printed};
-ghost use Rattle.flu_combine.specs.Faults.{IsCause};
+ghost use Rattle.flu_combine.specs.Faults.{IsCause, HidesNoDefectBefore};
 ghost use Rattle.flu_combine.specs.Reading.{IsApartBeside, IsOneRead, AreRead, IsRefusal, IsRefusedAt};
 
 use crate::accepting::{Accepted, accept};
@@ -107,6 +107,8 @@ pub(crate) fn read_partials<F: Files>(
     ensures cause { IfErr result (IsCause (program_of c.now) (plan_of v.now).nodes names.now (F.left files.old) (F.left files.new)
         (F.faults files.old) (F.faults files.new)) }
     ensures no_write { result ≢ Err CombineFault.WriteFault }
+    ensures hides { IsErrOf result CombineFault.ReadFault → HidesNoDefectBefore (program_of c.now) (plan_of v.now).nodes names.now
+        (F.left files.old) (F.left files.new) (F.faults files.old) (F.faults files.new) }
     ensures fronts { WhereTold (F.left files.old) (F.left files.new) TookFronts }
     ensures others { WhereTold (F.left files.old) (F.left files.new) (LeavesOthers names.now) }
     ensures quiet { result ≢ Err CombineFault.ReadFault → SameCounts (F.faults files.old) (F.faults files.new) }
