@@ -27,4 +27,5 @@ mod traces;
 mod validating;
 
 pub use planned::{Planned, planned_by};
+pub use planned::{Planned, planned_by};
 pub use top::{answer_words, flumina};
