@@ -42,7 +42,7 @@ HasNodeDefect (Combine job plan partials) old new p nodes name why = ⊥
 -- the first of some names that is the file of a source stands at this place, and this is the first source that has it
 pub record IsSameName (p : Program) (names : List (List ℕ)) (place number : ℕ) : Type 0 where
   pub first : position (λ name. is_among (files_of p.sources) name) names ≡ Some place
-  pub source : position (λ (s : Source). bytes_eq s.file (slice_index_or names place [])) p.sources ≡ Some number
+  pub source : position (λ (s : Source). bytes_eq (slice_index_or names place []) s.file) p.sources ≡ Some number
 
 -- what is wrong with the file at a place, of what the names have left: it is the file of a source; or no name is, and it is the first partial with a
 -- defect, which is this one

@@ -90,13 +90,13 @@ fn is_file_of_source(program: &Program, name: &str) -> bool
 
 // The first source with a file.
 fn source_with(program: &Program, name: &str) -> Option<u32>
-    ensures { result ≡ position (λ s. bytes_eq s.file name.now) program.now.sources }
+    ensures { result ≡ position (λ s. bytes_eq name.now s.file) program.now.sources }
 {
     let number = program
         .sources
         .items()
         .iter()
-        .position(|source| source.file.as_str() == name)?;
+        .position(|source| name == source.file.as_str())?;
     Some(number as u32)
 }
 
