@@ -2,3 +2,5 @@ pub mod Names
 pub mod Working
 pub mod Running
 pub mod Outcomes
+pub mod Folding
+pub mod Dones
