@@ -112,17 +112,38 @@ failed_text command old new k l (InTrace name trace rose) = (name, inr (inr (inr
 failed_behind : (command : PartCommand) (p : Program) (nodes : List Node) (old new : Option Contents) (k l : List ℕ → ℕ) → IsAccepted p → IsValid p nodes
     → WhereTold old new (λ left now. IsPlanned command left p nodes)
     → IsReadFaultBehind command p nodes (option_map (behind command) old) new k l → (name : List ℕ) × IsReadPart old command name × Rose (k name) (l name)
-failed_behind (Partial job plan node) p nodes None new k l accepted valid planned (w, apart, one, read, hides) =
-    (one.0, inr (record { p = p; nodes = nodes; may = record { accepted = accepted; valid = valid; planned = tt };
-        named = inr (one.1, (w, apart, tt)) }), one.2)
+failed_behind (Partial job plan node) p nodes None new k l accepted valid planned (w, apart, one, read, hides) = (
+  one.0,
+  inr (record {
+    p = p;
+    nodes = nodes;
+    may = record { accepted = accepted; valid = valid; planned = tt };
+    named = inr (one.1, (w, apart, tt));
+  }),
+  one.2,
+)
 failed_behind (Partial job plan node) p nodes (Some x) None k l accepted valid planned found = absurd planned
 failed_behind (Partial job plan node) p nodes (Some x) (Some z) k l accepted valid planned (w, apart, one, read, hides) =
-    let found = read refl in
-    (found.0, inr (record { p = p; nodes = nodes; may = record { accepted = accepted; valid = valid; planned = planned };
-        named = inr (found.1.0, (w, apart, found.1)) }), found.2)
-failed_behind (Combine job plan partials) p nodes old new k l accepted valid planned (none, inl one, hides) =
-    (one.0, inr (record { p = p; nodes = nodes; may = record { accepted = accepted; valid = valid; planned = may_planned old new planned };
-        named = inl (none, one.1) }), one.2)
+    let found = read refl in (
+      found.0,
+      inr (record {
+        p = p;
+        nodes = nodes;
+        may = record { accepted = accepted; valid = valid; planned = planned };
+        named = inr (found.1.0, (w, apart, found.1));
+      }),
+      found.2,
+    )
+failed_behind (Combine job plan partials) p nodes old new k l accepted valid planned (none, inl one, hides) = (
+  one.0,
+  inr (record {
+    p = p;
+    nodes = nodes;
+    may = record { accepted = accepted; valid = valid; planned = may_planned old new planned };
+    named = inl (none, one.1);
+  }),
+  one.2,
+)
   where
     may_planned : (old new : Option Contents) → WhereTold old new (λ left now. IsPlanned (Combine job plan partials) left p nodes)
         → IfSome old (λ contents. IsPlanned (Combine job plan partials) contents p nodes)
@@ -134,9 +155,16 @@ failed_behind (Combine job plan partials) p nodes None new k l accepted valid pl
     (one.0, inr (record { p = p; nodes = nodes; may = record { accepted = accepted; valid = valid; planned = tt }; named = inr (one.1, none, tt) }), one.2)
 failed_behind (Combine job plan partials) p nodes (Some x) None k l accepted valid planned (none, inr source, hides) = absurd planned
 failed_behind (Combine job plan partials) p nodes (Some x) (Some z) k l accepted valid planned (none, inr source, hides) =
-    let told = source.1 in
-    (told.rose.0, inr (record { p = p; nodes = nodes; may = record { accepted = accepted; valid = valid; planned = planned };
-        named = inr (told.rose.1.0, none, (told.ws, told.queues, told.accepted, told.rose.1)) }), told.rose.2)
+    let told = source.1 in (
+      told.rose.0,
+      inr (record {
+        p = p;
+        nodes = nodes;
+        may = record { accepted = accepted; valid = valid; planned = planned };
+        named = inr (told.rose.1.0, none, (told.ws, told.queues, told.accepted, told.rose.1));
+      }),
+      told.rose.2,
+    )
 
 name_that_failed : (command : PartCommand) (old new : Option Contents) (k l : List ℕ → ℕ) → HasFailedRead command old new k l
     → (name : List ℕ) × IsReadPart old command name × Rose (k name) (l name)

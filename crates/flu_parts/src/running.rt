@@ -40,14 +40,7 @@ pub fn run<'a, F: Files, K: Sink>(
         Ok(planned) => planned,
         Err(refusal) => return Err(PartRefusal::Command(refusal)),
     };
-    match work(
-        alloc,
-        files,
-        out,
-        &planned.checked,
-        &planned.valid,
-        command,
-    ) {
+    match work(alloc, files, out, &planned.checked, &planned.valid, command) {
         Ok(()) => Ok(()),
         Err(stop) => Err(refusal_of(planned, stop)),
     }

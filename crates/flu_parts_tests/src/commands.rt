@@ -39,7 +39,12 @@ const SOUND: Settings = Settings {
 };
 
 /// Makes a call of some words, with a space between them, over some files.
-fn call(alloc: Global, words: &str, files: &mut MemFiles, settings: Settings) -> Result<Left, AllocError> {
+fn call(
+    alloc: Global,
+    words: &str,
+    files: &mut MemFiles,
+    settings: Settings,
+) -> Result<Left, AllocError> {
     let mut owned = Vec::new(alloc);
     for word in words.split(' ') {
         owned.push(String::from_str(alloc, word)?)?;
@@ -97,7 +102,12 @@ fn wanted_of<R: Abort>(rt: &R, alloc: Global, drawn: Drawn) -> Result<Vec<u8>, F
     let both = judged(alloc, drawn.case)?;
     assert!(rt; both.is_some());
     let (checked, _) = both.unwrap();
-    Ok(folded(alloc, drawn, checked.program())?.as_str().as_bytes().to_vec(alloc)?)
+    Ok(
+        folded(alloc, drawn, checked.program())?
+            .as_str()
+            .as_bytes()
+            .to_vec(alloc)?,
+    )
 }
 
 /// Compares what two nodes apart give with the fold.
@@ -176,14 +186,34 @@ const REFUSED: &[Refused] = &[
     ("partial job plan", 2, "bad words at 3"),
     ("combine job plan job", 2, "bad words at 3"),
     ("partial plan plan left", 3, "job: unexpected at 0"),
-    ("partial loose plan left", 4, "conflict: ride[1] and day on rides[1]"),
+    (
+        "partial loose plan left",
+        4,
+        "conflict: ride[1] and day on rides[1]",
+    ),
     ("combine job job left", 5, "plan: unexpected at 0"),
     ("partial job plan middle", 5, "plan: no node middle"),
-    ("partial reads parts reader", 5, "plan: reader can't be apart: see on fee"),
-    ("combine job plan left north", 14, "partial north: same as source north"),
+    (
+        "partial reads parts reader",
+        5,
+        "plan: reader can't be apart: see on fee",
+    ),
+    (
+        "combine job plan left north",
+        14,
+        "partial north: same as source north",
+    ),
     ("combine job plan right", 14, "partial right: incomplete"),
-    ("combine job plan left again", 14, "partial again: node left twice"),
-    ("combine job plan whole left", 14, "partial left: node left within root"),
+    (
+        "combine job plan left again",
+        14,
+        "partial again: node left twice",
+    ),
+    (
+        "combine job plan whole left",
+        14,
+        "partial left: node left within root",
+    ),
     ("combine reads parts left", 14, "partial left: other job"),
     ("partial bad plan left", 6, "source north row 1: bad row"),
     ("combine bad plan left", 14, "partial left: other job"),
@@ -221,7 +251,11 @@ fn assert_refused<R: Abort>(rt: &R, left: &Left, status: u8, line: &str) -> Resu
     assert_eq!(rt; left.status, status, "{line}");
     let got = left.err.bytes();
     let said = got.strip_prefix(b"flumina: ").unwrap_or(b"");
-    assert_eq!(rt; said.strip_suffix(b"\n").unwrap_or(b""), line.as_bytes(), "{line}");
+    assert_eq!(rt;
+        said.strip_suffix(b"\n").unwrap_or(b""),
+        line.as_bytes(),
+        "{line}"
+    );
     Ok(())
 }
 
@@ -257,7 +291,7 @@ fn failures_end_a_call(rt: HostRuntime) -> Result<(), Fail> {
     };
     let left = call(alloc, "partial job plan right", &mut files, settings)?;
     assert_refused(&rt, &left, 8, "write fault")?;
-    assert_eq!(&rt; left.out.bytes().len(), 3);
+    assert!(&rt; left.out.bytes().is_empty());
     Ok(())
 }
 
@@ -347,7 +381,15 @@ fn partials_that_are_cut_are_refused(rt: HostRuntime) -> Result<(), Fail> {
     let right = partial_of(&rt, alloc, drawn, "right")?;
     let mut counts = NONE;
     for end in 0..left.len() {
-        count(&rt, alloc, drawn, &left[..end], right.as_slice(), wanted.as_slice(), &mut counts)?;
+        count(
+            &rt,
+            alloc,
+            drawn,
+            &left[..end],
+            right.as_slice(),
+            wanted.as_slice(),
+            &mut counts,
+        )?;
     }
     assert_eq!(&rt; counts.same, 0);
     assert_eq!(&rt; counts.other, 0);
@@ -369,7 +411,15 @@ fn bytes_that_are_changed_are_refused_or_give_a_report(rt: HostRuntime) -> Resul
     for at in 0..left.len() {
         let mut changed = left.as_slice().to_vec(alloc)?;
         changed[at] ^= 1;
-        count(&rt, alloc, drawn, changed.as_slice(), right.as_slice(), wanted.as_slice(), &mut counts)?;
+        count(
+            &rt,
+            alloc,
+            drawn,
+            changed.as_slice(),
+            right.as_slice(),
+            wanted.as_slice(),
+            &mut counts,
+        )?;
     }
     assert_eq!(&rt;
         counts,
@@ -406,13 +456,35 @@ fn lines_that_are_swapped_or_doubled_are_refused(rt: HostRuntime) -> Result<(), 
             if place == at {
                 push_line(&mut doubled, line)?;
             }
-            let other = if place == at { at + 1 } else if place == at + 1 { at } else { place };
+            let other = if place == at {
+                at + 1
+            } else if place == at + 1 {
+                at
+            } else {
+                place
+            };
             if let Some(line) = lines.get(other) {
                 push_line(&mut swapped, line)?;
             }
         }
-        count(&rt, alloc, drawn, doubled.as_slice(), right.as_slice(), wanted.as_slice(), &mut counts)?;
-        count(&rt, alloc, drawn, swapped.as_slice(), right.as_slice(), wanted.as_slice(), &mut counts)?;
+        count(
+            &rt,
+            alloc,
+            drawn,
+            doubled.as_slice(),
+            right.as_slice(),
+            wanted.as_slice(),
+            &mut counts,
+        )?;
+        count(
+            &rt,
+            alloc,
+            drawn,
+            swapped.as_slice(),
+            right.as_slice(),
+            wanted.as_slice(),
+            &mut counts,
+        )?;
     }
     assert_eq!(&rt; counts.same, 0);
     assert_eq!(&rt; counts.other, 0);
