@@ -1,6 +1,6 @@
 pub mod Names
-pub mod Working
-pub mod Running
+pub mod BehindTexts
+pub mod Commands
 pub mod Outcomes
 pub mod Folding
 pub mod Dones

@@ -235,7 +235,7 @@ module _ (law : PartialsHaveOneText) (command : PartCommand) (checked : Checked)
     is.1,
     is.2,
     planned (λ was then. IsFileDefect p nodes partials was is.0 why)
-    (λ left now. IsFileDefect p nodes partials (behind (Combine job plan partials) left) is.0 why) (λ x z h. h) is.3,
+        (λ left now. IsFileDefect p nodes partials (behind (Combine job plan partials) left) is.0 why) (λ x z h. h) is.3,
   )
 
   pub stopped_behind : (k km l u v : List ℕ → ℕ) (t s : Option (List ℕ)) (n o : ℕ) (stop : Stop) → IsAccepted p → IsValid p nodes
@@ -257,8 +257,8 @@ module _ (law : PartialsHaveOneText) (command : PartCommand) (checked : Checked)
   )
   stopped_behind k km l u v t s n o stops.ReadFault accepted plan planned ready same fronts leaves is = (
     Behind p nodes accepted plan (planned_on planned fronts)
-    (subst (λ (left : Option Contents). IsReadFaultBehind command p nodes left b k l) (behind_told command p a m ready)
-    (subst (λ (counts : List ℕ → ℕ). IsReadFaultBehind command p nodes m b counts l) (sym same) is.0)),
+        (subst (λ (left : Option Contents). IsReadFaultBehind command p nodes left b k l) (behind_told command p a m ready)
+        (subst (λ (counts : List ℕ → ℕ). IsReadFaultBehind command p nodes m b counts l) (sym same) is.0)),
     is.1,
   )
   stopped_behind k km l u v t s n o stops.WriteFault accepted plan planned ready same fronts leaves is =

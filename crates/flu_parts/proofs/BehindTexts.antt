@@ -75,7 +75,7 @@ module _ (p : Program) (nodes : List Node) (job plan : List ℕ) (names : List (
     lt,
     at,
     told_weaker (λ was then. IsFaultOfPartial p nodes names was place defect)
-    (λ was then. IsFileDefect p nodes names was place (PartialDefective defect)) a b (λ x y h. (none, h)) is,
+        (λ was then. IsFileDefect p nodes names was place (PartialDefective defect)) a b (λ x y h. (none, h)) is,
   )
 
 -- the file of a source is named as a partial
