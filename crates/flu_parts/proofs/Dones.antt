@@ -1,14 +1,12 @@
 -- A part command that is done has written its text.
-use Rattle.std.proofs.Common.{◌≡◌, ℕ, List, Some, Ok, sym, subst, arith, ◌∙◌, Option}
+use Rattle.std.proofs.Common.{◌≡◌, ℕ, List, Some, Ok, subst, arith, Option}
 use Rattle.flu_outside.specs.Outside.{Contents, WhereTold}
-use Rattle.flu_outside.specs.Writing.{AppendsAll}
 use Rattle.flu_lines.specs.declared.statuses.Status.{Status}
 use Rattle.flu_lines.specs.declared.statuses.Status.TheVariants as statuses
 use Rattle.flu_lines.specs.Statuses.{code}
 use Rattle.flu_words.specs.Parts.{PartCommand, part_in}
-use Rattle.flu_command.specs.Outside.{Outside}
 use Rattle.flu_parts.specs.Laws.{PartDoneIsWritten}
-use Rattle.flu_parts.specs.Outcome.{Ended, PartOutcome, OfCommand, OfNone}
+use Rattle.flu_parts.specs.Outcome.{Ended, OfCommand, OfNone}
 use Rattle.flu_parts.specs.Written.{IsWritten}
 
 -- status 0 is that of what is done
