@@ -4,3 +4,5 @@ pub mod Lines
 pub mod Jobs
 pub mod Products
 pub mod Answer
+pub mod PartLines
+pub mod PartAnswer

@@ -82,8 +82,8 @@ fn write_steps<E: Sink>(err: &mut E, steps: DrawnSteps) -> Result<(), Failed>
     write_all(err, b"\n")
 }
 
-// Writes the line of a refusal.
-fn write_line<E: Sink>(err: &mut E, refusal: &Refusal) -> Result<(), Failed>
+/// Writes the line of a refusal.
+pub(crate) fn write_line<E: Sink>(err: &mut E, refusal: &Refusal) -> Result<(), Failed>
     ensures { Writes (line_of refusal.now) (E.taken err.old) (E.taken err.new) (E.faults err.old) (E.faults err.new) result }
 {
     match refusal {

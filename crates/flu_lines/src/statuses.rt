@@ -2,7 +2,7 @@
 
 ghost use Rattle.std.specs.Prelude.{◌≡◌};
 ghost use Rattle.flu_lines.specs.Statuses.{code};
-ghost use Rattle.flu_lines.specs.Answer.{status_after};
+ghost use Rattle.flu_lines.specs.Answer.{status_of, status_after};
 
 use crate::products::Done;
 use crate::refusals::Refusal;
@@ -67,16 +67,25 @@ pub fn status_after(ended: &Result<Done, Refusal>) -> Status
 {
     match ended {
         Ok(_) => Status::Done,
-        Err(Refusal::BadWords(_)) => Status::BadWords,
-        Err(Refusal::JobFault(_, _)) => Status::JobFault,
-        Err(Refusal::Conflict(_)) => Status::Conflict,
-        Err(Refusal::PlanDefect(_)) => Status::PlanDefect,
-        Err(Refusal::SourceFault(_, _)) => Status::SourceFault,
-        Err(Refusal::ReadFault) => Status::ReadFault,
-        Err(Refusal::WriteFault) => Status::WriteFault,
-        Err(Refusal::NoMemory) => Status::NoMemory,
-        Err(Refusal::SaveDefect(_)) => Status::SaveDefect,
-        Err(Refusal::PutFault) => Status::PutFault,
-        Err(Refusal::TraceFault(_)) => Status::TraceFault,
+        Err(refusal) => status_of(refusal),
+    }
+}
+
+/// The status of a call that was refused.
+pub(crate) fn status_of(refusal: &Refusal) -> Status
+    ensures { result ≡ status_of refusal.now }
+{
+    match refusal {
+        Refusal::BadWords(_) => Status::BadWords,
+        Refusal::JobFault(_, _) => Status::JobFault,
+        Refusal::Conflict(_) => Status::Conflict,
+        Refusal::PlanDefect(_) => Status::PlanDefect,
+        Refusal::SourceFault(_, _) => Status::SourceFault,
+        Refusal::ReadFault => Status::ReadFault,
+        Refusal::WriteFault => Status::WriteFault,
+        Refusal::NoMemory => Status::NoMemory,
+        Refusal::SaveDefect(_) => Status::SaveDefect,
+        Refusal::PutFault => Status::PutFault,
+        Refusal::TraceFault(_) => Status::TraceFault,
     }
 }

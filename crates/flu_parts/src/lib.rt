@@ -1,0 +1,10 @@
+//! The part commands: `partial` writes what a node apart sends, and `combine` the report of what nodes sent (`docs/SCALE.md`).
+#![tactic(auto)]
+
+mod naming;
+mod running;
+mod stops;
+mod top;
+mod working;
+
+pub use top::answer_part_words;
