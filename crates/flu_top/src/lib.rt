@@ -27,5 +27,4 @@ mod traces;
 mod validating;
 
 pub use planned::{Planned, planned_by};
-pub use planned::{Planned, planned_by};
 pub use top::{answer_words, flumina};
