@@ -1,7 +1,7 @@
 -- Partials, and the sources beside them.
 use Rattle.std.proofs.Common.{◌≡◌, inr, ℕ, zero, suc, ◌<◌, Bool, true, false, Option, Some, None, List, [], ◌∷◌, length, refl, sym, ap, subst, ◌∙◌, cond}
 use Rattle.std.proofs.Common.{arith, get_or}
-use Rattle.std.specs.Prelude.{◌||◌, IsSome, Contains, not}
+use Rattle.std.specs.Prelude.{◌||◌, IsSome, Contains, not, option_map}
 use Rattle.std.specs.List.{list_any}
 use Rattle.std.specs.Str.{bytes_eq}
 use Rattle.std.proofs.lemmas.Bool.{false≢true}
@@ -20,7 +20,7 @@ use Rattle.flu_contribution.specs.Contributions.{Contribution}
 use Rattle.flu_contribution.specs.Laws.{AreNodesApart}
 use Rattle.flu_contribution.specs.Sending.{without_due}
 use Rattle.flu_streams.specs.Files.{files_of, LeavesOthers}
-use Rattle.flu_selected.specs.Gathering.{IsRead, ReadAreOut, LeavesUnread as LeavesSources}
+use Rattle.flu_selected.specs.Gathering.{IsRead, ReadAreOut, HidesNoReadDefect, LeavesUnread as LeavesSources}
 use Rattle.flu_selected.specs.Laws.{closed_files, first_read_fault}
 use Rattle.flu_selected.specs.Selecting.{is_among}
 use Rattle.flu_readers.specs.Reading.{reads_rest, rest_read}
@@ -29,8 +29,8 @@ use Rattle.flu_combine.specs.declared.fault.CombineFault.{CombineFault}
 use Rattle.flu_combine.specs.declared.fault.CombineFault.TheVariants as combine
 use Rattle.flu_combine.specs.Names.{read_out}
 use Rattle.flu_combine.specs.Reading.{AreRead}
-use Rattle.flu_combine.specs.Combined.{IsCombined, LeavesUnread}
-use Rattle.flu_combine.specs.Faults.{IsCause, IsFaultOfPartial, IsFaultOfSource, SourceRose}
+use Rattle.flu_combine.specs.Combined.{AreAccepted, IsCombined, LeavesUnread}
+use Rattle.flu_combine.specs.Faults.{IsCause, IsFaultOfPartial, IsFaultOfSource, SourceRose, HidesNoDefectBehind}
 use Rattle.flu_combine.specs.Resting.{IsJoined, IsJoinFault, IsLeftOver, IsRest, IsRestLeftOver, IsRestFault}
 
 -- ---- names
@@ -126,6 +126,32 @@ source_rose p nodes names ws queues (Some x) (Some y) (Some z) before mid now ap
       accepted = record { partials = these.partials; apart = apart };
       rose = (one.0, one.1, subst (λ (n : ℕ). Rose n (now one.0)) (same one.0) one.2);
     }
+
+-- what the names have once the partials are read
+read_of_all : (p : Program) (nodes : List Node) (names : List (List ℕ)) (ws : List ℕ) (queues : List (List Contribution)) (a b : Option Contents)
+    → WhereTold a b (AreRead p nodes names ws queues) → b ≡ option_map (read_out names) a
+read_of_all p nodes names ws queues None None these = refl
+read_of_all p nodes names ws queues None (Some y) these = absurd these
+read_of_all p nodes names ws queues (Some x) None these = absurd these
+read_of_all p nodes names ws queues (Some x) (Some y) these = ap Some these.end
+
+pub hides_behind : (p : Program) (nodes : List Node) (names : List (List ℕ)) (ws : List ℕ) (queues : List (List Contribution)) (a b c : Option Contents)
+    (before mid now : List ℕ → ℕ) → AreNodesApart p nodes ws → WhereTold a b (AreRead p nodes names ws queues) → SameCounts before mid
+    → WhereTold b c (λ x y. Unit {0}) → HidesNoReadDefect p (reads_rest p nodes ws) b c mid now → HidesNoDefectBehind p nodes names a c before now
+hides_behind p nodes names ws queues a b c before mid now apart these same both hides =
+    let counts : mid ≡ before = λ i name. same name i in
+    record {
+      ws = ws;
+      queues = queues;
+      accepted = told_then (AreRead p nodes names ws queues) (λ x y. Unit {0}) (λ was then. AreAccepted p nodes was names ws queues) a b c
+          (λ was mid then h k. record { partials = h.partials; apart = apart }) these both;
+      hides = subst (λ (x : List ℕ → ℕ). HidesNoReadDefect p (reads_rest p nodes ws) (option_map (read_out names) a) c x now) counts
+          (subst (λ (o : Option Contents). HidesNoReadDefect p (reads_rest p nodes ws) o c mid now) (read_of_all p nodes names ws queues a b these) hides);
+    }
+
+-- no read fails where what was sent is joined
+pub no_read_fault : (queues : List (List Contribution)) (ys : List Event) (fault : CombineFault) → IsJoinFault queues ys fault → fault ≡ combine.ReadFault → ⊥
+no_read_fault queues ys fault is e = subst (IsJoinFault queues ys) e is
 
 -- as many queues are left
 as_many_behind : (queues : List (List Contribution)) (ys : List Event) → length (waiting_behind queues ys) ≡ length queues

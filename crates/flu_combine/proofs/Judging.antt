@@ -1,12 +1,15 @@
 -- Which partials are accepted.
 use Rattle.std.proofs.Common.{◌≡◌, ℕ, ◌+◌, Bool, true, false, Option, Some, None, Result, Ok, Err, List, [], ◌∷◌, refl, sym, subst, ◌∙◌, cond}
-use Rattle.std.specs.Prelude.{◌≤◌, ◌||◌, map, length, position, option_map, IsOk}
+use Rattle.std.specs.Prelude.{◌≤◌, ◌||◌, map, length, position, option_map, slice_index_or, IsOk}
+use Rattle.std.proofs.Common.{get_or}
+use Rattle.std.proofs.lemmas.Option.{get_or_from_slice_get}
 use Rattle.std.specs.List.{AllByRecursion}
 use Rattle.flu_lemmas.specs.Items.{Pairs}
-use Rattle.flu_lemmas.proofs.Places.{position-cons}
+use Rattle.flu_lemmas.proofs.Places.{position-cons, position_passes}
 use Rattle.flu_model.specs.declared.jobs.Program.{Program}
 use Rattle.flu_model.specs.declared.plans.Node.{Node}
 use Rattle.flu_model.specs.Owners.{is_within, are_related}
+use Rattle.flu_apart.specs.Apart.{MayBeApart}
 use Rattle.flu_contribution.specs.declared.contributing.Handed.{Handed}
 use Rattle.flu_contribution.specs.Contributions.{Contribution}
 use Rattle.flu_contribution.specs.Parts.{contribution_of}
@@ -18,7 +21,8 @@ use Rattle.flu_receiving.specs.declared.receiving.Received.{Received}
 use Rattle.flu_receiving.specs.Receiving.{IsRead, IsSentBy}
 use Rattle.flu_combine.specs.declared.fault.PartialDefect.{PartialDefect}
 use Rattle.flu_combine.specs.declared.fault.PartialDefect.TheVariants.{TooLong, Text, OtherJob, OtherPlan, UnknownNode, NotApart, Twice, Within, LeftOver}
-use Rattle.flu_combine.specs.Partials.{most_bytes, IsOfNode, IsPartialOf, IsDefectOfNode, IsDefectOfHead, IsDefect}
+use Rattle.flu_combine.specs.Partials.{most_bytes, AreNested, IsOfNode, IsPartialOf, IsDefectOfNode, IsDefectOfHead, IsDefect}
+use Rattle.flu_combine.specs.Reading.{IsDefectBeside}
 
 -- ---- nodes beside each other
 neither : (a b : Bool) → (a || b) ≡ false → (a ≡ false) × (b ≡ false)
@@ -45,6 +49,27 @@ ok_if_no_error (Ok x) none = refl
 ok_if_no_error (Err e) none = absurd (none e refl)
 
 -- ---- defects
+pub related_there : (nodes : List Node) (w : ℕ) (ws : List ℕ) (place : ℕ) (d : ℕ) → position (λ u. are_related nodes u w) ws ≡ Some place
+    → are_related nodes (get_or ws place d) w ≡ true
+related_there nodes w ws place d first =
+    let there = position_passes (λ u. are_related nodes u w) ws place first in
+    subst (λ u. are_related nodes u w ≡ true) (sym (get_or_from_slice_get ws place there.0 d there.1)) there.2
+
+-- what is wrong beside the first related one
+pub defect_of_first : (p : Program) (nodes : List Node) (ws : List ℕ) (w other place : ℕ) (d : PartialDefect) → MayBeApart p nodes w
+    → position (λ u. are_related nodes u w) ws ≡ Some place → slice_index_or ws place 0 ≡ other → IsDefectBeside nodes other w d
+    → IsDefectOfNode p nodes ws w d
+defect_of_first p nodes ws w other place TooLong may first at is = absurd is
+defect_of_first p nodes ws w other place (Text fault) may first at is = absurd is
+defect_of_first p nodes ws w other place OtherJob may first at is = absurd is
+defect_of_first p nodes ws w other place OtherPlan may first at is = absurd is
+defect_of_first p nodes ws w other place UnknownNode may first at is = absurd is
+defect_of_first p nodes ws w other place (NotApart u reason) may first at is = absurd is
+defect_of_first p nodes ws w other place (Twice u) may first at is = (is.0, (place, record { may = may; first = first }, at ∙ is.1))
+defect_of_first p nodes ws w other place (Within u v) may first at is =
+    (place, record { may = may; first = first }, λ same. is.0 (sym at ∙ same), subst (λ (r : ℕ). AreNested nodes r w u v) (sym at) is.1)
+defect_of_first p nodes ws w other place LeftOver may first at is = absurd is
+
 pub defect_of_node : (p : Program) (nodes : List Node) (ws : List ℕ) (h : PartialHead) (w : ℕ) (d : PartialDefect) → IsOfNode p nodes h w
     → IsDefectOfNode p nodes ws w d → IsDefectOfHead p nodes ws h d
 defect_of_node p nodes ws h w TooLong is d = (w, is, d)
@@ -52,22 +77,22 @@ defect_of_node p nodes ws h w (Text fault) is d = (w, is, d)
 defect_of_node p nodes ws h w OtherJob is d = absurd d
 defect_of_node p nodes ws h w OtherPlan is d = absurd d
 defect_of_node p nodes ws h w UnknownNode is d = absurd d
-defect_of_node p nodes ws h w (NotApart reason) is d = (w, is, d)
-defect_of_node p nodes ws h w (Twice place) is d = (w, is, d)
-defect_of_node p nodes ws h w (Within place) is d = (w, is, d)
+defect_of_node p nodes ws h w (NotApart u reason) is d = (w, is, d)
+defect_of_node p nodes ws h w (Twice u) is d = (w, is, d)
+defect_of_node p nodes ws h w (Within u v) is d = (w, is, d)
 defect_of_node p nodes ws h w LeftOver is d = (w, is, d)
 
-pub defect_of_head : (p : Program) (nodes : List Node) (ws bytes : List ℕ) (r : Received) (d : PartialDefect) → IsRead p bytes r
-    → IsDefectOfHead p nodes ws r.head d → IsDefect p nodes ws bytes d
-defect_of_head p nodes ws bytes r TooLong read d = absurd d.2
-defect_of_head p nodes ws bytes r (Text fault) read d = absurd d.2
-defect_of_head p nodes ws bytes r OtherJob read d = (r, read, d)
-defect_of_head p nodes ws bytes r OtherPlan read d = (r, read, d)
-defect_of_head p nodes ws bytes r UnknownNode read d = (r, read, d)
-defect_of_head p nodes ws bytes r (NotApart reason) read d = (r, read, d)
-defect_of_head p nodes ws bytes r (Twice place) read d = (r, read, d)
-defect_of_head p nodes ws bytes r (Within place) read d = (r, read, d)
-defect_of_head p nodes ws bytes r LeftOver read d = (r, read, d)
+pub defect_of_head : (p : Program) (nodes : List Node) (ws bytes : List ℕ) (r : Received) (d : PartialDefect) → length bytes ≤ most_bytes
+    → IsRead p bytes r → IsDefectOfHead p nodes ws r.head d → IsDefect p nodes ws bytes d
+defect_of_head p nodes ws bytes r TooLong few read d = absurd d.2
+defect_of_head p nodes ws bytes r (Text fault) few read d = absurd d.2
+defect_of_head p nodes ws bytes r OtherJob few read d = (few, (r, read, d))
+defect_of_head p nodes ws bytes r OtherPlan few read d = (few, (r, read, d))
+defect_of_head p nodes ws bytes r UnknownNode few read d = (few, (r, read, d))
+defect_of_head p nodes ws bytes r (NotApart u reason) few read d = (few, (r, read, d))
+defect_of_head p nodes ws bytes r (Twice u) few read d = (few, (r, read, d))
+defect_of_head p nodes ws bytes r (Within u v) few read d = (few, (r, read, d))
+defect_of_head p nodes ws bytes r LeftOver few read d = (few, (r, read, d))
 
 -- ---- what was sent
 pub sent_by_lines : (p : Program) (cs : List partial.Contribution) (hs : List Handed) → Pairs (IsSentBy p) cs hs

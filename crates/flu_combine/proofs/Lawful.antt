@@ -40,7 +40,7 @@ pairs_alike determine p (c ∷ cs) (j ∷ js) (k ∷ ks) one other =
     (determine p one.0.1.0 other.0.1.0 j k one.0.0 other.0.0 (sym one.0.1.1 ∙ other.0.1.1), pairs_alike determine p cs js ks one.1 other.1)
 
 -- one partial is of one node, and of one thing that was sent
-one_alike : PartialsHaveOneText → LinesDetermine → (p : Program) (nodes : List Node) (bytes : List ℕ) (v w : ℕ) (js ks : List Contribution)
+pub one_alike : PartialsHaveOneText → LinesDetermine → (p : Program) (nodes : List Node) (bytes : List ℕ) (v w : ℕ) (js ks : List Contribution)
     → IsPartialOf p nodes bytes v js → IsPartialOf p nodes bytes w ks → (v ≡ w) × AreAllAlike p js ks
 one_alike one_text determine p nodes bytes v w js ks one other =
     let same = one_text bytes one.head other.head one.lines other.lines one.whole other.whole in
@@ -53,7 +53,7 @@ one_alike one_text determine p nodes bytes v w js ks one other =
 push_same : (v w : ℕ) (vs ws : List ℕ) → v ≡ w → vs ≡ ws → v ∷ vs ≡ w ∷ ws
 push_same v w vs ws one more = cc
 
-all_alike : PartialsHaveOneText → LinesDetermine → (p : Program) (nodes : List Node) (left : Contents) (names : List (List ℕ)) (vs ws : List ℕ)
+pub all_alike : PartialsHaveOneText → LinesDetermine → (p : Program) (nodes : List Node) (left : Contents) (names : List (List ℕ)) (vs ws : List ℕ)
     (js ks : List (List Contribution)) → ArePartials p nodes left names vs js → ArePartials p nodes left names ws ks → (vs ≡ ws) × AreQueuesAlike p js ks
 all_alike one_text determine p nodes left [] [] [] [] [] one other = (refl, tt)
 all_alike one_text determine p nodes left [] [] [] [] (k ∷ ks) one other = absurd other

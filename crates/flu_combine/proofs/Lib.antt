@@ -2,3 +2,9 @@ mod Judging
 mod Readings
 mod Combinings
 mod Lawful
+mod Ascii
+mod Templates
+mod PlanText
+mod Whole
+mod Reasons
+mod FirstDefects

@@ -15,7 +15,7 @@ use Rattle.flu_lemmas.specs.Told.{WhereTold}
 use Rattle.flu_lemmas.proofs.Told.{told_then, told_weaker, told_both, told_same}
 use Rattle.flu_lemmas.proofs.Named.{fronts_at, fronts_then}
 use Rattle.flu_outside.specs.Outside.{Contents, Rose, SameCounts}
-use Rattle.flu_outside.specs.Taking.{bytes_left, TakesFrom, TookFronts, TookWhole}
+use Rattle.flu_outside.specs.Taking.{bytes_left, TakesFrom, TookAtMost, TookFronts, TookWhole}
 use Rattle.flu_contribution.specs.Contributions.{Contribution}
 use Rattle.flu_contribution.specs.Laws.{IsApart, NoneIsWithin, AreNodesApart}
 use Rattle.flu_deps.specs.Trees.{AreApart}
@@ -26,13 +26,14 @@ use Rattle.flu_partial.specs.declared.values.PartialHead.{PartialHead}
 use Rattle.flu_partial.specs.Partial.{head_text, line_of}
 use Rattle.flu_receiving.specs.Receiving.{IsWholePartial, lines_text}
 use Rattle.flu_combine.specs.declared.fault.CombineFault.{CombineFault}
+use Rattle.flu_combine.specs.declared.fault.CombineFault.TheVariants as combine
 use Rattle.flu_combine.specs.declared.fault.PartialDefect.{PartialDefect}
 use Rattle.flu_combine.specs.declared.fault.Refused.{Refused}
 use Rattle.flu_combine.specs.declared.fault.Refused.TheVariants.{Defect, ReadFault, NoMemory}
 use Rattle.flu_combine.specs.Names.{read_out, bytes_behind}
 use Rattle.flu_combine.specs.Partials.{most_bytes, IsPartialOf, ArePartials, IsDefect}
 use Rattle.flu_combine.specs.Reading.{IsApartBeside, IsOneRead, IsRefusal, IsRefusedAt, AreRead}
-use Rattle.flu_combine.specs.Faults.{IsFaultOfPartial, IsCause}
+use Rattle.flu_combine.specs.Faults.{IsFaultOfPartial, IsCause, IsHaltedAt, HidesNoDefectBefore}
 
 -- ---- one partial
 -- all bytes were read
@@ -166,12 +167,13 @@ others_more names name a b c there others takes =
 
 -- ---- faults
 defect_behind : (p : Program) (nodes : List Node) (names : List (List ℕ)) (place : ℕ) (name : List ℕ) (ws : List ℕ) (queues : List (List Contribution))
-    (d : PartialDefect) (was mid : Contents) → slice_index_or names place [] ≡ name → AreNodesApart p nodes ws
+    (d : PartialDefect) (was mid : Contents) → place < length names → slice_index_or names place [] ≡ name → AreNodesApart p nodes ws
     → AreRead p nodes (take place names) ws queues was mid → IsDefect p nodes ws (bytes_left mid name) d → IsFaultOfPartial p nodes names was place d
-defect_behind p nodes names place name ws queues d was mid at apart these is =
+defect_behind p nodes names place name ws queues d was mid lt at apart these is =
     let bytes : bytes_left mid name ≡ bytes_behind (take place names) was (slice_index_or names place []) =
     ap (λ (c : Contents). bytes_left c name) these.end ∙ ap (bytes_behind (take place names) was) (sym at) in
     inl (record {
+      there = lt;
       ws = ws;
       queues = queues;
       earlier = record { partials = these.partials; apart = apart };
@@ -189,13 +191,39 @@ cause_of p nodes names place name ws queues (Defect d) fault a b c before mid no
       lt,
       told_then (AreRead p nodes (take place names) ws queues) (λ was then. IsDefect p nodes ws (bytes_left was name) d)
           (λ was then. IsFaultOfPartial p nodes names was place d) a b c
-          (λ was mid then h k. defect_behind p nodes names place name ws queues d was mid here apart h k) these refusal,
+          (λ was mid then h k. defect_behind p nodes names place name ws queues d was mid lt here apart h k) these refusal,
     )
 cause_of p nodes names place name ws queues ReadFault fault a b c before mid now lt at is apart these same refusal =
     subst (IsCause p nodes names a c before now) (sym is)
-    (inl (name, subst (Contains names) (sym at) (Contains-get_or names place name lt), subst (λ (n : ℕ). Rose n (now name)) (same name) refusal))
+    (inl (name, subst (Contains names) (sym at) (Contains-get_or names place name lt), subst (λ (n : ℕ). Rose n (now name)) (same name) refusal.0))
 cause_of p nodes names place name ws queues NoMemory fault a b c before mid now lt at is apart these same refusal =
     subst (IsCause p nodes names a c before now) (sym is) tt
+
+-- a read that failed at a place
+pub halted_at : (p : Program) (nodes : List Node) (names : List (List ℕ)) (place : ℕ) (name : List ℕ) (ws : List ℕ) (queues : List (List Contribution))
+    (refused : Refused) (fault : CombineFault) (a b c : Option Contents) (before mid now : List ℕ → ℕ)
+    → place < length names → name ≡ get_or names place name → IsRefusedAt place refused fault → AreNodesApart p nodes ws
+    → WhereTold a b (AreRead p nodes (take place names) ws queues) → SameCounts before mid → IsRefusal p nodes ws name b c mid now refused
+    → fault ≡ combine.ReadFault → HidesNoDefectBefore p nodes names a c before now
+halted_at p nodes names place name ws queues (Defect d) fault a b c before mid now lt at is apart these same refusal e =
+    absurd (let other : combine.Partial place d ≡ combine.ReadFault = sym is ∙ e in cc)
+halted_at p nodes names place name ws queues ReadFault fault a b c before mid now lt at is apart these same refusal e =
+    let here : name ≡ slice_index_or names place [] = at ∙ sym (get_or_default names place [] name lt) in
+    record {
+      place = place;
+      there = lt;
+      rose = subst (λ (n : List ℕ). Rose (before n) (now n)) here (subst (λ (n : ℕ). Rose n (now name)) (same name) refusal.0);
+      told = told_then (AreRead p nodes (take place names) ws queues) (TookAtMost name most_bytes) (IsHaltedAt p nodes names place) a b c
+          (λ was mid then h k. record {
+            ws = ws;
+            queues = queues;
+            earlier = record { partials = h.partials; apart = apart };
+            few = subst (λ (n : List ℕ). TookAtMost n most_bytes (read_out (take place names) was) then) here
+                (subst (λ (m : Contents). TookAtMost name most_bytes m then) h.end k);
+          }) these refusal.1;
+    }
+halted_at p nodes names place name ws queues NoMemory fault a b c before mid now lt at is apart these same refusal e =
+    absurd (let other : combine.NoMemory ≡ combine.ReadFault = sym is ∙ e in cc)
 
 pub same_then : (x y z : List ℕ → ℕ) → SameCounts x y → SameCounts y z → SameCounts x z
 same_then x y z p q name = q name ∙ p name

@@ -1,20 +1,49 @@
 -- WHAT IS COMBINED IS THE REPORT OF ALL SOURCES.
-use Rattle.std.specs.Prelude.{◌≡◌, ℕ, List, map}
+use Rattle.std.specs.Prelude.{◌≡◌, ◌<◌, ◌≤◌, ℕ, List, length, map, IsTrue}
+use Rattle.std.specs.Str.{IsUtf8}
+use Rattle.flu_model.specs.declared.events.Item.{Item}
 use Rattle.flu_model.specs.declared.jobs.Program.{Program}
 use Rattle.flu_model.specs.declared.plans.Node.{Node}
 use Rattle.flu_model.specs.Contents.{nothing_held}
+use Rattle.flu_model.specs.Erasure.{job_of}
 use Rattle.flu_model.specs.Folding.{final_outputs}
+use Rattle.flu_model.specs.Itags.{count_of_itags}
+use Rattle.flu_model.specs.PlanRules.{nodes_have_own_names}
 use Rattle.flu_model.specs.Reports.{report}
+use Rattle.flu_model.specs.Streaming.{are_streams}
 use Rattle.flu_outside.specs.Outside.{Contents}
 use Rattle.flu_contribution.specs.Contributions.{Contribution}
 use Rattle.flu_contribution.specs.Laws.{AreNodesApart, IsSetting}
 use Rattle.flu_contribution.specs.Sharing.{all_sent}
+use Rattle.flu_parse.specs.Printing.{normal_form}
+use Rattle.flu_plan.specs.Printing.{has_text}
+use Rattle.flu_sending.specs.Laws.{AreReadable}
+use Rattle.flu_sending.specs.Lines.{sent_by}
 use Rattle.flu_streams.specs.Good.{lists_of}
 use Rattle.flu_selected.specs.Gathering.{IsRead}
 use Rattle.flu_readers.specs.Reading.{reads_rest, part_read, IsReadGood, EachReadsGood}
+use Rattle.flu_node_run.specs.Partials.{text_of_partial}
+use Rattle.flu_combine.specs.declared.fault.PartialDefect.{PartialDefect}
 use Rattle.flu_combine.specs.Combined.{IsCombined}
+use Rattle.flu_combine.specs.Faults.{IsFaultOfPartial}
 use Rattle.flu_combine.specs.Names.{read_out}
-use Rattle.flu_combine.specs.Partials.{ArePartials}
+use Rattle.flu_combine.specs.Partials.{most_bytes, ArePartials, IsPartialOf}
+
+-- THE FIRST DEFECT IS ONE: over one content of the names, at most one partial of a list has the first defect, and it has one
+abbrev pub FirstDefectIsOne : Type 0
+FirstDefectIsOne =
+    (p : Program) (nodes : List Node) (names : List (List ℕ)) (left : Contents) (a b : ℕ) (d e : PartialDefect)
+    → IsFaultOfPartial p nodes names left a d → IsFaultOfPartial p nodes names left b e → (a ≡ b) × (d ≡ e)
+
+-- THE TEXT OF A PARTIAL IS A WHOLE PARTIAL of what the node sends, if it is not too long. What the job and the plan that it is of are read from gives that
+-- the job's normal form is UTF-8, that the plan has a text, and that its nodes have names of their own
+abbrev pub TextsAreWholePartials : Type 0
+TextsAreWholePartials =
+    (p : Program) (nodes : List Node) (w : ℕ) (lists : List (List Item))
+    → IsUtf8 (normal_form (job_of p)) → IsTrue (has_text p nodes) → IsTrue (nodes_have_own_names nodes) → w < length nodes
+    → length lists ≡ count_of_itags p → IsTrue (are_streams 0 lists) → AreReadable lists
+    → length (text_of_partial p nodes w lists) ≤ most_bytes
+    → IsPartialOf p nodes (text_of_partial p nodes w lists) w (sent_by p nodes w lists)
 
 -- what each node sends of the sources that it reads, from a state in which all cells are neutral
 abbrev pub sent_of_each : Program → List Node → Contents → List ℕ → List (List Contribution)

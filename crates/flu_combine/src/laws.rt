@@ -1,6 +1,32 @@
-//! What is combined is the report of all sources: a law, the contract of a function that does nothing.
+//! Laws of partials and of what is combined of them, each the contract of a function that does nothing.
 
-ghost use Rattle.flu_combine.specs.Laws.{PartialsAreCombined};
+ghost use Rattle.flu_combine.specs.Laws.{FirstDefectIsOne, PartialsAreCombined, TextsAreWholePartials};
+
+/// The text of a node's partial, of streams that have one list for each itag of the job, is a whole partial of what the node sends of them, if it is
+/// not too long. The plan has a text, its nodes have names of their own, and the normal form of the job is UTF-8.
+pub fn texts_are_whole_partials()
+    ensures { TextsAreWholePartials }
+{
+    flu_partial::printed_heads_are_lines();
+    flu_partial::printed_contributions_are_lines();
+    flu_receiving::laws::printed_partials_are_read();
+    flu_handover::sendable_have_lines();
+    flu_sending::laws::what_is_sent_can_be_handed_over();
+    flu_sending::laws::sent_texts_are_utf8();
+    flu_sending::laws::sent_lines_may_come();
+    flu_contribution::laws::merged_events_rise_strictly();
+}
+
+/// A list of partials has one first defect at most: at one place, and of one kind.
+pub fn first_defect_is_one()
+    ensures { FirstDefectIsOne }
+{
+    flu_receiving::laws::bytes_have_one_fault();
+    flu_receiving::laws::faulty_bytes_are_not_whole();
+    flu_receiving::laws::partials_have_one_text();
+    flu_handover::lines_determine();
+    flu_joining::laws::alike_queues_join_alike();
+}
 
 /// Let nodes of a plan be apart, and let no source have a defect for one of them or for the one that combines. Where under each name is the partial
 /// of its node, of the sources that it reads, and the files of the sources that the one that combines reads have what they had for the nodes, whatever

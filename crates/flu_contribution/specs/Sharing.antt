@@ -85,6 +85,10 @@ abbrev pub RiseStrictly : List Event → Type 0
 RiseStrictly [] = ⊤
 RiseStrictly (x ∷ xs) = AllByRecursion (λ y. IsTrue (is_before x y)) xs × RiseStrictly xs
 
+-- MERGED EVENTS RISE STRICTLY: those of streams do, so no two have the same time and itag
+abbrev pub MergedEventsRiseStrictly : Type 0
+MergedEventsRiseStrictly = (lists : List (List Item)) → IsTrue (are_streams 0 lists) → RiseStrictly (merged lists)
+
 -- WHAT IS SENT IS JOINED: of events that rise strictly, what the nodes send, joined before the events that it names, gives the combined fold
 abbrev pub WhatIsSentIsJoined : Type 0
 WhatIsSentIsJoined =

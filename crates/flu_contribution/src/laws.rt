@@ -1,7 +1,7 @@
 //! Laws of nodes apart whose events are handled by processes of their own, which read only some of the streams and send what their events
 //! contributed (`docs/SCALE.md`). Each law is the contract of a function that does nothing.
 
-ghost use Rattle.flu_contribution.specs.Sharing.{OnlyNeededEventsMatter, MergedListsAgree, WhatIsSentIsJoined, PartsGiveTheReport};
+ghost use Rattle.flu_contribution.specs.Sharing.{OnlyNeededEventsMatter, MergedEventsRiseStrictly, MergedListsAgree, WhatIsSentIsJoined, PartsGiveTheReport};
 
 use crate::contributions_give_the_fold;
 
@@ -14,6 +14,11 @@ pub fn only_needed_events_matter()
 /// lists, in the same order.
 pub fn merged_lists_agree()
     ensures { MergedListsAgree }
+{}
+
+/// The merged events of streams rise strictly: each is before all later ones.
+pub fn merged_events_rise_strictly()
+    ensures { MergedEventsRiseStrictly }
 {}
 
 /// A node sends its contributions in order, without those of no event, but always the last one. The fold over the events that are inside none of

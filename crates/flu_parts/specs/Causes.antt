@@ -1,5 +1,6 @@
 -- What refuses a part command, in order: what refuses `valid JOB PLAN`; the node that it names, or a name of a partial; a partial; a source.
-use Rattle.std.specs.Prelude.{◌≡◌, ℕ, ◌<◌, Option, Some, None, List, [], length, position, slice_index_or, option_map}
+use Rattle.std.specs.Prelude.{◌≡◌, ℕ, ◌<◌, Bool, Option, Some, None, List, [], length, position, slice_index_or, option_map}
+use Rattle.std.specs.List.{list_any}
 use Rattle.std.specs.Str.{bytes_eq}
 use Rattle.flu_outside.specs.Outside.{Contents, WhereTold}
 use Rattle.flu_model.specs.declared.jobs.Program.{Program}
@@ -10,7 +11,6 @@ use Rattle.flu_model.specs.Validity.{IsValid}
 use Rattle.flu_apart.specs.Apart.{IsFirstReason}
 use Rattle.flu_streams.specs.declared.faults.SourceFault.{SourceFault}
 use Rattle.flu_streams.specs.Files.{files_of, OneRose}
-use Rattle.flu_selected.specs.Selecting.{is_among}
 use Rattle.flu_selected.specs.Laws.{first_read_fault}
 use Rattle.flu_selected.specs.Gathering.{ReadRose, HidesNoReadDefect}
 use Rattle.flu_readers.specs.Reading.{reads}
@@ -39,10 +39,14 @@ HasNodeDefect (Partial job plan node) old new p nodes name why =
 HasNodeDefect (Combine job plan partials) old new p nodes name why = ⊥
 
 -- ---- the partials of `combine`
+-- whether a name is the file of one of some sources
+abbrev pub is_file_of : List Source → List ℕ → Bool
+is_file_of sources name = list_any (λ s. bytes_eq name s.file) sources
+
 -- the first of some names that is the file of a source stands at this place, and this is the first source that has it
 pub record IsSameName (p : Program) (names : List (List ℕ)) (place number : ℕ) : Type 0 where
-  pub first : position (λ name. is_among (files_of p.sources) name) names ≡ Some place
-  pub source : position (λ (s : Source). bytes_eq s.file (slice_index_or names place [])) p.sources ≡ Some number
+  pub first : position (is_file_of p.sources) names ≡ Some place
+  pub source : position (λ s. bytes_eq (slice_index_or names place []) s.file) p.sources ≡ Some number
 
 -- what is wrong with the file at a place, of what the names have left: it is the file of a source; or no name is, and it is the first partial with a
 -- defect, which is this one

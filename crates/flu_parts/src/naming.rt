@@ -4,17 +4,15 @@ ghost use Rattle.std.specs.Prelude.{◌≡◌, ◌<◌, ◌≤◌, None, Some, I
 ghost use Rattle.std.specs.Str.{bytes_eq};
 ghost use Rattle.flu_deps.specs.Checking.{program_of};
 ghost use Rattle.flu_deps.specs.Validated.{plan_of, IsValidFor};
-ghost use Rattle.flu_selected.specs.Selecting.{is_among};
-ghost use Rattle.flu_streams.specs.Files.{files_of};
 ghost use Rattle.flu_combine.specs.Partials.{node_named};
 ghost use Rattle.flu_parts.specs.Planned.{IsNodeApart};
 ghost use Rattle.flu_parts.specs.Written.{AreNoSources};
-ghost use Rattle.flu_parts.specs.Causes.{IsNodeDefect, IsSameName};
+ghost use Rattle.flu_parts.specs.Causes.{IsNodeDefect, IsSameName, is_file_of};
 
 use flu_apart::apart;
 use flu_deps::{Checked, Valid};
 use flu_lines::NodeDefect;
-use flu_model::{Node, Plan, Program, Text};
+use flu_model::{Node, Plan, Program, Source, Text};
 use std::alloc::{AllocError, Global};
 
 /// The number of the node with a name, if the plan has it and it may be apart.
@@ -69,35 +67,39 @@ pub fn same_name(program: &Program, names: &[String]) -> Option<(usize, u32)>
 
 // The place of the first of some names that is the file of a source.
 fn place_of_file(program: &Program, names: &[String]) -> Option<usize>
-    ensures value { result ≡ position (λ name. is_among (files_of program.now.sources) name) (map string_bytes names.now) }
+    ensures value { result ≡ position (λ name. is_file_of program.now.sources (string_bytes name)) names.now }
     ensures there { IfSome result (λ place. place < length names.now) }
 {
     names
         .iter()
-        .position(|name| is_file_of_source(program, name.as_str()))
+        .position(|name| is_file_of(program.sources.items(), name.as_str()))
 }
 
-// Whether a name is the file of a source.
-fn is_file_of_source(program: &Program, name: &str) -> bool
-    ensures { result ≡ is_among (files_of program.now.sources) name.now }
+// Whether a name is the file of one of some sources.
+fn is_file_of(sources: &[Source], name: &str) -> bool
+    ensures { result ≡ is_file_of sources.now name.now }
 {
-    program
-        .sources
-        .items()
-        .iter()
-        .any(|source| name == source.file.as_str())
+    sources.iter().any(|source| name == source.file.as_str())
 }
 
-// The first source with a file.
+// The number of the first source with a file.
 fn source_with(program: &Program, name: &str) -> Option<u32>
-    ensures { result ≡ position (λ s. bytes_eq s.file name.now) program.now.sources }
+    ensures { result ≡ position (λ s. bytes_eq name.now s.file) program.now.sources }
 {
-    let number = program
-        .sources
-        .items()
+    match place_of_source(program.sources.items(), name) {
+        Some(number) => Some(number as u32),
+        None => None,
+    }
+}
+
+// The place of the first source with a file.
+fn place_of_source(sources: &[Source], name: &str) -> Option<usize>
+    ensures value { result ≡ position (λ s. bytes_eq name.now s.file) sources.now }
+    ensures there { IfSome result (λ place. place < length sources.now) }
+{
+    sources
         .iter()
-        .position(|source| source.file.as_str() == name)?;
-    Some(number as u32)
+        .position(|source| name == source.file.as_str())
 }
 
 /// Names as texts.

@@ -115,7 +115,7 @@ fn partials_of_one_node_twice(rt: HostRuntime) -> Result<(), Fail> {
     assert!(&rt;
         matches!(
             answer,
-            Err(CombineFault::Partial(2, PartialDefect::Twice(0)))
+            Err(CombineFault::Partial(2, PartialDefect::Twice(2)))
         )
     );
     assert!(&rt; out.bytes().is_empty());

@@ -5,3 +5,4 @@ pub mod Orders
 pub mod Sendable
 pub mod Sorts
 pub mod Widths
+pub mod Texts

@@ -17,6 +17,7 @@ use Rattle.flu_partial.specs.Partial.{IsTime}
 use Rattle.flu_handover.specs.Handing.{line_of, IsSendable}
 use Rattle.flu_handover.specs.Laws.{IsInRange}
 use Rattle.flu_sending.specs.Lines.{all_times, last_time, sent_by}
+use Rattle.flu_sending.specs.Texts.{IsUtf8Output, TemplatesAreUtf8}
 
 -- items as code holds them: their times are below 2^63, their events have values of 64 bits, and there are fewer than 2^64 events
 pub record AreReadable (lists : List (List Item)) : Type 0 where
@@ -55,3 +56,9 @@ abbrev pub SentLinesMayCome : Type 0
 SentLinesMayCome =
     (p : Program) (nodes : List Node) (w : ℕ) (last : Option ℕ) (lists : List (List Item))
     → RiseStrictly (merged lists) → AreRest Head (map (line_of p last) (sent_by p nodes w lists))
+
+-- WHAT IS SENT HAS UTF-8 TEXTS, where the templates of the job are UTF-8: of any node of any plan, and of any streams
+abbrev pub SentTextsAreUtf8 : Type 0
+SentTextsAreUtf8 =
+    (p : Program) (nodes : List Node) (w : ℕ) (lists : List (List Item)) → TemplatesAreUtf8 p.kinds
+    → AllByRecursion (λ (k : Contribution). AllByRecursion (IsUtf8Output p) k.outputs) (sent_by p nodes w lists)

@@ -1,6 +1,6 @@
 //! Laws of what a node apart sends, each the contract of a function that does nothing.
 
-ghost use Rattle.flu_sending.specs.Laws.{SentByNeeded, SentByParts, SentLinesMayCome, WhatIsSentCanBeHandedOver};
+ghost use Rattle.flu_sending.specs.Laws.{SentByNeeded, SentByParts, SentLinesMayCome, SentTextsAreUtf8, WhatIsSentCanBeHandedOver};
 
 use flu_contribution::laws::{merged_lists_agree, only_needed_events_matter};
 use flu_laws::updates_are_changes;
@@ -31,4 +31,10 @@ pub fn lines_are_determined()
 /// before it and contributes something, and the last one is for the end.
 pub fn sent_lines_may_come()
     ensures { SentLinesMayCome }
+{}
+
+/// The outputs of what a node sends have UTF-8 texts and tags, where the plain pieces of the job's templates are UTF-8: all else in a text is
+/// digits and words.
+pub fn sent_texts_are_utf8()
+    ensures { SentTextsAreUtf8 }
 {}

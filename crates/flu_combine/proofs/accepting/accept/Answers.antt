@@ -13,4 +13,4 @@ returns-in-Ok-judge-clause-partial c =
 pub returns-in-Err-judge-clause-refused : goal.returns-in-Err-judge-clause-refused
 returns-in-Err-judge-clause-refused c =
     let read = rw c.program.ensures at c.in-Ok.ensures.read in
-    defect_of_head _ _ _ _ c.in-Ok.received c.in-Err-judge.defect read c.in-Err-judge.ensures.defect
+    defect_of_head _ _ _ _ c.in-Ok.received c.in-Err-judge.defect c.requires.few read c.in-Err-judge.ensures.defect

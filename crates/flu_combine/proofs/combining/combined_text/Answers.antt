@@ -1,4 +1,4 @@
-use Rattle.std.proofs.Common.{ℕ, List, sym, subst}
+use Rattle.std.proofs.Common.{ℕ, List, inr, sym, subst}
 use Rattle.std.proofs.lemmas.Result.{IfOk-weaker, IfErr-weaker}
 use Rattle.flu_lemmas.proofs.Named.{fronts_then}
 use Rattle.flu_outside.specs.Outside.{WhereTold}
@@ -8,7 +8,7 @@ use Rattle.flu_deps.specs.Validated.{plan_of}
 use Rattle.flu_contribution.specs.Laws.{AreNodesApart}
 use Rattle.flu_joining.specs.Parts.{waiting_in_each}
 use Rattle.flu_combine.specs.Reading.{AreRead}
-use Rattle.flu_combine.proofs.Combinings.{combined_told, unread_told, cause_told, both_told}
+use Rattle.flu_combine.proofs.Combinings.{combined_told, unread_told, cause_told, both_told, hides_behind}
 use Rattle.flu_combine.proofs.combining.combined_text.Goals as goal
 
 pub returns-in-Ok-clause-combined : goal.returns-in-Ok-clause-combined
@@ -63,3 +63,20 @@ returns-in-Ok-clause-others g c =
     let apart = subst (AreNodesApart p nodes) (sym c.as_slice.ensures.value) c.in-Ok.ensures.apart in
     let read = subst (λ (ws : List ℕ). WhereTold old mid (AreRead p nodes names ws queues)) (sym c.as_slice.ensures.value) c.in-Ok.ensures.read in
     unread_told p nodes names c.as_slice.result.now queues old mid (left c.rest_text.new.files) apart read c.in-Ok.ensures.others c.rest_text.ensures.others
+
+pub returns-in-Ok-clause-hides : goal.returns-in-Ok-clause-hides
+returns-in-Ok-clause-hides g c = λ is.
+    let left = g.F.Files.left in
+    let faults = g.F.Files.faults in
+    let p = program_of c.args.c.now in
+    let nodes = (plan_of c.args.v.now).nodes in
+    let names = c.args.names.now in
+    let queues = waiting_in_each c.in-Ok.field-0.queues.items in
+    let old = left c.args.files.now in
+    let mid = left c.read_partials.new.files in
+    let new = left c.rest_text.new.files in
+    let apart = subst (AreNodesApart p nodes) (sym c.as_slice.ensures.value) c.in-Ok.ensures.apart in
+    let read = subst (λ (ws : List ℕ). WhereTold old mid (AreRead p nodes names ws queues)) (sym c.as_slice.ensures.value) c.in-Ok.ensures.read in
+    inr (hides_behind p nodes names c.as_slice.result.now queues old mid new (faults c.args.files.now) (faults c.read_partials.new.files)
+    (faults c.rest_text.new.files) apart read (c.in-Ok.ensures.quiet (λ e. (cc)))
+    (both_told TookFronts mid new c.rest_text.ensures.fronts) (c.rest_text.ensures.hides is))

@@ -2,7 +2,7 @@ use Rattle.std.proofs.Common.{ap, ◌∙◌}
 use Rattle.std.specs.Prelude.{OnOk, IfOk, IfErr}
 use Rattle.flu_outside.specs.Outside.{WhereTold}
 use Rattle.flu_selected.specs.Gathering.{reads}
-use Rattle.flu_selected.specs.Gathering.{ReadAreGood, AreReadLists, ReadAreOut, IsFirstReadFault, LeavesUnread, ReadRose}
+use Rattle.flu_selected.specs.Gathering.{ReadAreGood, AreReadLists, ReadAreOut, IsFirstReadFault, LeavesUnread, ReadRose, HidesNoReadDefect}
 use Rattle.flu_combine.proofs.Combinings.{moved}
 use Rattle.flu_combine.proofs.gathering.gather_rest.Goals as goal
 
@@ -42,3 +42,11 @@ returns-clause-read g c = λ is.
     let faults = g.F.Files.faults in
     moved (λ q r. ReadRose q r (left c.args.files.now) (faults c.args.files.now) (faults c.gather_selected.new.files)) _ _ _ _ c.program.ensures
     (ap reads c.as_slice.ensures ∙ c.sources_of_rest-read.ensures.read) (c.gather_selected.ensures.read is)
+
+pub returns-clause-hides : goal.returns-clause-hides
+returns-clause-hides g c = λ is.
+    let left = g.F.Files.left in
+    let faults = g.F.Files.faults in
+    moved (λ q r. HidesNoReadDefect q r (left c.args.files.now) (left c.gather_selected.new.files) (faults c.args.files.now)
+    (faults c.gather_selected.new.files)) _ _ _ _ c.program.ensures
+    (ap reads c.as_slice.ensures ∙ c.sources_of_rest-read.ensures.read) (c.gather_selected.ensures.hides is)

@@ -1,4 +1,4 @@
-use Rattle.std.proofs.Common.{ℕ, ◌+◌, [], ◌∷◌, length, ap, sym, subst, ◌∙◌}
+use Rattle.std.proofs.Common.{◌≡◌, ℕ, ◌+◌, [], ◌∷◌, length, ap, sym, subst, ◌∙◌}
 use Rattle.std.proofs.lemmas.List.{length-append}
 use Rattle.flu_deps.specs.Checking.{program_of}
 use Rattle.flu_deps.specs.Validated.{plan_of}
@@ -6,7 +6,8 @@ use Rattle.flu_contribution.specs.Laws.{AreNodesApart}
 use Rattle.flu_lemmas.proofs.Named.{fronts_at, fronts_then}
 use Rattle.flu_joining.specs.Parts.{waiting_in, waiting_in_each}
 use Rattle.std.proofs.Common.{take}
-use Rattle.flu_combine.proofs.Readings.{fronts_read, others_more, cause_of, at_place, among_names, read_step, apart_more, same_then}
+use Rattle.flu_combine.specs.declared.fault.CombineFault.TheVariants as combine
+use Rattle.flu_combine.proofs.Readings.{fronts_read, others_more, cause_of, halted_at, at_place, among_names, read_step, apart_more, same_then}
 use Rattle.flu_combine.proofs.reading.read_partials.Goals as goal
 
 pub returns-in_err-add-in-Ok-clause-fronts : goal.returns-in_err-add-in-Ok-clause-fronts
@@ -41,6 +42,21 @@ returns-in-Err-clause-cause g c =
     (waiting_in_each c.partials.partials.queues.items) c.in-Err.refused c.refused_at.result (left c.args.files.now) (left c.partials.files)
     (left c.read_one-read.new.files) (faults c.args.files.now) (faults c.partials.files) (faults c.read_one-read.new.files)
     c.partials-test.true at c.refused_at.ensures c.partials.invariant.apart c.partials.invariant.read c.partials.invariant.quiet refusal
+
+pub returns-in-Err-clause-hides : goal.returns-in-Err-clause-hides
+returns-in-Err-clause-hides g c = λ is.
+    let left = g.F.Files.left in
+    let faults = g.F.Files.faults in
+    let names = c.args.names.now in
+    let place = c.partials.place in
+    let name = c.as_str-in-partials-2.result.now in
+    let at = at_place names place name c.index-names-place.result c.partials-test.true c.as_str-in-partials-2.ensures c.index-names-place.is in
+    let refusal = rw c.as_slice.ensures.value at c.in-Err.ensures.refused in
+    halted_at (program_of c.args.c.now) (plan_of c.args.v.now).nodes names place name c.partials.partials.nodes.items
+    (waiting_in_each c.partials.partials.queues.items) c.in-Err.refused c.refused_at.result (left c.args.files.now) (left c.partials.files)
+    (left c.read_one-read.new.files) (faults c.args.files.now) (faults c.partials.files) (faults c.read_one-read.new.files)
+    c.partials-test.true at c.refused_at.ensures c.partials.invariant.apart c.partials.invariant.read c.partials.invariant.quiet refusal
+    (let e : c.refused_at.result ≡ combine.ReadFault = cc in e)
 
 pub returns-in-Err-clause-fronts : goal.returns-in-Err-clause-fronts
 returns-in-Err-clause-fronts g c =

@@ -1,0 +1,4 @@
+pub mod Names
+pub mod Working
+pub mod Running
+pub mod Outcomes
