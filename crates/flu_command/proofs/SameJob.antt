@@ -173,7 +173,7 @@ same_defect_in kinds others s lines alike = ap (λ f. first_some f (each_with_be
 pub same_lines : (texts : List (List ℕ)) (left : Contents) (p q : Program) (i : ℕ) → IsSameJob p q → lines_behind texts left q i ≡ lines_behind texts left p i
 same_lines texts left p q i same =
     ap (λ (j : Job). option_map_or (λ (s : Source). read_file (form_of j.version j.iso) (bytes_left (emptied_each texts left) s.file))
-        (slice_get j.sources i) []) (sym same)
+    (slice_get j.sources i) []) (sym same)
 
 pub same_sound : (texts : List (List ℕ)) (left : Contents) (p q : Program) → IsSameJob p q → AreSound p (lines_behind texts left p)
     → AreSound q (lines_behind texts left q)
