@@ -46,8 +46,8 @@ use Rattle.flu_parse.specs.Cells.{resolved_key}
 use Rattle.flu_parse.specs.Actions.{resolved_actions}
 use Rattle.flu_parse.specs.Listings.{are_bracketed, written_keys, keys_of, tag_count, Listed, with_tag, tags_of, rate_of, slack_of, file_of}
 use Rattle.flu_parse.specs.Resolving.{Drafted, same_of, with_depend, with_actions, with_on, with_source as with_source_of}
-use Rattle.flu_parse.specs.Resolving.{cell_name_fits, item_word_fits, with_declaration, first_draft, draft_of, version_of}
-use Rattle.flu_parse.specs.Resolving.{unit_named, found_unit, unit_of, iso_of, job_with, resolved}
+use Rattle.flu_parse.specs.Resolving.{cell_name_fits, item_word_fits, with_declaration, first_draft, draft_of, version_of, unit_named, found_unit, unit_of, iso_of}
+use Rattle.flu_parse.specs.Resolving.{job_with, resolved}
 use Rattle.flu_parse.specs.Reading.{found_job}
 use Rattle.flu_grammar.specs.Declared.{DeclaredKind, WrittenSource, families_in, kinds_in, depends_in, sources_in}
 use Rattle.flu_grammar.specs.Cells.{family_name}
@@ -499,8 +499,8 @@ module _ (text : List ℕ) (job : WrittenJob) where
   resolved_breaks : FaultsAre Job (resolved text job)
   unfolding resolved
   resolved_breaks =
-      let drafted_in = λ (n : Naming) (version : ℕ) (iso : Option TimeUnit). draft_of text (in_version n version) job.declarations >>= λ x. let r : Found
-      ReadJob = Ok (job_with iso (in_version n version) x) in r in
+      let drafted_in = λ (n : Naming) (version : ℕ) (iso : Option TimeUnit). draft_of text (in_version n version) job.declarations >>= λ x. let r : Found ReadJob =
+      Ok (job_with iso (in_version n version) x) in r in
       let with_unit = λ (n : Naming) (version : ℕ). iso_of text version job.head >>= λ iso. drafted_in n version iso in
       faults_found Job (naming_of text job.declarations) (λ n. version_of job.head >>= λ version. with_unit n version) naming_breaks
       (λ n is. faults_found Job (version_of job.head) (λ version. with_unit n version) (version_breaks job.head refl)

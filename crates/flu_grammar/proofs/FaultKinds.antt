@@ -48,8 +48,8 @@ use Rattle.flu_parse.specs.Templates.{template_at, known_name, known_names, piec
 use Rattle.flu_parse.specs.Actions.{sort_for, act_with, clears_whole, resolved_act, guard_of, action_of, with_action, resolved_actions}
 use Rattle.flu_parse.specs.Listings.{are_bracketed, written_keys, keys_of, tag_count, Listed, with_tag, tags_of, rate_of, slack_of, file_of}
 use Rattle.flu_parse.specs.Resolving.{Drafted, same_of, with_depend, with_actions, with_on, with_source as with_source_of}
-use Rattle.flu_parse.specs.Resolving.{cell_name_fits, item_word_fits, with_declaration, first_draft, draft_of, version_of}
-use Rattle.flu_parse.specs.Resolving.{unit_named, found_unit, unit_of, iso_of, job_with, resolved}
+use Rattle.flu_parse.specs.Resolving.{cell_name_fits, item_word_fits, with_declaration, first_draft, draft_of, version_of, unit_named, found_unit, unit_of, iso_of}
+use Rattle.flu_parse.specs.Resolving.{job_with, resolved}
 
 -- ---- looks of which each fault is so
 
@@ -475,8 +475,8 @@ module _ (P : JobFault → Type 0) (plain : Plain P) where
     pub resolved_faults : (job : WrittenJob) → FaultsAre P (resolved text job)
     unfolding resolved
     resolved_faults job =
-        let drafted_in = λ (n : Naming) (version : ℕ) (iso : Option TimeUnit). draft_of text (in_version n version) job.declarations >>= λ x. let r : Found
-        Job = Ok (job_with iso (in_version n version) x) in r in
+        let drafted_in = λ (n : Naming) (version : ℕ) (iso : Option TimeUnit). draft_of text (in_version n version) job.declarations >>= λ x. let r : Found Job =
+        Ok (job_with iso (in_version n version) x) in r in
         let with_unit = λ (n : Naming) (version : ℕ). iso_of text version job.head >>= λ iso. drafted_in n version iso in
         faults_bind P (naming_of text job.declarations) (λ n. version_of job.head >>= λ version. with_unit n version)
         (faults_each P (declare text) declare_faults no_names job.declarations)

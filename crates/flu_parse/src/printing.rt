@@ -5,8 +5,8 @@ ghost use Rattle.std.specs.List.{flat_map};
 ghost use Rattle.std.specs.String.{string_bytes};
 ghost use Rattle.flu_model.specs.Erasure.{job_of, plain_kind};
 ghost use Rattle.flu_layout.specs.Lists.{separated};
-ghost use Rattle.flu_parse.specs.Printing.{iso_text, version_line, sort_text, keyed_text, cell_line, item_text, value_text, tag_line, kind_name, same_text};
-ghost use Rattle.flu_parse.specs.Printing.{depends_line, on_line, tag_text, slack_text, source_head, source_line, normal_form};
+ghost use Rattle.flu_parse.specs.Printing.{iso_text, version_line, sort_text, keyed_text, cell_line, item_text, value_text, tag_line, kind_name, same_text, depends_line};
+ghost use Rattle.flu_parse.specs.Printing.{on_line, tag_text, slack_text, source_head, source_line, normal_form};
 ghost use Rattle.flu_parse.specs.Reading.{job_in};
 
 use crate::laws::printed_is_read;

@@ -7,8 +7,7 @@ ghost use Rattle.flu_syntax.specs.Tree.{action_of as action_seen, declaration_of
 ghost use Rattle.flu_parse.specs.Faults.{Gives};
 ghost use Rattle.flu_parse.specs.Naming.{naming, in_version};
 ghost use Rattle.flu_parse.specs.Resolving.{drafted, same_of, with_depend, with_actions, with_on, with_source, with_declaration, idle_kind};
-ghost use Rattle.flu_parse.specs.Resolving.{cell_name_fits, item_word_fits, first_draft, draft_of, version_of};
-ghost use Rattle.flu_parse.specs.Resolving.{unit_named, unit_of, iso_of, resolved, job_of_parts};
+ghost use Rattle.flu_parse.specs.Resolving.{cell_name_fits, item_word_fits, first_draft, draft_of, version_of, unit_named, unit_of, iso_of, resolved, job_of_parts};
 
 use crate::actions::resolved_actions;
 use crate::drafts::{Draft, JobParts};

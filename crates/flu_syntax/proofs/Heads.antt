@@ -149,8 +149,7 @@ not_front : (word : Word) (front rest : List Token) → NotFirst word (front ++ 
 not_front word [] rest other = tt
 not_front word (t ∷ front) rest other = other
 
-not_more : (word : Word) (front : List Token) (t : Token) (rest more : List Token) → NotFirst word (front ++ t ∷ rest)
-    → NotFirst word ((front ++ t ∷ []) ++ more)
+not_more : (word : Word) (front : List Token) (t : Token) (rest more : List Token) → NotFirst word (front ++ t ∷ rest) → NotFirst word ((front ++ t ∷ []) ++ more)
 not_more word [] t rest more other = other
 not_more word (u ∷ front) t rest more other = other
 
@@ -333,8 +332,8 @@ module _ (n : ℤ) (v t i : Token) (is_version : v.word ≡ version_word) (is_nu
       let both : true ≡ false = sym some ∙ none in
       cc
 
-  iso_then : (x : Token) (tokens : List Token) (ds : Declarations) (iso : Option WrittenUnit)
-      → AreSigns (iso_signs iso ++ declarations_signs ds) (i ∷ x ∷ tokens) → is_name_word x.word ≡ true
+  iso_then : (x : Token) (tokens : List Token) (ds : Declarations) (iso : Option WrittenUnit) → AreSigns (iso_signs iso ++ declarations_signs ds) (i ∷ x ∷ tokens)
+      → is_name_word x.word ≡ true
   iso_then x tokens ds None are = absurd (no_declaration ds (x ∷ tokens) are)
   iso_then x tokens ds (Some unit) are = are.1.0.0
 

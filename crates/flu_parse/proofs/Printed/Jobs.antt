@@ -23,6 +23,7 @@ use Rattle.flu_calendar.specs.declared.unit.Unit.TheVariants.{Seconds, Milliseco
 use Rattle.flu_model.specs.Versions.{is_named_item, iso_fits}
 use Rattle.flu_names.specs.declared.reserved.Reserved.TheVariants as r
 use Rattle.flu_rules.specs.Keys.{TagsMeet, TagsDiffer}
+use Rattle.flu_text.specs.declared.written.WrittenNumber.{WrittenNumber}
 use Rattle.flu_syntax.specs.declared.tree.WrittenUnit.{WrittenUnit}
 use Rattle.flu_syntax.specs.declared.tree.WrittenHead.{WrittenHead}
 use Rattle.flu_syntax.specs.Tree.{Declaration, Job as WrittenJob}
@@ -40,16 +41,15 @@ use Rattle.flu_layout.specs.Laws.{LaidIsRead, BegunAreSigns, KeysAreSpelled, Key
 use Rattle.flu_parse.specs.declared.faults.JobFault.TheVariants as f
 use Rattle.flu_parse.specs.Faults.{Found, ◌>>=◌, ◌>>◌, unless, each}
 use Rattle.flu_parse.specs.Naming.{Naming, in_version, family, no_names, naming_of}
-use Rattle.flu_parse.specs.Resolving.{Drafted, with_declaration, idle_kind, draft_of, version_of}
-use Rattle.flu_parse.specs.Resolving.{unit_named, found_unit, unit_of, iso_of, job_with as draft_with, resolved}
+use Rattle.flu_parse.specs.Resolving.{Drafted, with_declaration, idle_kind, draft_of, version_of, unit_named, found_unit, unit_of, iso_of, job_with as draft_with}
+use Rattle.flu_parse.specs.Resolving.{resolved}
 use Rattle.flu_parse.specs.Reading.{text_in, found_tokens, tokens_in, found_job, written_in, job_in}
 use Rattle.flu_parse.specs.Printing.{unit_name, normal_form}
 use Rattle.flu_parse.proofs.Distinct.{distinct_front, distinct_back}
 use Rattle.flu_parse.proofs.ReadingLemmas.{text_in-utf8}
 use Rattle.flu_parse.proofs.Kept.Versions.{items_suit, actions_suit}
 use Rattle.flu_parse.proofs.Printed.Rules.{plain_depend_fits, plain_source_fits, names_of_job, JobFits}
-use Rattle.flu_parse.proofs.Printed.Words.{iso_words, version_words, cell_line_words, tag_line_words, depends_line_words, source_line_words, job_words}
-use Rattle.flu_parse.proofs.Printed.Words.{job_layout}
+use Rattle.flu_parse.proofs.Printed.Words.{iso_words, version_words, cell_line_words, tag_line_words, depends_line_words, source_line_words, job_words, job_layout}
 use Rattle.flu_parse.proofs.Printed.LaidLines.{names_of_kinds, job_laid}
 use Rattle.flu_parse.proofs.Printed.ReadTerms.{family_head, FamiliesKnown}
 use Rattle.flu_parse.proofs.Printed.ReadTags.{kind_head, KindsKnown}
@@ -378,14 +378,7 @@ module _ (begun : BegunAreSigns) (meet : TagsMeet) (differ : TagsDiffer) (job : 
       λ d. Ok (draft_with iso (in_version names v) d)) known
       ∙ ap (λ (r : Found (Option TimeUnit)). r >>= λ iso. draft_of whole n (all_parts p) >>= λ d. Ok (draft_with iso n d)) unit
       ∙ ap (λ (r : Found Drafted). r >>= λ d. Ok (draft_with job.iso n d)) d.2
-      ∙ ap (λ fs. Ok (let j : Job = record {
-        version = job.version;
-        iso = job.iso;
-        families = fs;
-        kinds = job.kinds;
-        depends = job.depends;
-        sources = job.sources;
-      } in j))
+      ∙ ap (λ fs. Ok (let j : Job = record { version = job.version; iso = job.iso; families = fs; kinds = job.kinds; depends = job.depends; sources = job.sources } in j))
       (families_back 0 job.families)
 
 -- the words of the normal form are read as the job

@@ -29,8 +29,8 @@ use Rattle.flu_syntax.specs.Grammar.{op_word}
 use Rattle.flu_layout.specs.Laid.{blank, line_end, quoted, reserved, mark, name, item, text, number}
 use Rattle.flu_layout.specs.Lists.{separated, between, items_words, keys_text, behind_kind, keys_words}
 use Rattle.flu_layout.specs.Laws.{KeysAreSpelled}
-use Rattle.flu_parse.specs.Printing.{op_text, term_text, act_text, guard_text, action_text, unit_name, iso_text, version_line, keyed_text, sort_text}
-use Rattle.flu_parse.specs.Printing.{cell_line, item_text, value_text, tag_line, kind_name, same_text, depends_line, actions_line, on_line, tag_text, slack_text, source_line}
+use Rattle.flu_parse.specs.Printing.{op_text, term_text, act_text, guard_text, action_text, unit_name, iso_text, version_line, keyed_text, sort_text, cell_line, item_text}
+use Rattle.flu_parse.specs.Printing.{value_text, tag_line, kind_name, same_text, depends_line, actions_line, on_line, tag_text, slack_text, source_line}
 use Rattle.flu_parse.specs.Printing.{normal_form}
 
 -- ---- lists in a row, grouped otherwise
@@ -357,5 +357,5 @@ job_layout spelled job =
       lines_out (on_line_words job.families) layout (on_line job.families) (λ k rest. actions_layout job.families k.name k.actions rest) job.kinds sources,
       lines_out (source_line_words job.kinds) layout (source_line job.kinds) (source_line_layout spelled job.kinds) job.sources [],
     ) refl)
-    ∙ regroup_job (version_line job.version job.iso) (flat_map cell_line job.families) (flat_map tag_line job.kinds)
-    (flat_map (depends_line job.kinds) job.depends) (flat_map (on_line job.families) job.kinds) (flat_map (source_line job.kinds) job.sources)
+    ∙ regroup_job (version_line job.version job.iso) (flat_map cell_line job.families) (flat_map tag_line job.kinds) (flat_map (depends_line job.kinds) job.depends)
+    (flat_map (on_line job.families) job.kinds) (flat_map (source_line job.kinds) job.sources)
