@@ -97,7 +97,7 @@ def further_aims(bench):
 
     inputs.plain("rows", 1000000, "", "\n")
     inputs.summed()
-    sums = {it: f"LC_ALL=C {it} -F, '{{ n += $3 }} END {{ print n }}' rows.csv" for it in ("gawk", "mawk")}
+    sums = {it: f"LC_ALL=C {it} -F, '{{ n += $3 }} END {{ printf \"%.0f\\n\", n }}' rows.csv" for it in ("gawk", "mawk")}
     commands = bench.fold_and_run("sum.job")
     figures = bench.compare(same=commands, **commands, **sums)
     for name in sums:

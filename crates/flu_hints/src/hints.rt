@@ -61,8 +61,8 @@ fn done_hint<R: rt::Files + AllocGlobal>(
     }
 }
 
-// What helps with a refusal.
-fn refusal_hint<R: rt::Files + AllocGlobal>(
+/// What helps with a refusal.
+pub fn refusal_hint<R: rt::Files + AllocGlobal>(
     rt: &R,
     words: &[String],
     refusal: &Refusal,

@@ -7,6 +7,7 @@ mod hints;
 mod jobs;
 mod limits;
 mod missing;
+mod parts;
 mod places;
 mod plans;
 mod reasons;
@@ -21,5 +22,6 @@ mod words;
 
 pub use hints::hint;
 pub use limits::limit_place;
+pub use parts::part_hint;
 pub use reasons::Failure;
 pub use sizes::bytes_to_read;

@@ -12,6 +12,8 @@ const USAGE: &str = "  flumina fold JOB
   flumina run JOB [PLAN | --depth D] [--round ROWS] [--adapt] [--save FILE [--unflushed]] [--resume FILE]
   flumina simulate JOB PLAN SEED [--trace]
   flumina replay JOB PLAN TRACE
+  flumina partial JOB PLAN NODE
+  flumina combine JOB PLAN FILE ..
   flumina demo N SEED
   flumina --help
 ";
@@ -23,6 +25,9 @@ const NO_NAME: &str =
 /// Why an option that exists does not fit.
 const MISPLACED: &str =
     "this option is not possible here: each stands at most once, in the order shown below";
+
+/// The place of a 65th file in the words of `combine`.
+const BEHIND_PARTIALS: usize = 67;
 
 /// The word that does not fit, why it does not, and the commands.
 pub fn words_hint(alloc: Global, words: &[String], bad: BadWords) -> Result<String, AllocError> {
@@ -58,7 +63,23 @@ fn reason_of(words: &[String], at: usize) -> &'static str {
     match (command, at) {
         ("demo", 1) => "N is a number from 0 to 1000000",
         ("demo", 2) | ("simulate", 3) => "a seed is a number from 0 to 2147483647",
+        ("partial", 3) => "the name of a node of the plan is expected here",
+        ("combine", _) => partial_reason(words, at),
         _ => option_reason(word_at(words, at)),
+    }
+}
+
+// Why a word after the plan of `combine`, or that none is there, does not fit.
+fn partial_reason(words: &[String], at: usize) -> &'static str {
+    let Some(word) = words.get(at) else {
+        return NO_NAME;
+    };
+    if at >= BEHIND_PARTIALS {
+        "at most 64 FILEs can be combined"
+    } else if words.iter().skip(1).take(at.saturating_sub(1)).any(|known| known.as_str() == word.as_str()) {
+        "this name is there already: JOB, PLAN and each FILE have names of their own"
+    } else {
+        NO_NAME
     }
 }
 
@@ -77,7 +98,7 @@ fn option_reason(word: &str) -> &'static str {
 fn names_of(command: &str) -> usize {
     match command {
         "fold" | "check" | "plan" | "run" => 1,
-        "valid" | "simulate" => 2,
+        "valid" | "simulate" | "partial" | "combine" => 2,
         "replay" => 3,
         _ => 0,
     }

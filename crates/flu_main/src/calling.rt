@@ -4,13 +4,15 @@ use crate::asking::{Asked, environment_asks, take_asking_words};
 use crate::help;
 use crate::progress::{Progress, Shown, Texts};
 use crate::watched::{WatchedFiles, WatchedWriter};
-use crate::words::{call_of, files_of, words_of};
+use crate::words::{call_of, texts_of, words_of};
 use flu_adapt::{FileFailure, HostFiles, HostSink, Standard, StandardStream};
-use flu_hints::{Failure, bytes_to_read, hint};
-use flu_lines::{Done, Refusal, Status, status_after};
+use flu_calls::{Answer, answer_words};
+use flu_hints::{Failure, bytes_to_read, hint, part_hint};
+use flu_lines::Status;
 use flu_outside::{Files, MemSink, Sink};
 use flu_seq::OpenGate;
-use flu_top::answer_words;
+use flu_words::is_part_call;
+use std::alloc::AllocError;
 use std::env::Env;
 use std::io::{IsTerminal, Write};
 use std::process::ExitCode;
@@ -19,9 +21,9 @@ use std::thread::Threads;
 use std::time::Clock;
 use std::{io, rt};
 
-/// More than the length of the longest line of an answer and the text of a plan that follows the counts: at most 256 itags of at most 81
-/// bytes, in at most 15 nodes.
-const LINE_ROOM: usize = 32_768;
+/// More than the length of the longest line of an answer, which may have a word of the call, of less than 131,072 bytes, and of the text of a
+/// plan that follows the counts: at most 256 itags of at most 81 bytes, in at most 15 nodes.
+const LINE_ROOM: usize = 163_840;
 
 /// Whether hints are written.
 #[derive(Clone, Copy)]
@@ -42,7 +44,7 @@ struct Seen<'t> {
     texts: Texts<'t>,
 }
 
-/// Does what the words of the call say with the files of the system, as `flu_top` has it, and answers the status. `out` and `err` are
+/// Does what the words of the call say with the files of the system, as `flu_calls` has it, and answers the status. `out` and `err` are
 /// standard output and standard error, and `process` is the number of the process. Hints are written if a word before the command asks
 /// for them, or the environment, or, if neither says anything, if standard error is a terminal; and if it is one, a line there says how
 /// much was read, unless a word asks for none.
@@ -64,7 +66,7 @@ pub fn answer_call<
     let seen = Seen {
         hints,
         shown: shown_of(rt, asked, out.is_terminal(), err.is_terminal()),
-        texts: texts_of(command),
+        texts: texts_of(command).unwrap_or(Texts::none()),
     };
     let files = HostFiles::of_program(rt, call_of(rt.alloc(), command, process));
     let out = StandardStream::new(rt, Standard::Output, out);
@@ -74,28 +76,18 @@ pub fn answer_call<
     } else {
         answer_plainly(rt, command, files, out, err)
     };
-    ExitCode::from(status_after(&ended).code())
+    ExitCode::from(ended.status().code())
 }
 
-// The texts that the call reads besides sources; none for a command that does not read sources.
-fn texts_of(words: &[String]) -> Texts<'_> {
-    match files_of(words) {
-        Some((job, plan)) => Texts { job, plan },
-        None => Texts {
-            job: "",
-            plan: None,
-        },
-    }
-}
-
-// What is shown of the reading: nothing for a command that does not read sources.
+// What is shown of the reading: nothing for a command that does not read sources. How many bytes there are to read is known beforehand where a
+// command reads all sources, and nothing else but its job and its plan: a part command reads some sources, or partials too.
 fn shown_of<R: rt::Files + AllocGlobal>(
     rt: &R,
     asked: Asked<'_>,
     is_out_seen: bool,
     is_err_seen: bool,
 ) -> Shown {
-    let Some((job, plan)) = files_of(asked.command) else {
+    let Some(texts) = texts_of(asked.command) else {
         return Shown {
             live: false,
             until_report: false,
@@ -108,8 +100,8 @@ fn shown_of<R: rt::Files + AllocGlobal>(
         live,
         until_report: is_out_seen,
         closing: asked.progress.unwrap_or(false),
-        total: if live {
-            bytes_to_read(rt, job, plan)
+        total: if live && !is_part_call(asked.command) {
+            bytes_to_read(rt, texts.job, texts.plan)
         } else {
             None
         },
@@ -119,10 +111,11 @@ fn shown_of<R: rt::Files + AllocGlobal>(
 // Answers with the line on err alone. The files have the same type with a watch and without, here and below: what reads them is then
 // compiled once, and as well as if there were no watch.
 fn answer_plainly<
+    'w,
     R: rt::Files + Clock + AllocGlobal + Threads + Wait + Sync,
     O: Write + Drop,
     E: Write + Drop,
->(rt: &R, words: &[String], files: HostFiles<&R>, out: O, err: E) -> Result<Done, Refusal> {
+>(rt: &R, words: &'w [String], files: HostFiles<&R>, out: O, err: E) -> Answer<'w> {
     let watch: Option<&Progress<'_, '_, R, E>> = None;
     let mut files = WatchedFiles::new(files, watch);
     let mut out = HostSink::new(WatchedWriter::new(out, watch));
@@ -132,17 +125,18 @@ fn answer_plainly<
 
 // Answers with a line on what is read meanwhile, and a hint after the line on err. A failure to make or write these changes nothing else.
 fn answer_watched<
+    'w,
     R: rt::Files + Clock + AllocGlobal + Threads + Wait + Sync,
     O: Write + Drop,
     E: Write + Drop,
 >(
     rt: &R,
-    words: &[String],
+    words: &'w [String],
     files: HostFiles<&R>,
     out: O,
     err: E,
     seen: Seen<'_>,
-) -> Result<Done, Refusal> {
+) -> Answer<'w> {
     let Ok(mut line) = MemSink::with_room(rt.alloc(), LINE_ROOM) else {
         return answer_plainly(rt, words, files, out, err);
     };
@@ -159,7 +153,7 @@ fn answer_watched<
     progress.say(line.bytes());
     if hints.are_wanted {
         let failure = failure_of(&ended, files.files().last_failure(), out.last_failure());
-        if let Ok(hint) = hint(rt, words, &ended, failure, hints.are_asked) {
+        if let Ok(hint) = hint_of(rt, words, &ended, failure, hints.are_asked) {
             progress.say(hint.as_str().as_bytes());
         }
     }
@@ -167,13 +161,28 @@ fn answer_watched<
     ended
 }
 
+// What helps a person who sees the answer.
+fn hint_of<R: rt::Files + AllocGlobal>(
+    rt: &R,
+    words: &[String],
+    ended: &Answer<'_>,
+    failure: Option<Failure>,
+    is_asked: bool,
+) -> Result<String, AllocError> {
+    match ended {
+        Answer::Command(ended) => hint(rt, words, ended, failure, is_asked),
+        Answer::Part(Ok(())) => Ok(String::new(rt.alloc())),
+        Answer::Part(Err(refusal)) => part_hint(rt, words, refusal, failure),
+    }
+}
+
 // What failed, if the answer is that a file or standard output did.
 fn failure_of<'f>(
-    ended: &Result<Done, Refusal>,
+    ended: &Answer<'_>,
     file: Option<&'f FileFailure>,
     out: Option<io::Error>,
 ) -> Option<Failure<'f>> {
-    match status_after(ended) {
+    match ended.status() {
         Status::ReadFault | Status::PutFault => {
             let failure = file?;
             Some(Failure {
@@ -194,13 +203,14 @@ fn failure_of<'f>(
 
 /// Answers words: those that ask for help or for the version here; all others go to the proved call as they are.
 pub(crate) fn answer<
+    'w,
     R: rt::Files + AllocGlobal + Threads + Wait + Sync,
     F: Files,
     O: Sink,
     E: Sink,
->(rt: &R, words: &[String], files: &mut F, out: &mut O, err: &mut E) -> Result<Done, Refusal> {
+>(rt: &R, words: &'w [String], files: &mut F, out: &mut O, err: &mut E) -> Answer<'w> {
     if let Some(text) = help::told(words) {
-        return help::tell(text, out, err);
+        return Answer::Command(help::tell(text, out, err));
     }
     answer_words(rt, rt.alloc(), words, files, out, err, &OpenGate)
 }

@@ -22,24 +22,29 @@ pub const HELP: &str =
   flumina simulate JOB PLAN SEED --trace
                                  the same, but write the trace of the run, one step per line, instead of the report
   flumina replay JOB PLAN TRACE  run the job by the steps of a trace, write the report
+  flumina partial JOB PLAN NODE  read only the sources that a node of the plan needs, write what it sends: its partial
+  flumina combine JOB PLAN FILE ..
+                                 read the partials of nodes, each in a FILE, and only the sources of the other nodes, write the report
   flumina demo N SEED            run a job of page views over N events that a seed draws, write a one-line summary
   flumina --help                 write this text, as flumina COMMAND --help does
   flumina --version              write the version and the toolchain that proves it
 
 Before a command, --hints lets a hint follow each line on standard error, and --no-hints none; without either there are hints if
-standard error is a terminal, or if FLUMINA_HINTS=1 is in the environment. While fold, run and simulate read, a terminal shows how
-far they are; --progress before the command adds a last line with bytes, rows and seconds, and --no-progress shows neither.
+standard error is a terminal, or if FLUMINA_HINTS=1 is in the environment. While fold, run, simulate, partial and combine read, a
+terminal shows how far they are; --progress before the command adds a last line with bytes, rows and seconds, and --no-progress
+shows neither.
 
-JOB, PLAN, TRACE and FILE are file names, SEED is a number from 0 to 2147483647, and N one from 0 to 1000000. File names, also
-those in a job, are looked up in the working directory.
+JOB, PLAN, TRACE and FILE are file names, NODE is the name of a node of the plan, SEED a number from 0 to 2147483647, and N one
+from 0 to 1000000. File names, also those in a job, are looked up in the working directory.
 
 Status 0: written. Any other status comes with a line on standard error: 2 the words are not a command, 3 the job's text has a
-fault, 4 tags conflict that are not declared dependent, 5 the plan has a fault or is not valid, 6 a source has a
-defect, 7 a file is missing or failed, 8 standard output failed, 9 out of memory, 11 a checkpoint has a fault, or has the name
-of a source's file, 12 a checkpoint could not be written, 13 a trace has a bad line, a step that is not enabled there,
-or too few lines.
+fault, 4 tags conflict that are not declared dependent, 5 the plan has a fault, is not valid or has no such NODE, or NODE may not
+be apart, 6 a source has a defect, 7 a file is missing or failed, 8 standard output failed, 9 out of memory, 11 a checkpoint has
+a fault, or has the name of a source's file, 12 a checkpoint could not be written, 13 a trace has a bad line, a step that is not
+enabled there, or too few lines, 14 a partial has a defect, or has the name of a source's file.
 
-docs/LANGUAGE.md describes jobs, rows and lines, docs/TREE.md plans, docs/GUIDE.md the way from a log to a report.
+docs/LANGUAGE.md describes jobs, rows and lines, docs/TREE.md plans, docs/SCALE.md partials, docs/GUIDE.md the way from a log to
+a report.
 ";
 
 /// The answer to `--version`: the version, and the line that `rt version` writes for the kit that proves this text. README and
@@ -68,7 +73,16 @@ pub fn told(words: &[String]) -> Option<&'static str> {
 fn is_command(word: &str) -> bool {
     matches!(
         word,
-        "fold" | "check" | "valid" | "plan" | "run" | "simulate" | "replay" | "demo"
+        "fold"
+            | "check"
+            | "valid"
+            | "plan"
+            | "run"
+            | "simulate"
+            | "replay"
+            | "partial"
+            | "combine"
+            | "demo"
     )
 }
 

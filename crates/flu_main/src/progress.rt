@@ -24,11 +24,12 @@ const CLEARED: &str =
 /// From this number on a count is shown in millions.
 const MILLION: u128 = 1_000_000;
 
-/// The names of a call's job and of its plan, if it reads one: all other files have rows.
+/// The names of a call's job, of its plan, if it reads one, and of its partials: all other files have rows.
 #[derive(Clone, Copy)]
 pub(crate) struct Texts<'w> {
     pub job: &'w str,
     pub plan: Option<&'w str>,
+    pub partials: &'w [String],
 }
 
 /// What is shown of a call's reading.
@@ -155,9 +156,20 @@ impl<'r, 'w, R: Clock, E: Write + Drop> Watch for Progress<'r, 'w, R, E> {
 }
 
 impl<'w> Texts<'w> {
-    // Whether the file of this name is neither the job nor the plan.
+    /// Those of a call that reads no sources.
+    pub fn none() -> Texts<'w> {
+        Texts {
+            job: "",
+            plan: None,
+            partials: &[],
+        }
+    }
+
+    // Whether the file of this name is neither the job nor the plan nor a partial.
     fn are_not(&self, name: &str) -> bool {
-        name != self.job && self.plan != Some(name)
+        name != self.job
+            && self.plan != Some(name)
+            && !self.partials.iter().any(|partial| partial.as_str() == name)
     }
 }
 

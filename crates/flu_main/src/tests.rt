@@ -4,7 +4,6 @@ mod stopped;
 use crate::calling::answer;
 use crate::help;
 use flu_adapt::{HostFiles, HostSink};
-use flu_lines::status_after;
 use std::io::Write;
 use std::sync::Wait;
 use std::test::Fail;
@@ -24,7 +23,7 @@ pub(crate) fn run<
         &mut HostSink::new(out),
         &mut HostSink::new(err),
     );
-    status_after(&ended).code()
+    ended.status().code()
 }
 
 const COUNTS: &str = "cell count sum\n\

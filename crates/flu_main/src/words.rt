@@ -1,7 +1,8 @@
 //! The words of a call.
 
+use crate::progress::Texts;
 use flu_adapt::ProgramCall;
-use flu_words::{Command, read_words};
+use flu_words::{Command, PartCommand, is_part_call, read_part_words, read_words};
 use std::alloc::{AllocError, Global};
 use std::env::{Env, FillError};
 use std::io::ErrorKind;
@@ -75,12 +76,41 @@ pub(crate) fn call_of(alloc: Global, words: &[String], process: u32) -> ProgramC
     }
 }
 
-/// The names of the job and, if it names one, of the plan, of a command that reads sources; none for any other words.
-pub(crate) fn files_of(words: &[String]) -> Option<(&str, Option<&str>)> {
-    match read_words(words) {
-        Ok(Command::Fold { job }) => Some((job, None)),
-        Ok(Command::Run { job, plan, .. }) => Some((job, plan)),
-        Ok(Command::Simulate { job, plan, .. }) => Some((job, Some(plan))),
-        _ => None,
+/// The files without rows that a command reads which reads sources; none for any other words.
+pub(crate) fn texts_of(words: &[String]) -> Option<Texts<'_>> {
+    if is_part_call(words) {
+        return texts_of_part(words);
+    }
+    let (job, plan) = match read_words(words) {
+        Ok(Command::Fold { job }) => (job, None),
+        Ok(Command::Run { job, plan, .. }) => (job, plan),
+        Ok(Command::Simulate { job, plan, .. }) => (job, Some(plan)),
+        _ => return None,
+    };
+    Some(Texts {
+        job,
+        plan,
+        partials: &[],
+    })
+}
+
+// The same of a part command.
+fn texts_of_part(words: &[String]) -> Option<Texts<'_>> {
+    match read_part_words(words) {
+        Ok(PartCommand::Partial { job, plan, .. }) => Some(Texts {
+            job,
+            plan: Some(plan),
+            partials: &[],
+        }),
+        Ok(PartCommand::Combine {
+            job,
+            plan,
+            partials,
+        }) => Some(Texts {
+            job,
+            plan: Some(plan),
+            partials,
+        }),
+        Err(_) => None,
     }
 }

@@ -164,12 +164,18 @@ const TEXTS_WITHOUT_A_UNIT: &str = "1,inc/2026-03-02T08:05:00Z,inc => 1: 1 inc N
 #[test]
 fn texts_are_no_times_without_a_unit(rt: HostRuntime) -> Result<(), Fail> {
     expect_all(&rt, rt.alloc(), RowForm::Older, TEXTS_WITHOUT_A_UNIT)?;
-    expect_all(&rt, rt.alloc(), RowForm::WithItems(None), TEXTS_WITHOUT_A_UNIT)
+    expect_all(
+        &rt,
+        rt.alloc(),
+        RowForm::WithItems(None),
+        TEXTS_WITHOUT_A_UNIT,
+    )
 }
 
 /// Files of rows whose times count seconds, which are those that `date -u` gives: each form of a time and of a row, quotes, the first and the
 /// last time, leap days, and texts and numbers that are no time.
-const SECONDS: &str = "2026-03-02T08:05:00Z,inc/2026-03-02 08:05:01,inc/2026-03-02T08:05:02.999,inc/1772438703,inc/end/ => 1: 1772438700 inc None None, 2: 1772438701 inc None None, 3: 1772438702 inc None None, 4: 1772438703 inc None None, 5: end, done 5
+const SECONDS: &str =
+    "2026-03-02T08:05:00Z,inc/2026-03-02 08:05:01,inc/2026-03-02T08:05:02.999,inc/1772438703,inc/end/ => 1: 1772438700 inc None None, 2: 1772438701 inc None None, 3: 1772438702 inc None None, 4: 1772438703 inc None None, 5: end, done 5
 2026-03-02 08:05:00,inc,-5/2026-03-02 08:05:01,inc[3],5,-6%/2026-03-02 08:05:02Z,beat%/2026-03-02T08:05:03,inc,x,,/ => 1: 1772438700 inc None Some(-5), 2: 1772438701 inc Some(3) 5 and -6, 3: beat 1772438702, 4: 1772438703 inc None others, done 4
 \"2026-03-02 08:05:00\",inc/\"2026-03-02T08:05:01Z\",\"beat\"/\"2026-03-02T08:05:02.5\",inc,7/\"1772438703\",inc => 1: 1772438700 inc None None, 2: beat 1772438701, 3: 1772438702 inc None 7 or 7, 4: 1772438703 inc None None, done 4
 \u{feff}1970-01-01T00:00:00Z,inc/9999-12-31T23:59:59.999999999Z,inc => 1: 0 inc None None, 2: 253402300799 inc None None, done 2
@@ -204,11 +210,13 @@ const SECONDS: &str = "2026-03-02T08:05:00Z,inc/2026-03-02 08:05:01,inc/2026-03-
 end => 1: end, done 1";
 
 /// The same where times count milliseconds, and where they count microseconds.
-const MILLISECONDS: &str = "2026-03-02T08:05:00Z,inc/2026-03-02 08:05:00.25,beat/2026-03-02 08:05:00.0019,inc => 1: 1772438700000 inc None None, 2: beat 1772438700250, 3: 1772438700001 inc None None, done 3
+const MILLISECONDS: &str =
+    "2026-03-02T08:05:00Z,inc/2026-03-02 08:05:00.25,beat/2026-03-02 08:05:00.0019,inc => 1: 1772438700000 inc None None, 2: beat 1772438700250, 3: 1772438700001 inc None None, done 3
 9999-12-31T23:59:59.999999999Z,inc/253402300799999,inc => 1: 253402300799999 inc None None, 2: 253402300799999 inc None None, done 2
 253402300800000,inc => bad 1";
 
-const MICROSECONDS: &str = "2026-03-02T08:05:00Z,inc/2026-03-02 08:05:00.25,beat/2026-03-02 08:05:00.0000019,inc => 1: 1772438700000000 inc None None, 2: beat 1772438700250000, 3: 1772438700000001 inc None None, done 3
+const MICROSECONDS: &str =
+    "2026-03-02T08:05:00Z,inc/2026-03-02 08:05:00.25,beat/2026-03-02 08:05:00.0000019,inc => 1: 1772438700000000 inc None None, 2: beat 1772438700250000, 3: 1772438700000001 inc None None, done 3
 9999-12-31T23:59:59.999999999Z,inc/253402300799999999,inc => 1: 253402300799999999 inc None None, 2: 253402300799999999 inc None None, done 2
 253402300800000000,inc => bad 1";
 
