@@ -1,6 +1,6 @@
 //! Laws of part commands, each the contract of a function that does nothing.
 
-ghost use Rattle.flu_parts.specs.Laws.{PartDoneIsWritten, PartialsCombinedAreTheFold};
+ghost use Rattle.flu_parts.specs.Laws.{PartDoneIsWritten, PartialsCombinedAreTheFold, CallsGiveTheFold};
 
 /// A part command that is done has written what it writes: of files whose bytes are known before and after the call, status 0 says that they were read
 /// as the command reads them, and that the text was appended to what `out` had.
@@ -30,4 +30,14 @@ pub fn partials_combined_are_the_fold()
     flu_receiving::laws::partials_have_one_text();
     flu_combine::laws::texts_are_whole_partials();
     flu_combine::laws::partials_are_combined();
+}
+
+/// So it is of calls, as their outcomes tell: where each file that a call of `combine` reads has what a call of `partial` with status 0 gave to its `out`,
+/// which was empty, and `combine` ends with status 0, it has appended the report of the fold to what its `out` had.
+pub fn calls_give_the_fold()
+    ensures { CallsGiveTheFold }
+{
+    partials_combined_are_the_fold();
+    flu_command::one_text::texts_have_one_job();
+    flu_command::one_text::programs_of_a_job_agree();
 }
