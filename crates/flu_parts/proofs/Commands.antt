@@ -312,12 +312,3 @@ pub only_in_texts : (command : PartCommand) (a m : Option Contents) → WhereTol
 only_in_texts command a m only =
     told_weaker (TookOnly (IsReadName a (texts_of command))) (TookOnly (IsReadPart a command)) a m
     (λ x y took name unread. took name (λ read. unread (inl read))) only
-
--- ---- what did not refuse it
-pub not_stopped : (checked : Checked) (valid : ValidPlan) (stop : Stop) → refusal_of_stop checked valid stop ≢ parts.Command refusals.ReadFault
-    → stop ≢ stops.ReadFault
-not_stopped checked valid stop other same = other (ap (refusal_of_stop checked valid) same)
-
-pub not_unwritten : (checked : Checked) (valid : ValidPlan) (stop : Stop) → refusal_of_stop checked valid stop ≢ parts.Command refusals.WriteFault
-    → stop ≢ stops.WriteFault
-not_unwritten checked valid stop other same = other (ap (refusal_of_stop checked valid) same)

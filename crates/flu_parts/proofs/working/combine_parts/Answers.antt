@@ -1,4 +1,4 @@
-use Rattle.std.proofs.Common.{◌≡◌, ◌<◌, sym, ◌∙◌, subst, List, ℕ, map, string_bytes}
+use Rattle.std.proofs.Common.{◌≡◌, ◌<◌, sym, ap, Err, ◌∙◌, subst, List, ℕ, map, string_bytes}
 use Rattle.std.proofs.lemmas.List.{length-map}
 use Rattle.flu_outside.specs.Outside.{WhereTold}
 use Rattle.flu_deps.specs.Checking.{program_of}
@@ -138,7 +138,7 @@ returns-in-Err-ReadFault-clause-ends g c job plan =
     let cause = subst (IsCause p nodes names a b k l) c.in-Err-ReadFault.field-0-is
         (subst (λ (ns : List (List ℕ)). IsCause p nodes ns a b k l c.in-Err-ReadFault.field-0) same c.in-Err-ReadFault.ensures.cause) in
     let hides = subst (λ (ns : List (List ℕ)). HidesNoPartialDefect p nodes ns a b k l) same
-        (c.in-Err-ReadFault.ensures.hides c.in-Err-ReadFault.field-0-is) in
+        (c.in-Err-ReadFault.ensures.hides (ap Err c.in-Err-ReadFault.field-0-is)) in
     ((none, cause, hides), c.in-Err-ReadFault.ensures.kept (λ write. cc))
 
 pub returns-in-Err-WriteFault-clause-ends : goal.returns-in-Err-WriteFault-clause-ends
@@ -150,7 +150,7 @@ returns-in-Err-WriteFault-clause-ends g c job plan =
     let none = subst (AreNoSources names) c.program.ensures (c.same_name.ensures.none c.in_default.is) in
     let a = g.F.Files.left c.args.files.now in
     let b = g.F.Files.left c.combine.new.files in
-    let part = c.in-Err-WriteFault.ensures.part c.in-Err-WriteFault.field-0-is in
+    let part = c.in-Err-WriteFault.ensures.part (ap Err c.in-Err-WriteFault.field-0-is) in
     (part.0, text_of_parts p nodes job plan names none a b part.0
     (subst (λ (ns : List (List ℕ)). WhereTold a b (IsCombined p nodes ns part.0)) same part.1), part.2,
-    c.in-Err-WriteFault.ensures.failed c.in-Err-WriteFault.field-0-is)
+    c.in-Err-WriteFault.ensures.failed (ap Err c.in-Err-WriteFault.field-0-is))
