@@ -1,4 +1,4 @@
 pub mod Names
-pub mod Working
-pub mod Running
+pub mod BehindTexts
+pub mod Commands
 pub mod Outcomes

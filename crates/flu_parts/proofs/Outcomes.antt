@@ -1,5 +1,8 @@
 -- The outcome of a call, by how the doing of its words ended and by what was said.
-use Rattle.std.proofs.Common.{◌≡◌, ◌≢◌, refl, ap, subst, ℕ, List, Option, Result, Ok, Err, inl, inr, arith}
+use Rattle.std.proofs.Common.{◌≡◌, ◌≢◌, refl, ap, subst, ℕ, List, Option, Some, None, Result, Ok, Err, inl, inr, arith}
+use Rattle.std.specs.Prelude.{IfSome, option_map}
+use Rattle.flu_model.specs.Modes.{IsAccepted}
+use Rattle.flu_model.specs.Validity.{IsValid}
 use Rattle.flu_lemmas.proofs.Told.{told_weaker}
 use Rattle.flu_outside.specs.Outside.{Contents, WhereTold, Rose, SameCounts}
 use Rattle.flu_deps.specs.Checking.{program_of}
@@ -105,3 +108,104 @@ failed_text command old new k l (InCheckpoint name checkpoint rose few) = (name,
 failed_text command old new k l (InSources name file whole rose hides) = (name, inr (inr (inr (inl file))), rose)
 failed_text command old new k l (InRows name file rounds rose hides) = (name, inr (inr (inr (inl file))), rose)
 failed_text command old new k l (InTrace name trace rose) = (name, inr (inr (inr (inr trace))), rose)
+
+failed_behind : (command : PartCommand) (p : Program) (nodes : List Node) (old new : Option Contents) (k l : List ℕ → ℕ) → IsAccepted p → IsValid p nodes
+    → WhereTold old new (λ left now. IsPlanned command left p nodes)
+    → IsReadFaultBehind command p nodes (option_map (behind command) old) new k l → (name : List ℕ) × IsReadPart old command name × Rose (k name) (l name)
+failed_behind (Partial job plan node) p nodes None new k l accepted valid planned (w, apart, one, read, hides) = (
+  one.0,
+  inr (record {
+    p = p;
+    nodes = nodes;
+    may = record { accepted = accepted; valid = valid; planned = tt };
+    named = inr (one.1, (w, apart, tt));
+  }),
+  one.2,
+)
+failed_behind (Partial job plan node) p nodes (Some x) None k l accepted valid planned found = absurd planned
+failed_behind (Partial job plan node) p nodes (Some x) (Some z) k l accepted valid planned (w, apart, one, read, hides) =
+    let found = read refl in (
+      found.0,
+      inr (record {
+        p = p;
+        nodes = nodes;
+        may = record { accepted = accepted; valid = valid; planned = planned };
+        named = inr (found.1.0, (w, apart, found.1));
+      }),
+      found.2,
+    )
+failed_behind (Combine job plan partials) p nodes old new k l accepted valid planned (none, inl one, hides) = (
+  one.0,
+  inr (record {
+    p = p;
+    nodes = nodes;
+    may = record { accepted = accepted; valid = valid; planned = may_planned old new planned };
+    named = inl (none, one.1);
+  }),
+  one.2,
+)
+  where
+    may_planned : (old new : Option Contents) → WhereTold old new (λ left now. IsPlanned (Combine job plan partials) left p nodes)
+        → IfSome old (λ contents. IsPlanned (Combine job plan partials) contents p nodes)
+    may_planned None new planned = tt
+    may_planned (Some x) None planned = absurd planned
+    may_planned (Some x) (Some z) planned = planned
+failed_behind (Combine job plan partials) p nodes None new k l accepted valid planned (none, inr source, hides) =
+    let one = source.0 in
+    (one.0, inr (record { p = p; nodes = nodes; may = record { accepted = accepted; valid = valid; planned = tt }; named = inr (one.1, none, tt) }), one.2)
+failed_behind (Combine job plan partials) p nodes (Some x) None k l accepted valid planned (none, inr source, hides) = absurd planned
+failed_behind (Combine job plan partials) p nodes (Some x) (Some z) k l accepted valid planned (none, inr source, hides) =
+    let told = source.1 in (
+      told.rose.0,
+      inr (record {
+        p = p;
+        nodes = nodes;
+        may = record { accepted = accepted; valid = valid; planned = planned };
+        named = inr (told.rose.1.0, none, (told.ws, told.queues, told.accepted, told.rose.1));
+      }),
+      told.rose.2,
+    )
+
+name_that_failed : (command : PartCommand) (old new : Option Contents) (k l : List ℕ → ℕ) → HasFailedRead command old new k l
+    → (name : List ℕ) × IsReadPart old command name × Rose (k name) (l name)
+name_that_failed command old new k l (InTexts fault) =
+    let found = failed_text command old new k l fault in (found.0, inl found.1, found.2)
+name_that_failed command old new k l (Behind p nodes accepted valid planned fault) = failed_behind command p nodes old new k l accepted valid planned fault
+
+pub faults_of : (words : List (List ℕ)) (c : Call) (ended : Result (Unit {0}) PartRefusal) → Ends words c ended
+    → (ended ≢ Err (parts.Command refusals.ReadFault) → SameCounts c.counts c.counts_after)
+    → (ended ≢ Err (parts.Command refusals.WriteFault) → c.count_after ≡ c.count) → SameCounts c.puts c.puts_after
+    → PartFaultsFirst words c.left (faults c.counts c.puts c.count) (faults c.counts_after c.puts_after c.count_after) (code_after_part ended)
+faults_of words c ended ends takes out puts = record {
+  read = λ is. read_fault_at is;
+  write = λ is. write_fault_at is;
+  same_takes = λ other. takes (λ is. other (ap code_after_part is));
+  same_out = λ other. out (λ is. other (ap code_after_part is));
+  same_puts = puts;
+}
+  where
+    read_fault_at : code_after_part ended ≡ 7 → (name : List ℕ) × IsReadByPart words c.left name × Rose (c.counts name) (c.counts_after name)
+    read_fault_at is =
+        let fault = read_fault_of words c ended ends is in
+        let found = name_that_failed fault.0 c.left c.left_after c.counts c.counts_after fault.2 in
+        (found.0, (fault.0, fault.1, found.1), found.2)
+
+    write_fault_at : code_after_part ended ≡ 8 → Rose c.count c.count_after
+    write_fault_at is =
+        let ending = ending_at words c ended ends (λ e. omega arith) in
+        (subst (IsEnding c ending.0) (of_write_fault ended is) ending.2).3
+
+pub hides_of : (words : List (List ℕ)) (c : Call) (ended : Result (Unit {0}) PartRefusal) → Ends words c ended
+    → PartHidesNothing words c.left c.left_after (faults c.counts c.puts c.count) (faults c.counts_after c.puts_after c.count_after) (code_after_part ended)
+hides_of words c ended ends = record { failed = λ is. read_fault_of words c ended ends is }
+
+-- ---- the words
+pub ends_command : (words : List (List ℕ)) (c : Call) (command : PartCommand) (ended : Result (Unit {0}) PartRefusal) → part_in words ≡ Ok command
+    → IsEnding c command ended → Ends words c ended
+ends_command words c command ended word ending = record { how = inl (command, word, ending) }
+
+pub only_wider : (words : List (List ℕ)) (command : PartCommand) (a b : Option Contents) → part_in words ≡ Ok command
+    → WhereTold a b (TookOnly (IsReadPart a command)) → WhereTold a b (TookOnly (IsReadByPart words a))
+only_wider words command a b is only =
+    told_weaker (TookOnly (IsReadPart a command)) (TookOnly (IsReadByPart words a)) a b
+    (λ x y took name unread. took name (λ read. unread (command, is, read))) only

@@ -12,15 +12,18 @@ use Rattle.flu_words.specs.Parts.{PartCommand, Partial, Combine}
 use Rattle.flu_command.specs.Behind.{HasJob, HasPlan, emptied_each}
 use Rattle.flu_command.specs.Wants.{job_wanted, texts_named}
 
--- the command that reads the same job and the same plan, and asks the same of them
-abbrev pub texts_of : PartCommand → Command
-texts_of (Partial job plan node) = Valid job plan
-texts_of (Combine job plan partials) = Valid job plan
+-- the names of its job and of its plan
+abbrev pub job_of_part : PartCommand → List ℕ
+job_of_part (Partial job plan node) = job
+job_of_part (Combine job plan partials) = job
 
--- the name of its plan
 abbrev pub plan_of_part : PartCommand → List ℕ
 plan_of_part (Partial job plan node) = plan
 plan_of_part (Combine job plan partials) = plan
+
+-- the command that reads the same job and the same plan, and asks the same of them
+abbrev pub texts_of : PartCommand → Command
+texts_of command = Valid (job_of_part command) (plan_of_part command)
 
 -- what the files have left once the job's text and the plan's were read
 abbrev pub behind : PartCommand → Contents → Contents

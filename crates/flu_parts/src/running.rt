@@ -5,11 +5,10 @@ ghost use Rattle.flu_outside.specs.Outside.{WhereTold, SameCounts};
 ghost use Rattle.flu_outside.specs.Taking.{TookFronts};
 ghost use Rattle.flu_deps.specs.Checking.{program_of};
 ghost use Rattle.flu_deps.specs.Validated.{plan_of};
-ghost use Rattle.flu_words.specs.Words.{Valid as ValidCommand};
 ghost use Rattle.flu_words.specs.Parts.{plain_part};
 ghost use Rattle.flu_command.specs.Taking.{TookOnly};
 ghost use Rattle.flu_top.specs.Ending.{call};
-ghost use Rattle.flu_parts.specs.Planned.{texts_of};
+ghost use Rattle.flu_parts.specs.Planned.{job_of_part, plan_of_part};
 ghost use Rattle.flu_parts.specs.ReadNames.{IsReadPart};
 ghost use Rattle.flu_parts.specs.Ending.{IsEnding, refusal_of_stop};
 
@@ -17,6 +16,7 @@ use crate::stops::Stop;
 use crate::working::work;
 use flu_lines::{JobRead, PartRefusal, Refusal};
 use flu_outside::{Files, Sink};
+use flu_receiving::laws::partials_have_one_text;
 use flu_top::{Planned, planned_by};
 use flu_words::PartCommand;
 use std::alloc::Global;
@@ -36,19 +36,13 @@ pub fn run<'a, F: Files, K: Sink>(
     ensures puts { SameCounts (F.put_faults files.old) (F.put_faults files.new) }
     ensures written_quiet { result ≢ Err (PartRefusal.Command Refusal.WriteFault) → K.faults out.new ≡ K.faults out.old }
 {
+    partials_have_one_text();
     let (job, plan) = texts_of(command);
     let planned = match planned_by(alloc, files, job, plan) {
         Ok(planned) => planned,
         Err(refusal) => return Err(PartRefusal::Command(refusal)),
     };
-    match work(
-        alloc,
-        files,
-        out,
-        &planned.checked,
-        &planned.valid,
-        command,
-    ) {
+    match work(alloc, files, out, &planned.checked, &planned.valid, command) {
         Ok(()) => Ok(()),
         Err(stop) => Err(refusal_of(planned, stop)),
     }
@@ -56,7 +50,8 @@ pub fn run<'a, F: Files, K: Sink>(
 
 // The names of a command's job and of its plan.
 fn texts_of<'a>(command: PartCommand<'a>) -> (&'a str, &'a str)
-    ensures { texts_of (plain_part command.entry) ≡ ValidCommand result.0.now result.1.now }
+    ensures job { result.0.now ≡ job_of_part (plain_part command.entry) }
+    ensures plan { result.1.now ≡ plan_of_part (plain_part command.entry) }
 {
     match command {
         PartCommand::Partial { job, plan, .. } => (job, plan),

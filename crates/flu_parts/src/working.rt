@@ -40,9 +40,7 @@ pub fn work<'a, F: Files, K: Sink>(
     ensures written_quiet { result ≢ Err Stop.WriteFault → K.faults out.new ≡ K.faults out.old }
 {
     match command {
-        PartCommand::Partial { node, .. } => {
-            write_part(alloc, files, out, checked, valid, node)
-        }
+        PartCommand::Partial { node, .. } => { write_part(alloc, files, out, checked, valid, node) }
         PartCommand::Combine { partials, .. } => {
             combine_parts(alloc, files, out, checked, valid, partials)
         }
@@ -103,10 +101,7 @@ fn combine_parts<'a, F: Files, K: Sink>(
     ensures written_quiet { result ≢ Err Stop.WriteFault → K.faults out.new ≡ K.faults out.old }
 {
     if let Some((place, source)) = same_name(checked.program(), partials) {
-        return Err(Stop::File(
-            partials[place].as_str(),
-            FileDefect::SameName(source),
-        ));
+        return Err(Stop::File(partials[place].as_str(), FileDefect::SameName(source)));
     }
     let names = match texts_of(alloc, partials) {
         Ok(names) => names,

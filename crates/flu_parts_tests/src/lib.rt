@@ -7,6 +7,8 @@ mod cases;
 #[cfg(test)]
 mod changed;
 #[cfg(test)]
+mod commands;
+#[cfg(test)]
 mod files;
 #[cfg(test)]
 mod joined;

@@ -75,7 +75,7 @@ module _ (p : Program) (nodes : List Node) (job plan : List ℕ) (names : List (
     lt,
     at,
     told_weaker (λ was then. IsFaultOfPartial p nodes names was place defect)
-    (λ was then. IsFileDefect p nodes names was place (PartialDefective defect)) a b (λ x y h. (none, h)) is,
+        (λ was then. IsFileDefect p nodes names was place (PartialDefective defect)) a b (λ x y h. (none, h)) is,
   )
 
 -- the file of a source is named as a partial
@@ -84,7 +84,7 @@ pub same_stop : (p : Program) (nodes : List Node) (job plan : List ℕ) (names :
     → IsFileStop (Combine job plan (map string_bytes names)) p nodes (string_bytes name) (SameName number) a a
 same_stop p nodes job plan names place number name a lt at same = (
   place,
-  subst (λ (n : ℕ). place < n) (sym (length-map string_bytes names)) lt,
+  subst (λ (n : ℕ). place < n) (sym (length-map names string_bytes)) lt,
   bytes_at names place name lt at,
   told_same (λ was is. IsFileDefect p nodes (map string_bytes names) was place (SameName number)) a (λ x. same),
 )

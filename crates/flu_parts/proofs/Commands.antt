@@ -46,7 +46,7 @@ use Rattle.flu_parts.specs.Planned.{job_of_part, plan_of_part, texts_of, behind,
 use Rattle.flu_parts.specs.Written.{AreNoSources, IsTextOf, IsWritten}
 use Rattle.flu_parts.specs.Causes.{IsSourceDefect, IsFileDefect, IsReadFaultBehind, HasNodeDefect, HasFileDefect, InTexts, Behind}
 use Rattle.flu_parts.specs.ReadNames.{IsReadPart, IsBehind}
-use Rattle.flu_parts.specs.Ending.{IsNodeStop, IsFileStop, IsEndBehind, IsReadBehind, LeavesBehind, refusal_of_stop, IsStopped, IsEnding}
+use Rattle.flu_parts.specs.Ending.{IsNodeStop, IsFileStop, IsStop, IsEndBehind, IsReadBehind, LeavesBehind, refusal_of_stop, IsStopped, IsEnding}
 use Rattle.flu_parts.proofs.Names.{among, among_there}
 
 -- ---- the job and the plan refuse it
@@ -235,7 +235,7 @@ module _ (law : PartialsHaveOneText) (command : PartCommand) (checked : Checked)
     is.1,
     is.2,
     planned (λ was then. IsFileDefect p nodes partials was is.0 why)
-    (λ left now. IsFileDefect p nodes partials (behind (Combine job plan partials) left) is.0 why) (λ x z h. h) is.3,
+        (λ left now. IsFileDefect p nodes partials (behind (Combine job plan partials) left) is.0 why) (λ x z h. h) is.3,
   )
 
   pub stopped_behind : (k km l u v : List ℕ → ℕ) (t s : Option (List ℕ)) (n o : ℕ) (stop : Stop) → IsAccepted p → IsValid p nodes
@@ -257,8 +257,8 @@ module _ (law : PartialsHaveOneText) (command : PartCommand) (checked : Checked)
   )
   stopped_behind k km l u v t s n o stops.ReadFault accepted plan planned ready same fronts leaves is = (
     Behind p nodes accepted plan (planned_on planned fronts)
-    (subst (λ (left : Option Contents). IsReadFaultBehind command p nodes left b k l) (behind_told command p a m ready)
-    (subst (λ (counts : List ℕ → ℕ). IsReadFaultBehind command p nodes m b counts l) (sym same) is.0)),
+        (subst (λ (left : Option Contents). IsReadFaultBehind command p nodes left b k l) (behind_told command p a m ready)
+        (subst (λ (counts : List ℕ → ℕ). IsReadFaultBehind command p nodes m b counts l) (sym same) is.0)),
     is.1,
   )
   stopped_behind k km l u v t s n o stops.WriteFault accepted plan planned ready same fronts leaves is =
@@ -274,16 +274,16 @@ module _ (law : PartialsHaveOneText) (command : PartCommand) (checked : Checked)
   -- ---- the names that it reads
   behind_is_read : (d : PartCommand) (x y : Contents) (name : List ℕ) → y ≡ behind d x → IsAccepted p → IsValid p nodes → IsPlanned d x p nodes
       → IsReadBehind d p nodes y name → IsBehind (Some x) d name
-  behind_is_read (Partial job plan node) x y name same accepted plan planned read = record {
+  behind_is_read (Partial job plan node) x y name same accepted fits planned read = record {
     p = p;
     nodes = nodes;
-    may = record { accepted = accepted; valid = plan; planned = planned };
+    may = record { accepted = accepted; valid = fits; planned = planned };
     named = inr (read.2.0, (read.0, read.1, read.2));
   }
-  behind_is_read (Combine job plan partials) x y name same accepted plan planned read = record {
+  behind_is_read (Combine job plan partials) x y name same accepted fits planned read = record {
     p = p;
     nodes = nodes;
-    may = record { accepted = accepted; valid = plan; planned = planned };
+    may = record { accepted = accepted; valid = fits; planned = planned };
     named = elim read.1 [
       | inl named ↦ inl (read.0, named)
       | inr beside ↦ inr (beside.3.0, read.0, subst (λ (left : Contents). IsReadBeside p nodes partials left name) same beside)
@@ -303,8 +303,8 @@ module _ (law : PartialsHaveOneText) (command : PartCommand) (checked : Checked)
       by_told None (Some y) b planned ready only leaves = absurd ready
       by_told (Some x) None b planned ready only leaves = absurd ready
       by_told (Some x) (Some y) None planned ready only leaves = absurd leaves
-      by_told (Some x) (Some y) (Some z) planned ready only leaves name unread =
-          leaves name (λ read. unread (inr (behind_is_read command x y name (sym ready.texts.behind) accepted plan planned read)))
+      by_told (Some x) (Some y) (Some z) planned ready only leaves =
+          λ name unread. leaves name (λ read. unread (inr (behind_is_read command x y name (sym ready.texts.behind) accepted plan planned read)))
           ∙ only name (λ read. unread (inl read))
 
 pub only_in_texts : (command : PartCommand) (a m : Option Contents) → WhereTold a m (TookOnly (IsReadName a (texts_of command)))
@@ -312,12 +312,3 @@ pub only_in_texts : (command : PartCommand) (a m : Option Contents) → WhereTol
 only_in_texts command a m only =
     told_weaker (TookOnly (IsReadName a (texts_of command))) (TookOnly (IsReadPart a command)) a m
     (λ x y took name unread. took name (λ read. unread (inl read))) only
-
--- ---- what did not refuse it
-pub not_stopped : (checked : Checked) (valid : ValidPlan) (stop : Stop) → refusal_of_stop checked valid stop ≢ parts.Command refusals.ReadFault
-    → stop ≢ stops.ReadFault
-not_stopped checked valid stop other same = other (ap (refusal_of_stop checked valid) same)
-
-pub not_unwritten : (checked : Checked) (valid : ValidPlan) (stop : Stop) → refusal_of_stop checked valid stop ≢ parts.Command refusals.WriteFault
-    → stop ≢ stops.WriteFault
-not_unwritten checked valid stop other same = other (ap (refusal_of_stop checked valid) same)
