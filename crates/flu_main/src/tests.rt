@@ -97,10 +97,38 @@ fn partials_of_two_nodes_are_combined(rt: HostRuntime) -> Result<(), Fail> {
         assert!(rt; fs::write(&rt, node, out.as_slice()).is_ok(), "{node}");
     }
     let cases = [
-        ("combine", "left", "right", "3,read,count 12\n5,read,count 2\n", "", 0),
-        ("combine", "right", "a.csv", "", "flumina: partial a.csv: same as source a\n", 14),
-        ("combine", "right", "right", "", "flumina: bad words at 4\n", 2),
-        ("partial", "left", "right", "", "flumina: bad words at 4\n", 2),
+        (
+            "combine",
+            "left",
+            "right",
+            "3,read,count 12\n5,read,count 2\n",
+            "",
+            0,
+        ),
+        (
+            "combine",
+            "right",
+            "a.csv",
+            "",
+            "flumina: partial a.csv: same as source a\n",
+            14,
+        ),
+        (
+            "combine",
+            "right",
+            "right",
+            "",
+            "flumina: bad words at 4\n",
+            2,
+        ),
+        (
+            "partial",
+            "left",
+            "right",
+            "",
+            "flumina: bad words at 4\n",
+            2,
+        ),
     ];
     for (command, first, second, report, line, wanted) in cases {
         let words = [command, "parted.job", "parted.plan", first, second];
