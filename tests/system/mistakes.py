@@ -72,10 +72,16 @@ mistake(["run", "rides.job", "--save"], 2, "flumina: bad words at 3\n", "  after
 mistake(["run", "rides.job", "--unflushed"], 2, "flumina: bad words at 2\n", "only right after --save FILE\n")
 mistake(["simulate", "rides.job", "p", "2147483648"], 2, "flumina: bad words at 3\n", "a seed is a number from 0 to 2147483647\n")
 mistake(["demo", "many", "1"], 2, "flumina: bad words at 1\n", "N is a number from 0 to 1000000\n")
-mistake(["partial", "rides.job"], 2, "flumina: bad words at 2\n", "  after the last word: the name of a file is expected here", "  flumina partial JOB PLAN NODE\n")
+mistake(
+    ["partial", "rides.job"], 2, "flumina: bad words at 2\n",
+    "  after the last word: the name of a file is expected here", "  flumina partial JOB PLAN NODE\n",
+)
 mistake(["partial", "rides.job", "plan"], 2, "flumina: bad words at 3\n", "  after the last word: the name of a node of the plan is expected here\n")
 mistake(["partial", "rides.job", "plan", "left", "right"], 2, "flumina: bad words at 4\n", "  word 4, right: this word is one too many\n")
-mistake(["combine", "rides.job", "plan"], 2, "flumina: bad words at 3\n", "  after the last word: the name of a file is expected here", "  flumina combine JOB PLAN FILE ..\n")
+mistake(
+    ["combine", "rides.job", "plan"], 2, "flumina: bad words at 3\n",
+    "  after the last word: the name of a file is expected here", "  flumina combine JOB PLAN FILE ..\n",
+)
 mistake(["combine", "rides.job", "plan", "--all"], 2, "flumina: bad words at 3\n", "  word 3, --all: the name of a file is expected here")
 TAKEN = "this name is there already: JOB, PLAN and each FILE have names of their own\n"
 mistake(["combine", "rides.job", "plan", "left", "plan"], 2, "flumina: bad words at 4\n", "  word 4, plan: " + TAKEN)
@@ -203,7 +209,8 @@ remark(["combine", "rides.job", "plan", "left.part", "right.part"])
 remark(["partial", "rides.job", "plan", "left"])
 
 mistake(["partial", "rides.job", "plan", "middle"], 5, "flumina: plan: no node middle\n", "  the nodes of the plan: root, left, right\n")
-job(APART + 'tag note int\ncell notes sum\non note: add notes value\nsource desk "desk.csv": note\n', plan="node root: ride -> clock desk\nnode clock: day\nnode desk: note\n")
+DESK = 'tag note int\ncell notes sum\non note: add notes value\nsource desk "desk.csv": note\n'
+job(APART + DESK, plan="node root: ride -> clock desk\nnode clock: day\nnode desk: note\n")
 SHARED = "  a tag of the node or of one below it reads or owns that cell, and a tag of another node uses it too\n"
 ABOVE = "  try a node above it, of which the root may always be apart: root\n"
 ADDING = "  or let the tags of the node and those below it only add to the cell or raise it\n"
