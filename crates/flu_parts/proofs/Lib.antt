@@ -2,3 +2,5 @@ pub mod Names
 pub mod BehindTexts
 pub mod Commands
 pub mod Outcomes
+pub mod Folding
+pub mod Dones

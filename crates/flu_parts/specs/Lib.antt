@@ -5,3 +5,4 @@ pub mod ReadNames
 pub mod Outcome
 pub mod Calling
 pub mod Ending
+pub mod Laws

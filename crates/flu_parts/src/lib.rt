@@ -1,6 +1,7 @@
 //! The part commands: `partial` writes what a node apart sends, and `combine` the report of what nodes sent (`docs/SCALE.md`).
 #![tactic(auto)]
 
+pub mod laws;
 mod naming;
 mod running;
 mod stops;
