@@ -50,7 +50,7 @@ returns-in-Ok-work-clause-ends g c =
     let p = program_of checked in
     let b = left c.work.new.files in
     let planned = planned_told command c.texts_of.result.0.now c.texts_of.result.1.now p (plan_of valid).nodes a m c.texts_of.ensures.job
-        c.texts_of.ensures.plan c.in-Ok.ensures.accepted c.in-Ok.ensures.valid.valid c.in-Ok.ensures.ready c.in-Ok.ensures.nodes in
+    c.texts_of.ensures.plan c.in-Ok.ensures.accepted c.in-Ok.ensures.valid.valid c.in-Ok.ensures.ready c.in-Ok.ensures.nodes in
     let ready = subst (λ d. WhereTold a m (IsReady d p)) same c.in-Ok.ensures.ready in
     let is = c.in-Ok-work.ensures.ends in
     done_behind c.partials_have_one_text.ensures command checked valid a m b is.0 _ _ planned ready c.work.ensures.others is.1 is.2
@@ -73,7 +73,7 @@ returns-in-Ok-work-clause-only g c =
     let p = program_of checked in
     let b = left c.work.new.files in
     let planned = planned_told command c.texts_of.result.0.now c.texts_of.result.1.now p (plan_of valid).nodes a m c.texts_of.ensures.job
-        c.texts_of.ensures.plan c.in-Ok.ensures.accepted c.in-Ok.ensures.valid.valid c.in-Ok.ensures.ready c.in-Ok.ensures.nodes in
+    c.texts_of.ensures.plan c.in-Ok.ensures.accepted c.in-Ok.ensures.valid.valid c.in-Ok.ensures.ready c.in-Ok.ensures.nodes in
     let ready = subst (λ d. WhereTold a m (IsReady d p)) same c.in-Ok.ensures.ready in
     only_behind c.partials_have_one_text.ensures command checked valid a m b c.in-Ok.ensures.accepted c.in-Ok.ensures.valid.valid planned ready
     (subst (λ d. WhereTold a m (TookOnly (IsReadName a d))) same c.in-Ok.ensures.only) c.work.ensures.others
@@ -90,7 +90,7 @@ returns-clause-only g c =
     let p = program_of checked in
     let b = left c.work.new.files in
     let planned = planned_told command c.texts_of.result.0.now c.texts_of.result.1.now p (plan_of valid).nodes a m c.texts_of.ensures.job
-        c.texts_of.ensures.plan c.in-Ok.ensures.accepted c.in-Ok.ensures.valid.valid c.in-Ok.ensures.ready c.in-Ok.ensures.nodes in
+    c.texts_of.ensures.plan c.in-Ok.ensures.accepted c.in-Ok.ensures.valid.valid c.in-Ok.ensures.ready c.in-Ok.ensures.nodes in
     let ready = subst (λ d. WhereTold a m (IsReady d p)) same c.in-Ok.ensures.ready in
     only_behind c.partials_have_one_text.ensures command checked valid a m b c.in-Ok.ensures.accepted c.in-Ok.ensures.valid.valid planned ready
     (subst (λ d. WhereTold a m (TookOnly (IsReadName a d))) same c.in-Ok.ensures.only) c.work.ensures.others
@@ -107,7 +107,7 @@ returns-clause-ends g c =
     let p = program_of checked in
     let b = left c.work.new.files in
     let planned = planned_told command c.texts_of.result.0.now c.texts_of.result.1.now p (plan_of valid).nodes a m c.texts_of.ensures.job
-        c.texts_of.ensures.plan c.in-Ok.ensures.accepted c.in-Ok.ensures.valid.valid c.in-Ok.ensures.ready c.in-Ok.ensures.nodes in
+    c.texts_of.ensures.plan c.in-Ok.ensures.accepted c.in-Ok.ensures.valid.valid c.in-Ok.ensures.ready c.in-Ok.ensures.nodes in
     let ready = subst (λ d. WhereTold a m (IsReady d p)) same c.in-Ok.ensures.ready in
     let faults = g.F.Files.faults in
     let puts = g.F.Files.put_faults in
