@@ -1,12 +1,12 @@
 -- A part command reads its job and its plan, and works behind them.
-use Rattle.std.proofs.Common.{◌≡◌, ◌≢◌, refl, sym, ap, ◌∙◌, subst, ℕ, ◌<◌, List, [], ◌∷◌, Bool, true, false, Option, Some, None, Result, Ok, Err, length}
+use Rattle.std.proofs.Common.{◌≡◌, refl, sym, ap, ◌∙◌, subst, ℕ, List, [], ◌∷◌, Bool, true, false, Option, Some, None, Err}
 use Rattle.std.proofs.Common.{inl, inr, ◌⊎◌}
-use Rattle.std.specs.Prelude.{Contains, IfSome, option_map}
+use Rattle.std.specs.Prelude.{Contains, option_map}
 use Rattle.std.proofs.lemmas.Bool.{false≢true}
 use Rattle.flu_lemmas.proofs.Told.{told_both, told_then, told_weaker}
-use Rattle.flu_outside.specs.Outside.{Contents, WhereTold, Rose, SameCounts}
+use Rattle.flu_outside.specs.Outside.{Contents, WhereTold}
 use Rattle.flu_outside.specs.Taking.{TookFronts}
-use Rattle.flu_outside.specs.Writing.{AppendsAll, AppendsPart}
+use Rattle.flu_outside.specs.Writing.{AppendsAll}
 use Rattle.flu_model.specs.declared.jobs.Program.{Program}
 use Rattle.flu_model.specs.declared.plans.Node.{Node}
 use Rattle.flu_model.specs.Modes.{IsAccepted}
@@ -29,8 +29,6 @@ use Rattle.flu_lines.specs.declared.refusals.Refusal.{Refusal}
 use Rattle.flu_lines.specs.declared.refusals.Refusal.TheVariants as refusals
 use Rattle.flu_lines.specs.declared.parts.NodeDefect.{NodeDefect}
 use Rattle.flu_lines.specs.declared.parts.FileDefect.{FileDefect}
-use Rattle.flu_lines.specs.declared.parts.PartRefusal.{PartRefusal}
-use Rattle.flu_lines.specs.declared.parts.PartRefusal.TheVariants as parts
 use Rattle.flu_words.specs.Words.{Command, Valid}
 use Rattle.flu_words.specs.Parts.{PartCommand, Partial, Combine}
 use Rattle.flu_command.specs.Behind.{Named, HasPlan}
@@ -42,11 +40,11 @@ use Rattle.flu_top.specs.Ending.{Call, call, WroteNothing}
 use Rattle.flu_top.specs.Refusing.{IsRefusal}
 use Rattle.flu_parts.specs.declared.stops.Stop.{Stop}
 use Rattle.flu_parts.specs.declared.stops.Stop.TheVariants as stops
-use Rattle.flu_parts.specs.Planned.{job_of_part, plan_of_part, texts_of, behind, IsPlanned, IsNodeApart}
-use Rattle.flu_parts.specs.Written.{AreNoSources, IsTextOf, IsWritten}
+use Rattle.flu_parts.specs.Planned.{job_of_part, plan_of_part, texts_of, behind, IsPlanned}
+use Rattle.flu_parts.specs.Written.{IsTextOf, IsWritten}
 use Rattle.flu_parts.specs.Causes.{IsSourceDefect, IsFileDefect, IsReadFaultBehind, HasNodeDefect, HasFileDefect, InTexts, Behind}
 use Rattle.flu_parts.specs.ReadNames.{IsReadPart, IsBehind}
-use Rattle.flu_parts.specs.Ending.{IsNodeStop, IsFileStop, IsStop, IsEndBehind, IsReadBehind, LeavesBehind, refusal_of_stop, IsStopped, IsEnding}
+use Rattle.flu_parts.specs.Ending.{IsNodeStop, IsFileStop, IsStop, IsReadBehind, LeavesBehind, refusal_of_stop, IsStopped, IsEnding}
 use Rattle.flu_parts.proofs.Names.{among, among_there}
 
 -- ---- the job and the plan refuse it
