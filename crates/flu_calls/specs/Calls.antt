@@ -29,8 +29,8 @@ abbrev pub CallHidesNothing : List (List ℕ) → Option Contents → Option Con
 CallHidesNothing words old new before now status =
     Chosen (is_part_call words) (PartHidesNothing words old new before now status) (HidesNothing words old new before now status)
 
--- if nothing failed, the status of one of the eight commands is the one that it and the files call for, or the one for out of memory; nothing is said of a part
--- command, of which only the outcome tells that it did not fail
+-- if nothing failed, the status of one of the eight commands is the one that it and the files call for, or the one for out of memory; of part commands it says
+-- nothing
 abbrev pub CallCompletes : List (List ℕ) → Option Contents → Faults → Faults → ℕ → Type 0
 CallCompletes words told before now status =
     Chosen (is_part_call words) ⊤ (Completes words told before now status)
