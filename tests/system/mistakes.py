@@ -72,7 +72,23 @@ mistake(["run", "rides.job", "--save"], 2, "flumina: bad words at 3\n", "  after
 mistake(["run", "rides.job", "--unflushed"], 2, "flumina: bad words at 2\n", "only right after --save FILE\n")
 mistake(["simulate", "rides.job", "p", "2147483648"], 2, "flumina: bad words at 3\n", "a seed is a number from 0 to 2147483647\n")
 mistake(["demo", "many", "1"], 2, "flumina: bad words at 1\n", "N is a number from 0 to 1000000\n")
-for words in (["--help"], ["-h"], ["help"], ["fold", "--help"], ["run", "-h"], ["--hints", "help"]):
+mistake(
+    ["partial", "rides.job"], 2, "flumina: bad words at 2\n",
+    "  after the last word: the name of a file is expected here", "  flumina partial JOB PLAN NODE\n",
+)
+mistake(["partial", "rides.job", "plan"], 2, "flumina: bad words at 3\n", "  after the last word: the name of a node of the plan is expected here\n")
+mistake(["partial", "rides.job", "plan", "left", "right"], 2, "flumina: bad words at 4\n", "  word 4, right: this word is one too many\n")
+mistake(
+    ["combine", "rides.job", "plan"], 2, "flumina: bad words at 3\n",
+    "  after the last word: the name of a file is expected here", "  flumina combine JOB PLAN FILE ..\n",
+)
+mistake(["combine", "rides.job", "plan", "--all"], 2, "flumina: bad words at 3\n", "  word 3, --all: the name of a file is expected here")
+TAKEN = "this name is there already: JOB, PLAN and each FILE have names of their own\n"
+mistake(["combine", "rides.job", "plan", "left", "plan"], 2, "flumina: bad words at 4\n", "  word 4, plan: " + TAKEN)
+mistake(["combine", "rides.job", "plan", "left", "left"], 2, "flumina: bad words at 4\n", "  word 4, left: " + TAKEN)
+FILES = [f"part{i}" for i in range(65)]
+mistake(["combine", "rides.job", "plan", *FILES], 2, "flumina: bad words at 67\n", "  word 67, part64: at most 64 FILEs can be combined\n")
+for words in (["--help"], ["-h"], ["help"], ["fold", "--help"], ["run", "-h"], ["combine", "--help"], ["--hints", "help"]):
     status, out, err = folder.call(*words)
     need(status == 0 and out.startswith(b"Flumina ") and err == b"", f"{words}: {status}, {out[:40]}, {err}")
 
@@ -166,6 +182,82 @@ for command, text, *hints in [
 ]:
     shown = piped(command, text)
     need(all(hint in shown for hint in hints), f"{command} of a job from a pipe: {shown!r}")
+
+# Partials: those of two nodes give the report; then the node, the files, and what these are.
+APART = RIDES.replace("source clock", 'source south "south.csv": ride[3]\nsource clock')
+PLAN = "node root: day -> left right\nnode left: ride@north\nnode right: ride@south\n"
+SOUTH = "500,ride[3],5\n600,ride[3],9\nend\n"
+
+
+def partial(node, text=APART, plan=PLAN, **files):
+    """The bytes of a node's partial of this job, this plan and these sources, after which those of APART and PLAN are there again."""
+    job(text, plan=plan, south_csv=SOUTH, **files)
+    status, out, err = folder.call("partial", "rides.job", "plan", node)
+    need((status, err) == (0, b"") and out, f"partial {node}: {status}, {err}")
+    job(APART, plan=PLAN, south_csv=SOUTH)
+    return out
+
+
+left, right = partial("left"), partial("right")
+folder.write("left.part", left)
+folder.write("right.part", right)
+report = folder.call("fold", "rides.job")
+need(report[0] == 0 and report[1].count(b"\n") == 4, f"the fold: {report}")
+for files in (["left.part", "right.part"], ["right.part", "left.part"], ["left.part"]):
+    need(folder.call("combine", "rides.job", "plan", *files) == report, f"combine {files}")
+remark(["combine", "rides.job", "plan", "left.part", "right.part"])
+remark(["partial", "rides.job", "plan", "left"])
+
+mistake(["partial", "rides.job", "plan", "middle"], 5, "flumina: plan: no node middle\n", "  the nodes of the plan: root, left, right\n")
+DESK = 'tag note int\ncell notes sum\non note: add notes value\nsource desk "desk.csv": note\n'
+job(APART + DESK, plan="node root: ride -> clock desk\nnode clock: day\nnode desk: note\n")
+SHARED = "  a tag of the node or of one below it reads or owns that cell, and a tag of another node uses it too\n"
+ABOVE = "  try a node above it, of which the root may always be apart: root\n"
+ADDING = "  or let the tags of the node and those below it only add to the cell or raise it\n"
+shown = mistake(["partial", "rides.job", "plan", "clock"], 5, "flumina: plan: clock can't be apart: day on rides[1]\n")
+need(shown == SHARED + ABOVE + ADDING, f"a node that may not be apart: {shown!r}")
+job(APART, plan=PLAN, south_csv=SOUTH)
+mistake(["partial", "rides.job", "rides.plan", "left"], 7, "flumina: read fault\n", "  rides.plan: No such file or directory (os error 2)\n")
+mistake(["partial", "plan", "rides.job", "left"], 3, "flumina: job: unexpected at 0\n", "  this is the text of a plan; the name of the job's comes first\n")
+job(APART, plan=PLAN, south_csv=SOUTH, north_csv=NORTH.replace("485", "485.5"))
+mistake(["partial", "rides.job", "plan", "left"], 6, "flumina: source north row 1: bad row\n", "  485.5,ride[1],12\n", "the time has a fraction", FORMS)
+job(APART, plan=PLAN, south_csv=SOUTH)
+
+
+def faulty(bytes_, what, *hints, is_written_again=True, before=()):
+    """A partial whose answer is this, in a file of its own."""
+    folder.write("own.part", bytes_)
+    again = ["  write it again: flumina partial rides.job plan NODE > own.part\n"] if is_written_again else []
+    shown = mistake(["combine", "rides.job", "plan", *before, "own.part"], 14, f"flumina: partial own.part: {what}\n")
+    need(shown == "".join([*hints, *again]), f"{what}: {shown!r}")
+
+
+OTHER_FILE = "  the first line is not that of a partial: this is another file, or it was changed\n"
+CHANGED = "  no node sends such a line: the file was changed\n"
+CUT = "  the file was cut off, or flumina partial has not ended yet\n"
+lines = left.splitlines(True)
+faulty(RIDES, "not json at line 1", OTHER_FILE)
+faulty("{}\n", "wrong form at line 1", OTHER_FILE)
+faulty(lines[0] + b"?\n", "not json at line 2", CHANGED)
+faulty(lines[0] + lines[0], "wrong form at line 2", CHANGED)
+faulty(lines[0] + lines[1] + lines[1], "out of order at line 3", "  that line can't follow the one before it: the file was changed\n")
+for cut in (b"", lines[0][:-1], lines[0], left[:-1]):
+    faulty(cut, "incomplete", CUT)
+faulty(partial("left", text=APART.replace("minutes", "min")), "other job", "  it was written with another job\n")
+faulty(partial("left", plan=PLAN.replace("root", "top")), "other plan", "  it was written with another plan\n")
+EARLIER = "  the FILEs before it: right.part, left.part\n"
+ONE = "  a node has one partial: leave out this FILE or the other\n"
+BELOW = "  the partial of a node has what the nodes below it send: leave out this FILE or the other\n"
+faulty(left, "node left twice", ONE, EARLIER, is_written_again=False, before=["right.part", "left.part"])
+faulty(partial("root"), "node right within root", BELOW, EARLIER, is_written_again=False, before=["right.part", "left.part"])
+LEFT_OVER = "  it was written when the sources that combine reads had other rows\n"
+faulty(partial("left", days_csv="500,day\nend\n"), "left over", LEFT_OVER)
+ROWS = "  that file has rows, which combine reads by itself: a FILE is what flumina partial wrote\n"
+shown = mistake(["combine", "rides.job", "plan", "left.part", "south.csv"], 14, "flumina: partial south.csv: same as source south\n")
+need(shown == ROWS, f"a source's file: {shown!r}")
+mistake(["combine", "rides.job", "plan", "left.part", "no.part"], 7, "flumina: read fault\n", "  no.part: No such file or directory (os error 2)\n")
+os.remove(folder.path("south.csv"))
+need(folder.call("combine", "rides.job", "plan", "left.part", "right.part") == report, "a source that no one else needs is not read")
 
 # What a job declares and does not use, and what is not there.
 job(RIDES)

@@ -1,5 +1,5 @@
 #!/usr/bin/env python3
-"""How much was read: a line on a terminal while `fold`, `run` and `simulate` read, gone before anything else is said, and a closing line on request.
+"""How much was read: a line on a terminal while `fold`, `run`, `simulate`, `partial` and `combine` read, gone before anything else is said, and a closing line on request.
 
     tests/system/progress.py PROGRAM
 
@@ -82,6 +82,22 @@ for words, read in {
         need(int(closing[1]) == sum(SIZES[name] for name in read), f"{words}: the bytes that were read: {err}")
         need(int(closing[2]) == LINES, f"{words}: the rows that were read: {err}")
 
+# A part command reads some of the sources; the lines of partials are no rows.
+folder.write("parted", "node root: tick -> left right\nnode left: view[0..4]\nnode right: view[5..9]\n")
+for node in ("left", "right"):
+    folder.write(f"{node}.part", folder.call("partial", "job", "parted", node)[1])
+for words, read, sources in [
+    (("partial", "job", "parted", "left"), ("job", "parted", "a.csv", "t.csv"), ("a.csv", "t.csv")),
+    (("combine", "job", "parted", "left.part", "right.part"), ("job", "parted", "left.part", "right.part", "t.csv"), ("t.csv",)),
+]:
+    plain = folder.call(*words)
+    need(plain[0] == 0 and plain[2] == b"" and (words[0] == "partial" or plain[1] == REPORT), f"{words}: {plain}")
+    status, out, err = folder.call("--progress", *words)
+    closing = re.fullmatch(CLOSING, err.decode())
+    need((status, out) == plain[:2] and closing, f"--progress {words}: {status}, {err}")
+    need(int(closing[1]) == sum(len(folder.read(name)) for name in read), f"{words}: the bytes that were read: {err}")
+    need(int(closing[2]) == sum(folder.read(name).count(b"\n") for name in sources), f"{words}: the rows that were read: {err}")
+
 # The closing line comes after the line of an answer and after its hint, and changes no status.
 steps = folder.call("simulate", "job", "plan", "1")
 status, out, err = folder.call("--progress", "simulate", "job", "plan", "1")
@@ -102,12 +118,14 @@ for words in (["check", "job"], ["valid", "job", "plan"], ["flod", "job"], ["--p
 
 # A terminal shows the line while the call reads, and nothing of it is left; short calls show none.
 need(folder.at_a_terminal("--no-hints", "fold", "job", out=subprocess.PIPE) == (0, REPORT, ""), "a short call")
-for words in (["fold", "slow.job"], ["run", "slow.job"], ["simulate", "slow.job", "plan", "1"]):
+PART = folder.read("left.part")
+for words in (["fold", "slow.job"], ["run", "slow.job"], ["simulate", "slow.job", "plan", "1"], ["partial", "slow.job", "parted", "left"]):
     status, out, shown = slowly("--no-hints", *words)
-    need((status, out) == (0, REPORT) and len(re.findall(LIVE, shown)) >= 2, f"{words}: {shown!r}")
+    written = out.split(b"\n", 1)[1] == PART.split(b"\n", 1)[1] if words[0] == "partial" else out == REPORT
+    need(status == 0 and written and len(re.findall(LIVE, shown)) >= 2, f"{words}: {shown!r}")
     wanted = steps[2].decode() if words[0] == "simulate" else ""
     need(shown.endswith("\r" + wanted) and left_on_the_screen(shown) == wanted, f"{words}: what is left of {shown!r}")
-    need(slowly("--no-progress", "--no-hints", *words) == (0, REPORT, wanted), f"--no-progress {words}")
+    need(slowly("--no-progress", "--no-hints", *words) == (0, out, wanted), f"--no-progress {words}")
 status, out, shown = slowly("--no-hints", "--progress", "fold", "slow.job")
 need((status, out) == (0, REPORT) and re.search(LIVE, shown) and re.fullmatch(CLOSING, left_on_the_screen(shown)), f"both lines: {shown!r}")
 
@@ -127,6 +145,8 @@ with open(folder.path("big.csv"), "w") as rows:
 folder.write("big.job", folder.read("job").decode().replace("a.csv", "big.csv"))
 status, _, shown = folder.at_a_terminal("--no-hints", "fold", "big.job")
 need(status == 0 and re.search(KNOWN, shown) and left_on_the_screen(shown) == "", f"a long file: {shown!r}")
+status, _, shown = folder.at_a_terminal("--no-hints", "partial", "big.job", "parted", "left")
+need(status == 0 and re.search(LIVE, shown) and not re.search(KNOWN, shown) and left_on_the_screen(shown) == "", f"some of the sources: {shown!r}")
 
 # Where the report goes to the same terminal, the line is gone for good before the report begins.
 near, far = pty.openpty()

@@ -166,7 +166,8 @@ pub templates_are_utf8 : (p : Program) → IsUtf8 (normal_form (job_of p)) → T
 templates_are_utf8 p utf8 =
     let job = job_of p in
     let whole = normal_form job in
-    let before = version_line job.version ++ flat_map cell_line job.families ++ flat_map tag_line job.kinds ++ flat_map (depends_line job.kinds) job.depends in
+    let before = version_line job.version job.iso ++ flat_map cell_line job.families ++ flat_map tag_line job.kinds
+    ++ flat_map (depends_line job.kinds) job.depends in
     let ons = flat_map (on_line job.families) job.kinds in
     let sources = flat_map (source_line job.kinds) job.sources in
     kinds p.families whole utf8 p.kinds p.kinds_fit (back whole before ons (front whole (before ++ ons) sources (itself whole)))

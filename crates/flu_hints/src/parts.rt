@@ -96,7 +96,10 @@ fn push_partial(
         }
         PartialDefect::NotApart(node, _) => push_not_apart(alloc, told, plan, node)?,
         PartialDefect::Twice(_) => {
-            push_line(told, "a node has one partial: leave out this FILE or the other")?;
+            push_line(
+                told,
+                "a node has one partial: leave out this FILE or the other",
+            )?;
             return push_earlier(alloc, told, words, name);
         }
         PartialDefect::Within(_, _) => {
@@ -191,7 +194,10 @@ fn push_not_apart(
     node: u32,
 ) -> Result<(), AllocError> {
     push_line(told, SHARED)?;
-    let mut line = String::from_str(alloc, "try a node above it, of which the root may always be apart: ")?;
+    let mut line = String::from_str(
+        alloc,
+        "try a node above it, of which the root may always be apart: ",
+    )?;
     let mut is_first = true;
     let mut below = node;
     for _ in 0..MOST_ABOVE {
@@ -202,7 +208,10 @@ fn push_not_apart(
         below = number;
     }
     push_line(told, line.as_str())?;
-    push_line(told, "or let the tags of the node and those below it only add to the cell or raise it")
+    push_line(
+        told,
+        "or let the tags of the node and those below it only add to the cell or raise it",
+    )
 }
 
 // The node right above a node, with its number.

@@ -76,7 +76,12 @@ fn partial_reason(words: &[String], at: usize) -> &'static str {
     };
     if at >= BEHIND_PARTIALS {
         "at most 64 FILEs can be combined"
-    } else if words.iter().skip(1).take(at.saturating_sub(1)).any(|known| known.as_str() == word.as_str()) {
+    } else if words
+        .iter()
+        .skip(1)
+        .take(at.saturating_sub(1))
+        .any(|known| known.as_str() == word.as_str())
+    {
         "this name is there already: JOB, PLAN and each FILE have names of their own"
     } else {
         NO_NAME

@@ -129,14 +129,7 @@ fn answer_watched<
     R: rt::Files + Clock + AllocGlobal + Threads + Wait + Sync,
     O: Write + Drop,
     E: Write + Drop,
->(
-    rt: &R,
-    words: &'w [String],
-    files: HostFiles<&R>,
-    out: O,
-    err: E,
-    seen: Seen<'_>,
-) -> Answer<'w> {
+>(rt: &R, words: &'w [String], files: HostFiles<&R>, out: O, err: E, seen: Seen<'_>) -> Answer<'w> {
     let Ok(mut line) = MemSink::with_room(rt.alloc(), LINE_ROOM) else {
         return answer_plainly(rt, words, files, out, err);
     };

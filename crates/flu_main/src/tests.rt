@@ -26,6 +26,21 @@ pub(crate) fn run<
     ended.status().code()
 }
 
+/// What a call answers, and what it writes.
+fn call<R: rt::Files + AllocGlobal + Threads + Wait + Sync>(
+    rt: &R,
+    words: &[&str],
+) -> Result<(u8, Vec<u8>, Vec<u8>), Fail> {
+    let mut owned = Vec::new(rt.alloc());
+    for word in words {
+        owned.push(String::from_str(rt.alloc(), word)?)?;
+    }
+    let mut out = Vec::new(rt.alloc());
+    let mut err = Vec::new(rt.alloc());
+    let status = run(rt, &owned, &mut out, &mut err);
+    Ok((status, out, err))
+}
+
 const COUNTS: &str = "cell count sum\n\
     tag inc int\n\
     tag read none\n\
@@ -59,6 +74,69 @@ fn two_sources_add_and_a_third_reads(rt: HostRuntime) -> Result<(), Fail> {
         b"3,read,count 12\n5,read,count 2\n".as_slice()
     );
     assert!(rt; err.is_empty());
+    Ok(())
+}
+
+#[test]
+fn partials_of_two_nodes_are_combined(rt: HostRuntime) -> Result<(), Fail> {
+    let plan = "node root: read -> left right\nnode left: inc@a\nnode right: inc@b\n";
+    let files = [
+        ("parted.job", COUNTS),
+        ("parted.plan", plan),
+        ("a.csv", "1,inc,5\n4,inc,2\nend\n"),
+        ("b.csv", "2,inc,7\nend\n"),
+        ("c.csv", "3,read\n5,read\nend\n"),
+    ];
+    for (name, text) in files {
+        assert!(rt; fs::write(&rt, name, text).is_ok(), "{name}");
+    }
+    for node in ["left", "right"] {
+        let (status, out, err) = call(&rt, &["partial", "parted.job", "parted.plan", node])?;
+        assert_eq!(rt; status, 0);
+        assert!(rt; err.is_empty());
+        assert!(rt; fs::write(&rt, node, out.as_slice()).is_ok(), "{node}");
+    }
+    let cases = [
+        (
+            "combine",
+            "left",
+            "right",
+            "3,read,count 12\n5,read,count 2\n",
+            "",
+            0,
+        ),
+        (
+            "combine",
+            "right",
+            "a.csv",
+            "",
+            "flumina: partial a.csv: same as source a\n",
+            14,
+        ),
+        (
+            "combine",
+            "right",
+            "right",
+            "",
+            "flumina: bad words at 4\n",
+            2,
+        ),
+        (
+            "partial",
+            "left",
+            "right",
+            "",
+            "flumina: bad words at 4\n",
+            2,
+        ),
+    ];
+    for (command, first, second, report, line, wanted) in cases {
+        let words = [command, "parted.job", "parted.plan", first, second];
+        let (status, out, err) = call(&rt, &words)?;
+        assert_eq!(rt; status, wanted);
+        assert_eq!(rt; out.as_slice(), report.as_bytes());
+        assert_eq!(rt; err.as_slice(), line.as_bytes());
+    }
     Ok(())
 }
 

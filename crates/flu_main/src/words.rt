@@ -102,11 +102,13 @@ fn texts_of_part(words: &[String]) -> Option<Texts<'_>> {
             plan: Some(plan),
             partials: &[],
         }),
-        Ok(PartCommand::Combine {
-            job,
-            plan,
-            partials,
-        }) => Some(Texts {
+        Ok(
+            PartCommand::Combine {
+                job,
+                plan,
+                partials,
+            },
+        ) => Some(Texts {
             job,
             plan: Some(plan),
             partials,

@@ -1,12 +1,11 @@
 -- What a part command does behind its job and its plan.
-use Rattle.std.proofs.Common.{◌≡◌, ◌≢◌, refl, sym, subst, ℕ, ◌<◌, List, [], ◌∷◌, Option, Some, None, length, get_or, map, string_bytes, String, inl, inr}
-use Rattle.std.specs.Prelude.{Contains, slice_index_or}
+use Rattle.std.proofs.Common.{◌≡◌, refl, sym, subst, ℕ, ◌<◌, List, [], Option, Some, length, get_or, map, string_bytes, String, inl, inr}
+use Rattle.std.specs.Prelude.{slice_index_or}
 use Rattle.std.specs.Global.{Global}
 use Rattle.std.proofs.lemmas.List.{length-map}
-use Rattle.flu_outside.specs.Outside.{Contents, WhereTold, Rose}
+use Rattle.flu_outside.specs.Outside.{Contents, WhereTold}
 use Rattle.flu_outside.specs.Taking.{TookFronts}
-use Rattle.flu_outside.specs.Writing.{AppendsAll, AppendsPart}
-use Rattle.flu_lemmas.proofs.Told.{told_both, told_same, told_weaker}
+use Rattle.flu_lemmas.proofs.Told.{told_same, told_weaker}
 use Rattle.flu_model.specs.declared.jobs.Program.{Program}
 use Rattle.flu_model.specs.declared.plans.Node.{Node}
 use Rattle.flu_streams.specs.declared.faults.SourceFault.{SourceFault}
@@ -17,7 +16,6 @@ use Rattle.flu_node_run.specs.Partials.{IsPartialOf}
 use Rattle.flu_combine.specs.Combined.{IsCombined, LeavesUnread as LeavesBeside}
 use Rattle.flu_combine.specs.Faults.{IsFaultOfPartial, IsFaultOfSource}
 use Rattle.flu_combine.specs.declared.fault.PartialDefect.{PartialDefect}
-use Rattle.flu_lines.specs.declared.parts.FileDefect.{FileDefect}
 use Rattle.flu_lines.specs.declared.parts.FileDefect.TheVariants.{SameName, Partial as PartialDefective}
 use Rattle.flu_words.specs.Parts.{PartCommand, Partial, Combine}
 use Rattle.flu_parts.specs.Planned.{IsNodeApart}
@@ -84,7 +82,7 @@ pub same_stop : (p : Program) (nodes : List Node) (job plan : List ℕ) (names :
     → IsFileStop (Combine job plan (map string_bytes names)) p nodes (string_bytes name) (SameName number) a a
 same_stop p nodes job plan names place number name a lt at same = (
   place,
-  subst (λ (n : ℕ). place < n) (sym (length-map string_bytes names)) lt,
+  subst (λ (n : ℕ). place < n) (sym (length-map names string_bytes)) lt,
   bytes_at names place name lt at,
   told_same (λ was is. IsFileDefect p nodes (map string_bytes names) was place (SameName number)) a (λ x. same),
 )

@@ -1,12 +1,12 @@
 -- A part command reads its job and its plan, and works behind them.
-use Rattle.std.proofs.Common.{◌≡◌, ◌≢◌, refl, sym, ap, ◌∙◌, subst, ℕ, ◌<◌, List, [], ◌∷◌, Bool, true, false, Option, Some, None, Result, Ok, Err, length}
+use Rattle.std.proofs.Common.{◌≡◌, refl, sym, ap, ◌∙◌, subst, ℕ, List, [], ◌∷◌, Bool, true, false, Option, Some, None, Err}
 use Rattle.std.proofs.Common.{inl, inr, ◌⊎◌}
-use Rattle.std.specs.Prelude.{Contains, IfSome, option_map}
+use Rattle.std.specs.Prelude.{Contains, option_map}
 use Rattle.std.proofs.lemmas.Bool.{false≢true}
 use Rattle.flu_lemmas.proofs.Told.{told_both, told_then, told_weaker}
-use Rattle.flu_outside.specs.Outside.{Contents, WhereTold, Rose, SameCounts}
+use Rattle.flu_outside.specs.Outside.{Contents, WhereTold}
 use Rattle.flu_outside.specs.Taking.{TookFronts}
-use Rattle.flu_outside.specs.Writing.{AppendsAll, AppendsPart}
+use Rattle.flu_outside.specs.Writing.{AppendsAll}
 use Rattle.flu_model.specs.declared.jobs.Program.{Program}
 use Rattle.flu_model.specs.declared.plans.Node.{Node}
 use Rattle.flu_model.specs.Modes.{IsAccepted}
@@ -29,8 +29,6 @@ use Rattle.flu_lines.specs.declared.refusals.Refusal.{Refusal}
 use Rattle.flu_lines.specs.declared.refusals.Refusal.TheVariants as refusals
 use Rattle.flu_lines.specs.declared.parts.NodeDefect.{NodeDefect}
 use Rattle.flu_lines.specs.declared.parts.FileDefect.{FileDefect}
-use Rattle.flu_lines.specs.declared.parts.PartRefusal.{PartRefusal}
-use Rattle.flu_lines.specs.declared.parts.PartRefusal.TheVariants as parts
 use Rattle.flu_words.specs.Words.{Command, Valid}
 use Rattle.flu_words.specs.Parts.{PartCommand, Partial, Combine}
 use Rattle.flu_command.specs.Behind.{Named, HasPlan}
@@ -42,11 +40,11 @@ use Rattle.flu_top.specs.Ending.{Call, call, WroteNothing}
 use Rattle.flu_top.specs.Refusing.{IsRefusal}
 use Rattle.flu_parts.specs.declared.stops.Stop.{Stop}
 use Rattle.flu_parts.specs.declared.stops.Stop.TheVariants as stops
-use Rattle.flu_parts.specs.Planned.{job_of_part, plan_of_part, texts_of, behind, IsPlanned, IsNodeApart}
-use Rattle.flu_parts.specs.Written.{AreNoSources, IsTextOf, IsWritten}
+use Rattle.flu_parts.specs.Planned.{job_of_part, plan_of_part, texts_of, behind, IsPlanned}
+use Rattle.flu_parts.specs.Written.{IsTextOf, IsWritten}
 use Rattle.flu_parts.specs.Causes.{IsSourceDefect, IsFileDefect, IsReadFaultBehind, HasNodeDefect, HasFileDefect, InTexts, Behind}
 use Rattle.flu_parts.specs.ReadNames.{IsReadPart, IsBehind}
-use Rattle.flu_parts.specs.Ending.{IsNodeStop, IsFileStop, IsEndBehind, IsReadBehind, LeavesBehind, refusal_of_stop, IsStopped, IsEnding}
+use Rattle.flu_parts.specs.Ending.{IsNodeStop, IsFileStop, IsStop, IsReadBehind, LeavesBehind, refusal_of_stop, IsStopped, IsEnding}
 use Rattle.flu_parts.proofs.Names.{among, among_there}
 
 -- ---- the job and the plan refuse it
@@ -274,16 +272,16 @@ module _ (law : PartialsHaveOneText) (command : PartCommand) (checked : Checked)
   -- ---- the names that it reads
   behind_is_read : (d : PartCommand) (x y : Contents) (name : List ℕ) → y ≡ behind d x → IsAccepted p → IsValid p nodes → IsPlanned d x p nodes
       → IsReadBehind d p nodes y name → IsBehind (Some x) d name
-  behind_is_read (Partial job plan node) x y name same accepted plan planned read = record {
+  behind_is_read (Partial job plan node) x y name same accepted fits planned read = record {
     p = p;
     nodes = nodes;
-    may = record { accepted = accepted; valid = plan; planned = planned };
+    may = record { accepted = accepted; valid = fits; planned = planned };
     named = inr (read.2.0, (read.0, read.1, read.2));
   }
-  behind_is_read (Combine job plan partials) x y name same accepted plan planned read = record {
+  behind_is_read (Combine job plan partials) x y name same accepted fits planned read = record {
     p = p;
     nodes = nodes;
-    may = record { accepted = accepted; valid = plan; planned = planned };
+    may = record { accepted = accepted; valid = fits; planned = planned };
     named = elim read.1 [
       | inl named ↦ inl (read.0, named)
       | inr beside ↦ inr (beside.3.0, read.0, subst (λ (left : Contents). IsReadBeside p nodes partials left name) same beside)
@@ -303,8 +301,8 @@ module _ (law : PartialsHaveOneText) (command : PartCommand) (checked : Checked)
       by_told None (Some y) b planned ready only leaves = absurd ready
       by_told (Some x) None b planned ready only leaves = absurd ready
       by_told (Some x) (Some y) None planned ready only leaves = absurd leaves
-      by_told (Some x) (Some y) (Some z) planned ready only leaves name unread =
-          leaves name (λ read. unread (inr (behind_is_read command x y name (sym ready.texts.behind) accepted plan planned read)))
+      by_told (Some x) (Some y) (Some z) planned ready only leaves =
+          λ name unread. leaves name (λ read. unread (inr (behind_is_read command x y name (sym ready.texts.behind) accepted plan planned read)))
           ∙ only name (λ read. unread (inl read))
 
 pub only_in_texts : (command : PartCommand) (a m : Option Contents) → WhereTold a m (TookOnly (IsReadName a (texts_of command)))
@@ -312,12 +310,3 @@ pub only_in_texts : (command : PartCommand) (a m : Option Contents) → WhereTol
 only_in_texts command a m only =
     told_weaker (TookOnly (IsReadName a (texts_of command))) (TookOnly (IsReadPart a command)) a m
     (λ x y took name unread. took name (λ read. unread (inl read))) only
-
--- ---- what did not refuse it
-pub not_stopped : (checked : Checked) (valid : ValidPlan) (stop : Stop) → refusal_of_stop checked valid stop ≢ parts.Command refusals.ReadFault
-    → stop ≢ stops.ReadFault
-not_stopped checked valid stop other same = other (ap (refusal_of_stop checked valid) same)
-
-pub not_unwritten : (checked : Checked) (valid : ValidPlan) (stop : Stop) → refusal_of_stop checked valid stop ≢ parts.Command refusals.WriteFault
-    → stop ≢ stops.WriteFault
-not_unwritten checked valid stop other same = other (ap (refusal_of_stop checked valid) same)

@@ -7,15 +7,12 @@ use Rattle.flu_lemmas.proofs.Told.{told_weaker}
 use Rattle.flu_outside.specs.Outside.{Contents, WhereTold, Rose, SameCounts}
 use Rattle.flu_deps.specs.Checking.{program_of}
 use Rattle.flu_deps.specs.Validated.{plan_of}
-use Rattle.flu_selected.specs.Gathering.{IsRead}
-use Rattle.flu_readers.specs.Reading.{reads}
-use Rattle.flu_streams.specs.Files.{files_of}
 use Rattle.flu_model.specs.declared.jobs.Program.{Program}
 use Rattle.flu_model.specs.declared.plans.Node.{Node}
 use Rattle.flu_lines.specs.Jobs.{program_read}
 use Rattle.flu_lines.specs.Lines.{IsSaid}
 use Rattle.flu_lines.specs.Answer.{line_of, status_of}
-use Rattle.flu_lines.specs.PartAnswer.{status_of_part, status_after_part, code_after_part, line_of_part, IsPartHeard}
+use Rattle.flu_lines.specs.PartAnswer.{status_after_part, code_after_part, IsPartHeard}
 use Rattle.flu_lines.specs.declared.refusals.Refusal.{Refusal}
 use Rattle.flu_lines.specs.declared.refusals.Refusal.TheVariants as refusals
 use Rattle.flu_lines.specs.declared.parts.PartRefusal.{PartRefusal}
@@ -28,7 +25,7 @@ use Rattle.flu_command.specs.Done.{IsReadName}
 use Rattle.flu_top.specs.Ending.{Call}
 use Rattle.flu_parts.specs.Planned.{texts_of, behind, IsPlanned}
 use Rattle.flu_parts.specs.Causes.{IsReadFaultBehind, HasFailedRead, InTexts, Behind}
-use Rattle.flu_parts.specs.ReadNames.{MayBePlanned, IsReadPart, IsReadByPart, IsBehind}
+use Rattle.flu_parts.specs.ReadNames.{IsReadPart, IsReadByPart}
 use Rattle.flu_parts.specs.Ending.{IsStopped, IsEnding, IsRefused, Ends}
 use Rattle.flu_parts.specs.Outcome.{Ended, PartOutcome, PartFaultsFirst, PartHidesNothing, Plan, OfNode}
 use Rattle.flu_parts.specs.Outcome as cases

@@ -1,5 +1,5 @@
 -- THE OUTCOME of a call of a part command: what its status says about the words, about what the files held and hold, and about what out and err got.
-use Rattle.std.specs.Prelude.{◌≡◌, ◌≢◌, ℕ, List, Option, Some, Ok, Err, ◌⊎◌}
+use Rattle.std.specs.Prelude.{◌≡◌, ◌≢◌, ℕ, List, Option, Ok, Err}
 use Rattle.flu_outside.specs.Outside.{Contents, WhereTold, Rose, SameCounts}
 use Rattle.flu_outside.specs.Taking.{TookFronts}
 use Rattle.flu_outside.specs.Writing.{AppendsAll, AppendsPart}

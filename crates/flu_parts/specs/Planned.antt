@@ -1,5 +1,5 @@
 -- What a part command reads before partials and sources: its job and its plan, as `valid JOB PLAN` reads them.
-use Rattle.std.specs.Prelude.{◌≡◌, ℕ, Some, Option, List}
+use Rattle.std.specs.Prelude.{◌≡◌, ℕ, Some, List}
 use Rattle.flu_outside.specs.Outside.{Contents}
 use Rattle.flu_model.specs.declared.jobs.Program.{Program}
 use Rattle.flu_model.specs.declared.plans.Node.{Node}

@@ -1,5 +1,5 @@
 -- Which names a part command reads.
-use Rattle.std.specs.Prelude.{◌≡◌, ℕ, Option, Some, None, List, Contains, IfSome, ⊤, ◌⊎◌, Ok}
+use Rattle.std.specs.Prelude.{◌≡◌, ℕ, Option, List, Contains, IfSome, ◌⊎◌, Ok}
 use Rattle.flu_outside.specs.Outside.{Contents}
 use Rattle.flu_model.specs.declared.jobs.Program.{Program}
 use Rattle.flu_model.specs.declared.plans.Node.{Node}

@@ -16,6 +16,7 @@ use crate::stops::Stop;
 use crate::working::work;
 use flu_lines::{JobRead, PartRefusal, Refusal};
 use flu_outside::{Files, Sink};
+use flu_receiving::laws::partials_have_one_text;
 use flu_top::{Planned, planned_by};
 use flu_words::PartCommand;
 use std::alloc::Global;
@@ -35,6 +36,7 @@ pub fn run<'a, F: Files, K: Sink>(
     ensures puts { SameCounts (F.put_faults files.old) (F.put_faults files.new) }
     ensures written_quiet { result ≢ Err (PartRefusal.Command Refusal.WriteFault) → K.faults out.new ≡ K.faults out.old }
 {
+    partials_have_one_text();
     let (job, plan) = texts_of(command);
     let planned = match planned_by(alloc, files, job, plan) {
         Ok(planned) => planned,

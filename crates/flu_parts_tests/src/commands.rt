@@ -161,7 +161,8 @@ fn three_nodes_apart_give_the_report(rt: HostRuntime) -> Result<(), Fail> {
 
 /// A job whose reader can't be apart from what sets its cell.
 const READER: Case = Case {
-    job: "cell fee last
+    job: "version 3
+cell fee last
 tag pay int
 tag see none
 depends pay pay
@@ -325,6 +326,25 @@ fn a_contribution_without_its_event_is_left_over(rt: HostRuntime) -> Result<(), 
     Ok(())
 }
 
+/// A job with a short text, whose partials are changed: one tag is counted, and another one prints the count.
+const SMALL: Case = Case {
+    job: "cell n sum
+tag a none
+tag b none
+depends a b
+depends b b
+on a: add n 1
+on b: emit \"{n}\"; clear n
+source x \"x\": a
+source y \"y\": b
+",
+    plan: "node r: b -> l
+node l: a
+",
+    apart: &[],
+    sources: &[("x", "a"), ("y", "b")],
+};
+
 /// What became of changed partials: how many were refused, and how many were combined to the report of the fold, and to another.
 #[derive(Clone, Copy, PartialEq, Eq, Debug)]
 struct Counts {
@@ -333,17 +353,16 @@ struct Counts {
     other: u32,
 }
 
-/// Combines a changed partial of the left node with that of the right one, and counts what becomes of it.
+/// Combines a changed partial, and counts what becomes of it.
 fn count<R: Abort>(
     rt: &R,
     alloc: Global,
     drawn: Drawn,
     changed: &[u8],
-    right: &[u8],
     wanted: &[u8],
     counts: &mut Counts,
 ) -> Result<(), Fail> {
-    let left = combined(alloc, drawn, &[("left", changed), ("right", right)])?;
+    let left = combined(alloc, drawn, &[("l", changed)])?;
     if left.status == 14 {
         assert!(rt; left.err.bytes().starts_with(b"flumina: partial "));
         assert!(rt; left.out.bytes().is_empty());
@@ -366,34 +385,32 @@ const NONE: Counts = Counts {
     other: 0,
 };
 
-/// The stations whose partials are changed.
+/// The rows whose partials are changed.
 const CHANGED: u32 = 2;
 
 #[test]
 fn partials_that_are_cut_are_refused(rt: HostRuntime) -> Result<(), Fail> {
     let alloc = rt.alloc();
     let drawn = Drawn {
-        case: STATIONS,
+        case: SMALL,
         seed: CHANGED,
     };
     let wanted = wanted_of(&rt, alloc, drawn)?;
-    let left = partial_of(&rt, alloc, drawn, "left")?;
-    let right = partial_of(&rt, alloc, drawn, "right")?;
+    let partial = partial_of(&rt, alloc, drawn, "l")?;
     let mut counts = NONE;
-    for end in 0..left.len() {
+    for end in 0..partial.len() {
         count(
             &rt,
             alloc,
             drawn,
-            &left[..end],
-            right.as_slice(),
+            &partial[..end],
             wanted.as_slice(),
             &mut counts,
         )?;
     }
     assert_eq!(&rt; counts.same, 0);
     assert_eq!(&rt; counts.other, 0);
-    assert_eq!(&rt; counts.refused as usize, left.len());
+    assert_eq!(&rt; counts.refused as usize, partial.len());
     Ok(())
 }
 
@@ -401,22 +418,20 @@ fn partials_that_are_cut_are_refused(rt: HostRuntime) -> Result<(), Fail> {
 fn bytes_that_are_changed_are_refused_or_give_a_report(rt: HostRuntime) -> Result<(), Fail> {
     let alloc = rt.alloc();
     let drawn = Drawn {
-        case: STATIONS,
+        case: SMALL,
         seed: CHANGED,
     };
     let wanted = wanted_of(&rt, alloc, drawn)?;
-    let left = partial_of(&rt, alloc, drawn, "left")?;
-    let right = partial_of(&rt, alloc, drawn, "right")?;
+    let partial = partial_of(&rt, alloc, drawn, "l")?;
     let mut counts = NONE;
-    for at in 0..left.len() {
-        let mut changed = left.as_slice().to_vec(alloc)?;
+    for at in 0..partial.len() {
+        let mut changed = partial.as_slice().to_vec(alloc)?;
         changed[at] ^= 1;
         count(
             &rt,
             alloc,
             drawn,
             changed.as_slice(),
-            right.as_slice(),
             wanted.as_slice(),
             &mut counts,
         )?;
@@ -436,14 +451,13 @@ fn bytes_that_are_changed_are_refused_or_give_a_report(rt: HostRuntime) -> Resul
 fn lines_that_are_swapped_or_doubled_are_refused(rt: HostRuntime) -> Result<(), Fail> {
     let alloc = rt.alloc();
     let drawn = Drawn {
-        case: STATIONS,
+        case: SMALL,
         seed: CHANGED,
     };
     let wanted = wanted_of(&rt, alloc, drawn)?;
-    let left = partial_of(&rt, alloc, drawn, "left")?;
-    let right = partial_of(&rt, alloc, drawn, "right")?;
+    let partial = partial_of(&rt, alloc, drawn, "l")?;
     let mut lines = Vec::new(alloc);
-    for line in left.as_slice().split(|b| *b == b'\n') {
+    for line in partial.as_slice().split(|b| *b == b'\n') {
         lines.push(line)?;
     }
     let _ = lines.pop();
@@ -472,7 +486,6 @@ fn lines_that_are_swapped_or_doubled_are_refused(rt: HostRuntime) -> Result<(), 
             alloc,
             drawn,
             doubled.as_slice(),
-            right.as_slice(),
             wanted.as_slice(),
             &mut counts,
         )?;
@@ -481,7 +494,6 @@ fn lines_that_are_swapped_or_doubled_are_refused(rt: HostRuntime) -> Result<(), 
             alloc,
             drawn,
             swapped.as_slice(),
-            right.as_slice(),
             wanted.as_slice(),
             &mut counts,
         )?;

@@ -1,4 +1,4 @@
-use Rattle.std.proofs.Common.{◌≡◌, sym, ap, ◌∙◌, List, ℕ, map, string_bytes}
+use Rattle.std.proofs.Common.{sym, ap, ◌∙◌, List, ℕ, map, string_bytes}
 use Rattle.std.specs.Prelude.{position}
 use Rattle.std.specs.Str.{bytes_eq}
 use Rattle.flu_lemmas.proofs.Places.{position-map}
