@@ -87,6 +87,7 @@ CallsGiveTheFold =
     → AllByRecursion
     (λ name. IsMadeByCall whole (bytes_left left job) (plan_behind (Named job) plan left) (bytes_left (behind (Combine job plan partials) left) name)) partials
     → ((p : Program) (nodes : List Node) (name : List ℕ) → IsPlanned (Combine job plan partials) left p nodes
-    → IsReadBeside p nodes partials (behind (Combine job plan partials) left) name → read_out partials (behind (Combine job plan partials) left) name ≡ whole name)
+    → IsReadBeside p nodes partials (behind (Combine job plan partials) left) name
+    → read_out partials (behind (Combine job plan partials) left) name ≡ whole name)
     → (p : Program) (nodes : List Node) → IsPlanned (Combine job plan partials) left p nodes
     → new.out ≡ Some (got ++ report p (final_outputs p nothing_held (lists_of p whole)))
