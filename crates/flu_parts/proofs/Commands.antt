@@ -215,7 +215,8 @@ module _ (law : PartialsHaveOneText) (command : PartCommand) (checked : Checked)
       (λ x y z h k. (h.0, weaken x z (subst (λ (left : Contents). P left z) (sym h.1.texts.behind) k)))
       (told_both (λ left now. IsPlanned command left p nodes) (IsReady (texts_of command) p) a m planned ready) is
 
-  planned_on : WhereTold a m (λ left now. IsPlanned command left p nodes) → WhereTold m b TookFronts → WhereTold a b (λ left now. IsPlanned command left p nodes)
+  planned_on : WhereTold a m (λ left now. IsPlanned command left p nodes) → WhereTold m b TookFronts
+      → WhereTold a b (λ left now. IsPlanned command left p nodes)
   planned_on planned fronts = told_then (λ left now. IsPlanned command left p nodes) TookFronts (λ left now. IsPlanned command left p nodes) a m b
       (λ x y z h k. h) planned fronts
 

@@ -1,5 +1,6 @@
 -- Names that are the files of sources.
-use Rattle.std.proofs.Common.{◌≡◌, ◌+◌, ◌<◌, refl, sym, ap, ◌∙◌, subst, ℕ, length, get_or, string_bytes, String, List, [], ◌∷◌, Bool, true, false, Option, Some, None, cond, map, inl, inr}
+use Rattle.std.proofs.Common.{◌≡◌, ◌+◌, ◌<◌, refl, sym, ap, ◌∙◌, subst, ℕ, length, get_or, string_bytes, String}
+use Rattle.std.proofs.Common.{List, [], ◌∷◌, Bool, true, false, Option, Some, None, cond, map, inl, inr}
 use Rattle.std.specs.Prelude.{◌||◌, Contains, position, option_map, slice_index_or}
 use Rattle.std.specs.List.{list_any}
 use Rattle.std.specs.Str.{bytes_eq}

@@ -115,8 +115,10 @@ returns-clause-ends g c =
     let counts = g.K.Sink.faults in
     let unchanged : faults c.args.files.now ≡ faults c.planned_by.new.files = fun_ext (λ name. sym (c.in-Ok.ensures.quiet (λ e. cc) name)) in
     subst (λ r. IsEnding (call (left c.args.files.now) (left c.work.new.files) (faults c.args.files.now) (faults c.work.new.files) (puts c.args.files.now)
-    (puts c.work.new.files) (taken c.args.out.now) (taken c.work.new.out) (counts c.args.out.now) (counts c.work.new.out)) command (Err r)) (sym c.refusal_of.ensures)
-    (stopped_behind c.partials_have_one_text.ensures command checked valid a m b (faults c.args.files.now) (faults c.planned_by.new.files) (faults c.work.new.files)
-    (puts c.args.files.now) (puts c.work.new.files) (taken c.args.out.now) (taken c.work.new.out) (counts c.args.out.now) (counts c.work.new.out)
+    (puts c.work.new.files) (taken c.args.out.now) (taken c.work.new.out) (counts c.args.out.now) (counts c.work.new.out)) command (Err r))
+    (sym c.refusal_of.ensures)
+    (stopped_behind c.partials_have_one_text.ensures command checked valid a m b (faults c.args.files.now) (faults c.planned_by.new.files)
+    (faults c.work.new.files) (puts c.args.files.now) (puts c.work.new.files) (taken c.args.out.now) (taken c.work.new.out)
+    (counts c.args.out.now) (counts c.work.new.out)
     c.in-Err-work.stop c.in-Ok.ensures.accepted c.in-Ok.ensures.valid.valid planned ready unchanged c.work.ensures.fronts c.work.ensures.others
     c.in-Err-work.ensures.ends)

@@ -15,7 +15,8 @@ returns-in-Partial-clause-ends g c =
     let counts = g.K.Sink.faults in
     subst (λ d. IsEndBehind (plain_part d) (program_of c.args.checked.now) (plan_of c.args.valid.now).nodes
     (call (left c.args.files.now) (left c.write_part.new.files) (faults c.args.files.now) (faults c.write_part.new.files) (puts c.args.files.now)
-    (puts c.write_part.new.files) (taken c.args.out.now) (taken c.write_part.new.out) (counts c.args.out.now) (counts c.write_part.new.out)) c.write_part.result) (sym c.in-Partial.is)
+    (puts c.write_part.new.files) (taken c.args.out.now) (taken c.write_part.new.out)
+    (counts c.args.out.now) (counts c.write_part.new.out)) c.write_part.result) (sym c.in-Partial.is)
     (c.write_part.ensures.ends c.in-Partial.job.now c.in-Partial.plan.now)
 
 pub returns-in-Combine-clause-ends : goal.returns-in-Combine-clause-ends
@@ -27,5 +28,6 @@ returns-in-Combine-clause-ends g c =
     let counts = g.K.Sink.faults in
     subst (λ d. IsEndBehind (plain_part d) (program_of c.args.checked.now) (plan_of c.args.valid.now).nodes
     (call (left c.args.files.now) (left c.combine_parts.new.files) (faults c.args.files.now) (faults c.combine_parts.new.files) (puts c.args.files.now)
-    (puts c.combine_parts.new.files) (taken c.args.out.now) (taken c.combine_parts.new.out) (counts c.args.out.now) (counts c.combine_parts.new.out)) c.combine_parts.result) (sym c.in-Combine.is)
+    (puts c.combine_parts.new.files) (taken c.args.out.now) (taken c.combine_parts.new.out)
+    (counts c.args.out.now) (counts c.combine_parts.new.out)) c.combine_parts.result) (sym c.in-Combine.is)
     (c.combine_parts.ensures.ends c.in-Combine.job.now c.in-Combine.plan.now)
