@@ -222,7 +222,11 @@ const REFUSED: &[Refused] = &[
         14,
         "partial left: node left within root",
     ),
-    ("combine reads parts left", 14, "partial left: other job"),
+    (
+        "combine reads parts left",
+        14,
+        "partial left: wrong form at line 2",
+    ),
     ("partial bad plan left", 6, "source north row 1: bad row"),
     ("combine bad plan left", 14, "partial left: other job"),
 ];
