@@ -171,12 +171,14 @@ on pay: set fee value
 on see: emit \"fee {fee}\"
 source a \"a\": pay
 source b \"b\": see
+source c \"c\": see
 ",
-    plan: "node root: pay -> reader
-node reader: see
+    plan: "node root: pay -> reader other
+node reader: see@b
+node other: see@c
 ",
     apart: &[],
-    sources: &[("a", "pay,#"), ("b", "see")],
+    sources: &[("a", "pay,#"), ("b", "see"), ("c", "see")],
 };
 
 /// A call that is refused: its words, the status and the line.
@@ -204,7 +206,12 @@ const REFUSED: &[Refused] = &[
         14,
         "partial north: same as source north",
     ),
-    ("combine job plan right", 14, "partial right: incomplete"),
+    ("combine job plan empty", 14, "partial empty: incomplete"),
+    (
+        "combine job plan words",
+        14,
+        "partial words: not json at line 1",
+    ),
     (
         "combine job plan left again",
         14,
@@ -215,7 +222,11 @@ const REFUSED: &[Refused] = &[
         14,
         "partial left: node left within root",
     ),
-    ("combine reads parts left", 14, "partial left: other job"),
+    (
+        "combine reads parts left",
+        14,
+        "partial left: wrong form at line 2",
+    ),
     ("partial bad plan left", 6, "source north row 1: bad row"),
     ("combine bad plan left", 14, "partial left: other job"),
 ];
@@ -336,13 +347,15 @@ depends b b
 on a: add n 1
 on b: emit \"{n}\"; clear n
 source x \"x\": a
-source y \"y\": b
+source y \"y\": a
+source z \"z\": b
 ",
-    plan: "node r: b -> l
-node l: a
+    plan: "node r: b -> l m
+node l: a@x
+node m: a@y
 ",
     apart: &[],
-    sources: &[("x", "a"), ("y", "b")],
+    sources: &[("x", "a"), ("y", "a"), ("z", "b")],
 };
 
 /// What became of changed partials: how many were refused, and how many were combined to the report of the fold, and to another.
@@ -439,9 +452,9 @@ fn bytes_that_are_changed_are_refused_or_give_a_report(rt: HostRuntime) -> Resul
     assert_eq!(&rt;
         counts,
         Counts {
-            refused: 987,
-            same: 14,
-            other: 221,
+            refused: 377,
+            same: 6,
+            other: 2,
         }
     );
     Ok(())
