@@ -133,26 +133,12 @@ pub fn files_of(alloc: Global, case: Case, seed: u32) -> Result<HonestFiles, All
     requires { seed < 2 ^ 31 }
 {
     let mut files = HonestFiles::new(alloc);
-    for (name, text) in texts_of(alloc, case, seed)? {
+    let mut draws = Draws { last: seed };
+    for (name, lines) in case.sources {
+        let text = rows(alloc, &mut draws, lines)?;
         files.add(name, text.as_bytes().to_vec(alloc)?)?;
     }
     Ok(files)
-}
-
-/// The texts of the sources, with the names of their files.
-pub fn texts_of(
-    alloc: Global,
-    case: Case,
-    seed: u32,
-) -> Result<Vec<(&'static str, String)>, AllocError>
-    requires { seed < 2 ^ 31 }
-{
-    let mut texts = Vec::new(alloc);
-    let mut draws = Draws { last: seed };
-    for (name, lines) in case.sources {
-        texts.push((*name, rows(alloc, &mut draws, lines)?))?;
-    }
-    Ok(texts)
 }
 
 // The numbers that a seed draws, one after another.

@@ -7,8 +7,6 @@ mod cases;
 #[cfg(test)]
 mod changed;
 #[cfg(test)]
-mod commands;
-#[cfg(test)]
 mod files;
 #[cfg(test)]
 mod joined;
