@@ -20,8 +20,8 @@ source clock "clock.csv" rate 1: tick
 JOB
     cat >parts.plan <<'PLAN'
 node root: tick -> left right
-node left -> north south
-node right -> east west
+node left: -> north south
+node right: -> east west
 node north: view@north
 node south: view@south
 node east: view@east
