@@ -1,5 +1,5 @@
 -- A list of partials has one first defect.
-use Rattle.std.proofs.Common.{◌≡◌, ◌≢◌, ◌<◌, ◌≤◌, ℕ, zero, suc, Bool, true, false, Option, Some, None, List, [], ◌∷◌, ◌++◌, length, map, refl, sym, ap}
+use Rattle.std.proofs.Common.{◌≡◌, ◌≢◌, ◌<◌, ◌≤◌, ℕ, zero, suc, Bool, true, false, Some, None, List, [], ◌∷◌, ◌++◌, length, map, refl, sym, ap}
 use Rattle.std.proofs.Common.{subst, ◌∙◌, cond, inl, inr, arith, take, get_or}
 use Rattle.std.specs.Prelude.{◌==◌, ◌&&◌, ◌||◌, nat_lt, not, position, unwrap_or}
 use Rattle.std.specs.List.{list_all, list_any, AllByRecursion}
@@ -22,7 +22,7 @@ use Rattle.flu_outside.specs.Taking.{bytes_left}
 use Rattle.flu_apart.specs.declared.reason.Reason.{Reason}
 use Rattle.flu_apart.specs.Apart.{IsFirstReason}
 use Rattle.flu_contribution.specs.Contributions.{Contribution}
-use Rattle.flu_contribution.specs.Laws.{IsApart, NoneIsWithin, AreNodesApart}
+use Rattle.flu_contribution.specs.Laws.{IsApart, NoneIsWithin}
 use Rattle.flu_contribution.specs.Sending.{is_due, without_due}
 use Rattle.flu_contribution.specs.Combining.{without_first}
 use Rattle.flu_deps.specs.Trees.{AreApart}
@@ -39,7 +39,7 @@ use Rattle.flu_receiving.specs.Faults.{IsFirstFault}
 use Rattle.flu_receiving.specs.Laws.{BytesHaveOneFault, FaultyBytesAreNotWhole, PartialsHaveOneText}
 use Rattle.flu_receiving.specs.Receiving.{IsRead, IsSendableLine, IsSentBy}
 use Rattle.flu_joining.specs.Joining.{is_last_alone, are_used_up, nothing_joined, waiting_behind}
-use Rattle.flu_joining.specs.Laws.{AlikeQueuesJoinAlike, AreAllAlike, AreQueuesAlike}
+use Rattle.flu_joining.specs.Laws.{AlikeQueuesJoinAlike, AreQueuesAlike}
 use Rattle.flu_combine.specs.declared.fault.PartialDefect.{PartialDefect}
 use Rattle.flu_combine.specs.declared.fault.PartialDefect.TheVariants.{TooLong, Text, OtherJob, OtherPlan, UnknownNode, NotApart, Twice, Within, LeftOver}
 use Rattle.flu_combine.specs.Combined.{AreAccepted, events_of_rest}
@@ -304,7 +304,7 @@ module _ (one_text : PartialsHaveOneText) (determine : LinesDetermine) (p : Prog
 module _ (one_fault : BytesHaveOneFault) (not_whole : FaultyBytesAreNotWhole) (one_text : PartialsHaveOneText) (determine : LinesDetermine)
     (p : Program) (nodes : List Node) (names : List (List ℕ)) (left : Contents) where
   -- the first defect of a list is none of an accepted one that has its place
-  not_accepted : (a b : ℕ) (d : PartialDefect) (ws : List ℕ) (queues : List (List Contribution)) → a < b → b ≤ length names
+  pub not_accepted : (a b : ℕ) (d : PartialDefect) (ws : List ℕ) (queues : List (List Contribution)) → a < b → b ≤ length names
       → IsFirstDefect p nodes names left a d → AreAccepted p nodes left (take b names) ws queues → ⊥
   not_accepted a b d ws queues lt le first accepted =
       let size : length (take b names) ≡ b = length-take-le b names le in

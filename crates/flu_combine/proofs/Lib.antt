@@ -8,3 +8,4 @@ mod PlanText
 mod Whole
 mod Reasons
 mod FirstDefects
+mod Excluding

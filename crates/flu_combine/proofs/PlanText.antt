@@ -1,6 +1,6 @@
 -- The printed plan is UTF-8: the names of the language are ASCII.
-use Rattle.std.proofs.Common.{◌≡◌, ℕ, Bool, true, false, Option, Some, None, List, [], ◌∷◌, ◌++◌, refl}
-use Rattle.std.specs.Prelude.{◌&&◌, slice_get, codes}
+use Rattle.std.proofs.Common.{◌≡◌, ℕ, true, Option, Some, None, List, [], ◌∷◌, ◌++◌, refl}
+use Rattle.std.specs.Prelude.{slice_get, codes}
 use Rattle.std.specs.List.{flat_map, list_all}
 use Rattle.std.specs.Str.{IsUtf8}
 use Rattle.flu_lemmas.proofs.Elements.{passes_at}
@@ -16,7 +16,7 @@ use Rattle.flu_model.specs.declared.plans.Pred.{Pred}
 use Rattle.flu_model.specs.Owners.{nodes_fit}
 use Rattle.flu_model.specs.Rules.{kind_fits, source_fits}
 use Rattle.flu_layout.specs.Laid.{line_end}
-use Rattle.flu_layout.specs.Lists.{separated, keys_text}
+use Rattle.flu_layout.specs.Lists.{keys_text}
 use Rattle.flu_plan.specs.Printing.{name_of_kind, name_of_source, name_of_child, kind_text, source_text, pred_text, preds_text, kids_text}
 use Rattle.flu_plan.specs.Printing.{node_line, printed, has_text}
 use Rattle.flu_combine.proofs.Ascii.{Utf8, none, ◌also◌, ascii, number, name}

@@ -1,5 +1,5 @@
 -- The plain pieces of templates are UTF-8 where the normal form of the job is: they stand in it between quotes and braces.
-use Rattle.std.proofs.Common.{◌≡◌, ℕ, Bool, true, false, Option, Some, None, List, [], ◌∷◌, ◌++◌, map, refl, sym, ap, subst, ◌∙◌, arith}
+use Rattle.std.proofs.Common.{◌≡◌, ℕ, Bool, true, false, List, [], ◌∷◌, ◌++◌, map, refl, sym, ap, subst, ◌∙◌, arith}
 use Rattle.std.specs.Prelude.{nat_le, nat_lt, length, not, ◌&&◌, option_map, slice_get, codes}
 use Rattle.std.specs.List.{flat_map, list_all, AllByRecursion}
 use Rattle.std.specs.Str.{IsUtf8}
@@ -19,7 +19,6 @@ use Rattle.flu_model.specs.Rules.{action_fits, act_fits, guard_fits, are_apart, 
 use Rattle.flu_model.specs.Rules.{is_short, kind_fits}
 use Rattle.flu_model.specs.Templates.{family_name, written_cell, written_piece, written_template}
 use Rattle.flu_layout.specs.Laid.{line_end, quoted}
-use Rattle.flu_layout.specs.Lists.{separated}
 use Rattle.flu_parse.specs.Printing.{version_line, cell_line, tag_line, depends_line, on_line, source_line, actions_line, normal_form}
 use Rattle.flu_parse.specs.Printing.{act_text, guard_text, action_text}
 use Rattle.flu_sending.specs.Texts.{IsUtf8Piece, EmitsUtf8, TemplatesAreUtf8}

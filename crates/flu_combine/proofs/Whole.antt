@@ -1,8 +1,8 @@
 -- The text of a node's partial is a whole partial of what the node sends.
-use Rattle.std.proofs.Common.{◌≡◌, ◌<◌, ◌≤◌, ◌+◌, ◌^◌, ℕ, zero, suc, Bool, true, false, cond, Option, Some, None, List, [], ◌∷◌, ◌++◌, length, map, refl}
+use Rattle.std.proofs.Common.{◌≡◌, ◌<◌, ◌≤◌, ◌+◌, ℕ, zero, suc, Bool, true, false, cond, Option, Some, None, List, [], ◌∷◌, ◌++◌, length, map, refl}
 use Rattle.std.proofs.Common.{sym, ap, subst, ◌∙◌, arith, min}
-use Rattle.std.specs.Prelude.{◌&&◌, not, option_map, position, slice_get}
-use Rattle.std.specs.List.{flat_map, fold, list_all, list_any, reduce, AllByRecursion}
+use Rattle.std.specs.Prelude.{not, option_map, slice_get}
+use Rattle.std.specs.List.{fold, list_all, list_any, reduce, AllByRecursion}
 use Rattle.std.specs.Str.{IsUtf8}
 use Rattle.std.proofs.lemmas.List.{length-append}
 use Rattle.std.proofs.lemmas.Option.{slice_get-map}
@@ -12,7 +12,6 @@ use Rattle.flu_lemmas.proofs.Elements.{fails_at, passes_at}
 use Rattle.flu_lemmas.proofs.Places.{position-cons, slice_get-there}
 use Rattle.flu_lemmas.proofs.Tests.{and_left, and_right, not_true}
 use Rattle.flu_names.specs.Names.{is_name}
-use Rattle.flu_model.specs.declared.events.Item.{Item}
 use Rattle.flu_model.specs.declared.events.Out.{Out}
 use Rattle.flu_model.specs.declared.jobs.Program.{Program}
 use Rattle.flu_model.specs.declared.plans.Node.{Node}
@@ -20,9 +19,7 @@ use Rattle.flu_model.specs.Owners.{nodes_fit}
 use Rattle.flu_model.specs.Rules.{are_distinct, is_same_text}
 use Rattle.flu_contribution.specs.Contributions.{Contribution}
 use Rattle.flu_contribution.specs.Sharing.{MergedEventsRiseStrictly}
-use Rattle.flu_partial.specs.declared.values.Contribution as partial
 use Rattle.flu_partial.specs.declared.values.Emitted.{Emitted}
-use Rattle.flu_partial.specs.Forms.{IsShort}
 use Rattle.flu_partial.specs.Laws.{LawOfPrintedHeads, LawOfPrintedContributions}
 use Rattle.flu_partial.specs.Partial.{contribution_text, head_text, line_of as text_line, IsHead, IsTime, IsTimeOrNone}
 use Rattle.flu_handover.specs.Handing.{emitted_of, line_of, IsLineOf}
@@ -35,7 +32,7 @@ use Rattle.flu_sending.specs.Lines.{all_times, last_time, lines_of, sent_by}
 use Rattle.flu_sending.specs.Texts.{IsUtf8Output}
 use Rattle.flu_node_run.specs.Partials.{head_of, name_of_node, text_of_partial}
 use Rattle.flu_combine.specs.Laws.{TextsAreWholePartials}
-use Rattle.flu_combine.specs.Partials.{most_bytes, node_named, IsPartialOf}
+use Rattle.flu_combine.specs.Partials.{most_bytes, node_named}
 use Rattle.flu_combine.proofs.PlanText.{plan_is_utf8}
 use Rattle.flu_combine.proofs.Templates.{templates_are_utf8}
 

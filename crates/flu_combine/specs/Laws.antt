@@ -19,13 +19,14 @@ use Rattle.flu_parse.specs.Printing.{normal_form}
 use Rattle.flu_plan.specs.Printing.{has_text}
 use Rattle.flu_sending.specs.Laws.{AreReadable}
 use Rattle.flu_sending.specs.Lines.{sent_by}
+use Rattle.flu_streams.specs.declared.faults.SourceFault.{SourceFault}
 use Rattle.flu_streams.specs.Good.{lists_of}
 use Rattle.flu_selected.specs.Gathering.{IsRead}
 use Rattle.flu_readers.specs.Reading.{reads_rest, part_read, IsReadGood, EachReadsGood}
 use Rattle.flu_node_run.specs.Partials.{text_of_partial}
 use Rattle.flu_combine.specs.declared.fault.PartialDefect.{PartialDefect}
 use Rattle.flu_combine.specs.Combined.{IsCombined}
-use Rattle.flu_combine.specs.Faults.{IsFaultOfPartial}
+use Rattle.flu_combine.specs.Faults.{IsFaultOfPartial, IsFaultOfSource}
 use Rattle.flu_combine.specs.Names.{read_out}
 use Rattle.flu_combine.specs.Partials.{most_bytes, ArePartials, IsPartialOf}
 
@@ -34,6 +35,24 @@ abbrev pub FirstDefectIsOne : Type 0
 FirstDefectIsOne =
     (p : Program) (nodes : List Node) (names : List (List ℕ)) (left : Contents) (a b : ℕ) (d e : PartialDefect)
     → IsFaultOfPartial p nodes names left a d → IsFaultOfPartial p nodes names left b e → (a ≡ b) × (d ≡ e)
+
+-- WHAT IS COMBINED HAS NO FAULT: where something can be combined of what the names have, no partial among them has a first defect, and none of the sources
+-- that are read beside them has one
+abbrev pub NoPartialIsFaulty : Type 0
+NoPartialIsFaulty =
+    (p : Program) (nodes : List Node) (names : List (List ℕ)) (text : List ℕ) (left now : Contents) (place : ℕ) (d : PartialDefect)
+    → IsCombined p nodes names text left now → ¬ IsFaultOfPartial p nodes names left place d
+
+abbrev pub NoSourceIsFaulty : Type 0
+NoSourceIsFaulty =
+    (p : Program) (nodes : List Node) (names : List (List ℕ)) (text : List ℕ) (left now : Contents) (fault : SourceFault)
+    → IsCombined p nodes names text left now → ¬ IsFaultOfSource p nodes names left fault
+
+-- A SOURCE OR A PARTIAL: where a source that is read beside the partials has the first defect, no partial has it
+abbrev pub SourcesOrPartialsAreFaulty : Type 0
+SourcesOrPartialsAreFaulty =
+    (p : Program) (nodes : List Node) (names : List (List ℕ)) (left : Contents) (fault : SourceFault) (place : ℕ) (d : PartialDefect)
+    → IsFaultOfSource p nodes names left fault → ¬ IsFaultOfPartial p nodes names left place d
 
 -- THE TEXT OF A PARTIAL IS A WHOLE PARTIAL of what the node sends, if it is not too long. What the job and the plan that it is of are read from gives that
 -- the job's normal form is UTF-8, that the plan has a text, and that its nodes have names of their own

@@ -1,6 +1,7 @@
 //! Laws of partials and of what is combined of them, each the contract of a function that does nothing.
 
 ghost use Rattle.flu_combine.specs.Laws.{FirstDefectIsOne, PartialsAreCombined, TextsAreWholePartials};
+ghost use Rattle.flu_combine.specs.Laws.{NoPartialIsFaulty, NoSourceIsFaulty, SourcesOrPartialsAreFaulty};
 
 /// The text of a node's partial, of streams that have one list for each itag of the job, is a whole partial of what the node sends of them, if it is
 /// not too long. The plan has a text, its nodes have names of their own, and the normal form of the job is UTF-8.
@@ -20,6 +21,20 @@ pub fn texts_are_whole_partials()
 /// A list of partials has one first defect at most: at one place, and of one kind.
 pub fn first_defect_is_one()
     ensures { FirstDefectIsOne }
+{
+    flu_receiving::laws::bytes_have_one_fault();
+    flu_receiving::laws::faulty_bytes_are_not_whole();
+    flu_receiving::laws::partials_have_one_text();
+    flu_handover::lines_determine();
+    flu_joining::laws::alike_queues_join_alike();
+}
+
+/// Over one content of the names, at most one of three happens: something can be combined, or a partial has the first defect, or a source that is read
+/// beside the partials has it.
+pub fn one_of_three_happens()
+    ensures partials { NoPartialIsFaulty }
+    ensures sources { NoSourceIsFaulty }
+    ensures apart { SourcesOrPartialsAreFaulty }
 {
     flu_receiving::laws::bytes_have_one_fault();
     flu_receiving::laws::faulty_bytes_are_not_whole();
