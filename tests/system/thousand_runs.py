@@ -6,7 +6,8 @@ Usage: tests/system/thousand_runs.py PROGRAM [--times N] [--at-once K] [--seed S
 PROGRAM is the built program. N jobs are made (1000 if no number is given), K of them are run side by side (8), so that threads
 are scheduled differently, and the seed S (1) determines all that is made. Each job is made acceptable by the `depends` that `check` asks for.
 It is run by `fold`, by `run` with the program's own plan, with a plan of `plan --depth D` and with one that is made here, and by
-`simulate` with the last two and a random seed, if the program has that command. A job whose runs differ is kept in FOLDER
+`simulate` with the last two and a random seed, if the program has that command. For the last two plans `partial` is called for each node,
+and `combine` twice over partials of nodes that may be apart, if the program has these. A job whose runs differ is kept in FOLDER
 (`thousand_runs` if none is named). The last line is a row for a table; the status is 1 if any run differed.
 """
 import argparse
@@ -20,6 +21,7 @@ import sys
 import tempfile
 import time
 
+NODE = re.compile(r"^node (\w+):.*?(?:-> (\w+) (\w+))?$", re.M)
 CONFLICT = re.compile(r"flumina: conflict: (\w+)(?:\[\d+\])? and (\w+)(?:\[\d+\])? on ")
 KEYS = 4
 ITEMS = [0, 1, 2, 3, 3, 70, 5000, 65535]
@@ -177,8 +179,31 @@ def call(program, folder, *words):
     return done.stdout, done.stderr.decode(errors="replace"), done.returncode
 
 
-def compared(program, seed, simulates, keep):
-    """Makes and runs one job: how many runs were compared, how many differed, how many nodes, events and lines there were."""
+def apart(program, folder, plan, rng):
+    """Writes the partials of the nodes of a plan that may be apart, and gives two lists of the names of some of them, none within another."""
+    above, may = {}, []
+    for name, left, right in NODE.findall((folder / plan).read_text()):
+        above.update({left: name, right: name} if left else {})
+        out, err, status = call(program, folder, "partial", "job", plan, name)
+        if status == 0:
+            (folder / f"{plan}.{name}").write_bytes(out)
+            may.append(name)
+        elif status != 5 or not err.startswith(f"flumina: plan: {name} can't be apart: "):
+            raise RuntimeError(f"partial: {status} {err}")
+
+    def path(name):
+        return [name] + (path(above[name]) if name in above else [])
+
+    for _ in range(2 if may else 0):
+        chosen = []
+        for name in rng.sample(may, rng.randint(1, len(may))):
+            if all(name not in path(other) and other not in path(name) for other in chosen):
+                chosen.append(name)
+        yield [f"{plan}.{name}" for name in chosen]
+
+
+def compared(program, seed, simulates, combines, keep):
+    """Makes and runs one job: how many runs were compared, how many of these by `combine`, how many differed, how many nodes, events and lines there were."""
     rng = random.Random(seed)
     folder = pathlib.Path(tempfile.mkdtemp(prefix="thousand_runs_"))
     job = Job(rng)
@@ -199,6 +224,8 @@ def compared(program, seed, simulates, keep):
     ways = [("run", "job"), ("run", "job", "greedy"), ("run", "job", "shaped")]
     if simulates:
         ways += [("simulate", "job", plan, str(rng.randrange(2**31))) for plan in ("greedy", "shaped")]
+    if combines:
+        ways += [("combine", "job", plan, *files) for plan in ("greedy", "shaped") for files in apart(program, folder, plan, rng)]
     bad = 0
     for words in ways:
         out, err, status = call(program, folder, *words)
@@ -209,7 +236,7 @@ def compared(program, seed, simulates, keep):
     if bad:
         shutil.copytree(folder, keep / str(seed), dirs_exist_ok=True)
     shutil.rmtree(folder)
-    return len(ways), bad, nodes, events, wanted.count(b"\n")
+    return len(ways), sum(words[0] == "combine" for words in ways), bad, nodes, events, wanted.count(b"\n")
 
 
 def main():
@@ -223,14 +250,16 @@ def main():
     program = str(pathlib.Path(asked.program).resolve())
     # Words that are no command give 2; of a command that is there a missing file gives 7.
     simulates = call(program, ".", "simulate", "no such file", "no such file", "0")[2] == 7
+    combines = call(program, ".", "combine", "no such file", "no such file", "no such file")[2] == 7
     begin = time.time()
     with concurrent.futures.ThreadPoolExecutor(asked.at_once) as pool:
-        made = [pool.submit(compared, program, seed, simulates, asked.keep) for seed in range(asked.seed, asked.seed + asked.times)]
-        runs, bad, nodes, events, lines = (sum(column) for column in zip(*(m.result() for m in made)))
+        made = [pool.submit(compared, program, seed, simulates, combines, asked.keep) for seed in range(asked.seed, asked.seed + asked.times)]
+        runs, combined, bad, nodes, events, lines = (sum(column) for column in zip(*(m.result() for m in made)))
     took = time.time() - begin
-    print("| jobs | runs compared with fold | differ | nodes of plans | events | lines of reports | at once | simulate | seconds |")
-    print("|---|---|---|---|---|---|---|---|---|")
-    print(f"| {asked.times} | {runs} | {bad} | {nodes} | {events} | {lines} | {asked.at_once} | {'yes' if simulates else 'no'} | {took:.0f} |")
+    print("| jobs | runs compared with fold | by combine | differ | nodes of plans | events | lines of reports | at once | simulate | seconds |")
+    print("|---|---|---|---|---|---|---|---|---|---|")
+    shown = "yes" if simulates else "no"
+    print(f"| {asked.times} | {runs} | {combined} | {bad} | {nodes} | {events} | {lines} | {asked.at_once} | {shown} | {took:.0f} |")
     sys.exit(1 if bad else 0)
 
 
