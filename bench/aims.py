@@ -16,7 +16,7 @@ from others import by_awk, page_views, same_lines, sums_by_item
 @measurement("The aims, in one call: `run` beside `fold`, alone and beside busy programs, and both beside other programs")
 def aims(bench):
     began = time.monotonic()
-    print(textwrap.fill(machine(bench), 160) + "\n")
+    print(textwrap.fill(machine(bench) + " " + side_by_side(bench), 160) + "\n")
     heads = "`fold`", "`run PLAN`", "`run`"
     table("Job", *heads, "gawk", "mawk", "wall time, PLAN", "wall time", "aim", "processor time, PLAN", "processor time", "aim")
     loaded, most, of = [], 0, ""
@@ -143,6 +143,24 @@ def machine(bench):
         f" time, in brackets of processor time: each is the least of {bench.runs} alternating runs, beside busy programs the median of {beside_load(bench)},"
         f" where a PLAN is left out that took more than twice `fold` without them. The columns before an aim have the times of `run` divided by those of"
         f" `fold`; a figure that misses the aim is bold. {others}, in the C locale."
+    )
+
+
+def side_by_side(bench):
+    """What four processors give programs that share nothing: no run on four threads can be faster than that."""
+    loop = [sys.executable, "-c", "for _ in range(10_000_000): pass"]
+    took = {}
+    for count in 1, 2, 4:
+        took[count] = []
+        for _ in range(bench.runs):
+            start = time.monotonic()
+            for it in [subprocess.Popen([*bench.before, *loop]) for _ in range(count)]:
+                it.wait()
+            took[count].append(time.monotonic() - start)
+    one, two, four = (min(it) for it in took.values())
+    return (
+        f"Two loops in Python side by side took {two / one:.2f} times as long as one, and four {four / one:.2f} times, so that work that is shared without"
+        f" any loss by two threads takes at least {two / one / 2:.2f} of the time of one, and by four {four / one / 4:.2f}."
     )
 
 

@@ -67,6 +67,8 @@ class Bench:
     def compare(self, same=(), runs=None, **commands):
         """The figures of commands by name, which alternate; those of `same` have to write the same bytes."""
         figures, same = {name: Figure() for name in commands}, list(same)
+        # Else the first commands run while the inputs that were just made are written to the disk.
+        os.sync()
         for _ in range(runs or self.runs):
             for name, command in commands.items():
                 if self.once(name, command, figures[name]):
