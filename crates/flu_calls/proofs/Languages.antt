@@ -1,9 +1,9 @@
 -- Which words are whose.
-use Rattle.std.proofs.Common.{◌≡◌, ℕ, Bool, true, false, List, [], ◌∷◌, Result, Ok, Err, refl, sym, ◌∙◌, IsTrue}
+use Rattle.std.proofs.Common.{◌≡◌, ℕ, Bool, true, false, [], ◌∷◌, Result, Ok, Err, refl, sym, ◌∙◌, IsTrue}
 use Rattle.std.specs.Prelude.{◌||◌, if◌then◌else◌, codes}
 use Rattle.std.specs.Str.{bytes_eq}
 use Rattle.flu_words.specs.Words.{Command, command_in}
-use Rattle.flu_words.specs.Parts.{PartCommand, is_part_call, part_in, LanguagesAreApart}
+use Rattle.flu_words.specs.Parts.{PartCommand, is_part_call, LanguagesAreApart}
 use Rattle.flu_calls.specs.Laws.{CommandsAreNoPartCalls, PartCommandsArePartCalls}
 
 begins : (b c : Bool) (x y : Result PartCommand ℕ) (command : PartCommand) → (if b then x else if c then y else Err 0) ≡ Ok command → (b || c) ≡ true

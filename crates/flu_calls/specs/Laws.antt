@@ -6,6 +6,7 @@ use Rattle.flu_words.specs.Parts.{PartCommand, is_part_call, part_in}
 use Rattle.flu_command.specs.Outside.{Outside, Faults}
 use Rattle.flu_top.specs.Outcome.{Outcome, ReadOnly, FaultsFirst, HidesNothing, Completes}
 use Rattle.flu_parts.specs.Outcome.{PartOutcome, PartReadOnly, PartFaultsFirst, PartHidesNothing}
+use Rattle.flu_parts.specs.Calling.{PartCompletes}
 use Rattle.flu_calls.specs.Calls.{CallOutcome, CallReadOnly, CallFaultsFirst, CallHidesNothing, CallCompletes}
 
 -- ---- whose words they are
@@ -63,3 +64,8 @@ abbrev pub PartsHideNothing : Type 0
 PartsHideNothing =
     (words : List (List ℕ)) (old new : Option Contents) (before now : Faults) (status : ℕ) → is_part_call words ≡ true
     → CallHidesNothing words old new before now status → PartHidesNothing words old new before now status
+
+abbrev pub PartsComplete : Type 0
+PartsComplete =
+    (words : List (List ℕ)) (told : Option Contents) (before now : Faults) (status : ℕ) → is_part_call words ≡ true
+    → CallCompletes words told before now status → PartCompletes words told before now status

@@ -47,7 +47,7 @@ pub fn answer_words<'a, F: Files, K: Sink, E: Sink, G: Gate, R: Threads + Wait +
         (faults (F.faults files.old) (F.put_faults files.old) (K.faults out.old))
         (faults (F.faults files.new) (F.put_faults files.new) (K.faults out.new)) (code_of_answer result) }
 
-    // If no count rose, the status of one of the eight commands is the one that it and the files call for, or 9.
+    // If no count rose, the status is the one that the words and the files call for, or 9.
     ensures completes { CallCompletes (map string_bytes words.now) (F.left files.old)
         (faults (F.faults files.old) (F.put_faults files.old) (K.faults out.old))
         (faults (F.faults files.new) (F.put_faults files.new) (K.faults out.new)) (code_of_answer result) }

@@ -2,6 +2,7 @@
 
 ghost use Rattle.flu_calls.specs.Laws.{CommandsAreNoPartCalls, PartCommandsArePartCalls, OthersHaveOutcomes, OthersAreRead, OthersHaveFaultsFirst};
 ghost use Rattle.flu_calls.specs.Laws.{OthersHideNothing, OthersComplete, PartsHaveOutcomes, PartsAreRead, PartsHaveFaultsFirst, PartsHideNothing};
+ghost use Rattle.flu_calls.specs.Laws.{PartsComplete};
 
 use flu_words::languages_are_apart;
 
@@ -28,4 +29,5 @@ pub fn of_part_calls()
     ensures read { PartsAreRead }
     ensures faults { PartsHaveFaultsFirst }
     ensures hides { PartsHideNothing }
+    ensures completes { PartsComplete }
 {}

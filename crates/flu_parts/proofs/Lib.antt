@@ -4,3 +4,4 @@ pub mod Commands
 pub mod Outcomes
 pub mod Folding
 pub mod Dones
+pub mod Completing

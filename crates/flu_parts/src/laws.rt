@@ -1,12 +1,31 @@
 //! Laws of part commands, each the contract of a function that does nothing.
 
 ghost use Rattle.flu_parts.specs.Laws.{PartDoneIsWritten, PartialsCombinedAreTheFold, CallsGiveTheFold};
+ghost use Rattle.flu_parts.specs.Calling.{PartCallsForOneStatus, PartsCompleteByFaults};
 
 /// A part command that is done has written what it writes: of files whose bytes are known before and after the call, status 0 says that they were read
 /// as the command reads them, and that the text was appended to what `out` had.
 pub fn part_done_is_written()
     ensures { PartDoneIsWritten }
 {}
+
+/// A part command and its files call for one status at most, so that what refuses it comes in an order.
+pub fn part_commands_call_for_one_status()
+    ensures { PartCallsForOneStatus }
+{
+    flu_command::calling::files_call_for_one_status();
+    flu_command::calling::what_ends_a_command_is_called_for();
+    flu_combine::laws::one_of_three_happens();
+}
+
+/// That a part command completes follows from its outcome, if the statuses 7 and 8 come only from faults of the outside.
+pub fn part_commands_complete_by_faults()
+    ensures { PartsCompleteByFaults }
+{
+    flu_command::calling::files_call_for_one_status();
+    flu_command::calling::what_ends_a_command_is_called_for();
+    flu_combine::laws::one_of_three_happens();
+}
 
 /// Let processes, each over files of its own, have written partials of nodes of one job and one plan, and let `combine` be given their texts. Where each
 /// of them, and the one that combines, had of the sources that it read what some files have, the text that `combine` writes is the report of the fold of

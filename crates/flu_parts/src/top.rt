@@ -10,7 +10,9 @@ ghost use Rattle.flu_top.specs.Ending.{call};
 ghost use Rattle.flu_parts.specs.Ending.{Ends};
 ghost use Rattle.flu_parts.specs.ReadNames.{IsReadByPart};
 ghost use Rattle.flu_parts.specs.Outcome.{PartOutcome, PartReadOnly, PartFaultsFirst, PartHidesNothing};
+ghost use Rattle.flu_parts.specs.Calling.{PartCompletes};
 
+use crate::laws::part_commands_complete_by_faults;
 use crate::running::run;
 use flu_lines::{PartRefusal, Refusal, say_part};
 use flu_outside::{Files, Sink};
@@ -62,9 +64,15 @@ pub fn answer_part_words<'a, F: Files, K: Sink, E: Sink>(
         (faults (F.faults files.old) (F.put_faults files.old) (K.faults out.old))
         (faults (F.faults files.new) (F.put_faults files.new) (K.faults out.new)) (code_after_part result) }
 
+    // If no count rose, the status is the one that the command and the files call for, or 9.
+    ensures completes { PartCompletes (map string_bytes words.now) (F.left files.old)
+        (faults (F.faults files.old) (F.put_faults files.old) (K.faults out.old))
+        (faults (F.faults files.new) (F.put_faults files.new) (K.faults out.new)) (code_after_part result) }
+
     // Err got nothing if the command was done, and else the line of the refusal.
     ensures heard { IsPartHeard result (E.taken err.old) (E.taken err.new) (E.faults err.old) (E.faults err.new) }
 {
+    part_commands_complete_by_faults();
     let ended = do_words(alloc, words, files, out);
     tell(err, &ended);
     ended

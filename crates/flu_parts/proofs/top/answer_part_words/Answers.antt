@@ -14,3 +14,10 @@ returns-clause-faults g c =
 
 pub returns-clause-hides : goal.returns-clause-hides
 returns-clause-hides g c = hides_of _ _ c.do_words-ended.result c.do_words-ended.ensures.ends
+
+pub returns-clause-completes : goal.returns-clause-completes
+returns-clause-completes g c =
+    c.part_commands_complete_by_faults.ensures _ _ _ _ _ _
+    (outcome_of _ _ _ _ _ _ c.do_words-ended.result c.do_words-ended.ensures.ends c.tell.ensures)
+    (faults_of _ _ c.do_words-ended.result c.do_words-ended.ensures.ends c.do_words-ended.ensures.quiet c.do_words-ended.ensures.written_quiet
+    c.do_words-ended.ensures.puts)

@@ -1,0 +1,13 @@
+use Rattle.flu_parts.proofs.Completing.{one_status}
+use Rattle.flu_parts.proofs.laws.part_commands_call_for_one_status.Goals as goal
+
+pub returns : goal.returns
+returns c = one_status (record {
+  one = c.files_call_for_one_status.ensures;
+  job_fault = c.what_ends_a_command_is_called_for.ensures.job_fault;
+  conflict = c.what_ends_a_command_is_called_for.ensures.conflict;
+  plan_defect = c.what_ends_a_command_is_called_for.ensures.plan_defect;
+  no_partial = c.one_of_three_happens.ensures.partials;
+  no_source = c.one_of_three_happens.ensures.sources;
+  apart = c.one_of_three_happens.ensures.apart;
+})
