@@ -250,7 +250,7 @@ def main():
     program = str(pathlib.Path(asked.program).resolve())
     # Words that are no command give 2; of a command that is there a missing file gives 7.
     simulates = call(program, ".", "simulate", "no such file", "no such file", "0")[2] == 7
-    combines = call(program, ".", "combine", "no such file", "no such file", "no such file")[2] == 7
+    combines = call(program, ".", "combine", "no such job", "no such plan", "no such partial")[2] == 7
     begin = time.time()
     with concurrent.futures.ThreadPoolExecutor(asked.at_once) as pool:
         made = [pool.submit(compared, program, seed, simulates, combines, asked.keep) for seed in range(asked.seed, asked.seed + asked.times)]
