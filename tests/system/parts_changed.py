@@ -4,9 +4,9 @@
     tests/system/parts_changed.py PROGRAM
 
 The partials are those of the nodes `left` and `right` of examples/rides. That of `left` is cut at each byte; each of its bytes is changed to others
-like it; its lines are swapped, doubled and left out. A text that is refused is status 14 with a line that names its file. The last lines say how many
-texts gave what, and show each change that made another right partial: one of what the node sent has another amount, another count or another text then,
-which nothing in the text contradicts."""
+like it; its lines are swapped, doubled and left out. A text that is refused is status 14 with a line that names its file; each cut is, and each line
+that is doubled or swapped. The last lines say how many texts gave what, and show each change that made another right partial: what the node sent has
+another amount or key then, or one contribution less, which nothing in the text contradicts."""
 
 import os
 
@@ -58,11 +58,13 @@ need(counts["refused"] == len(whole), "each cut is refused")
 lines = whole.splitlines(keepends=True)
 for at in range(len(lines)):
     combined(b"".join(lines[:at] + lines[at:][:1] * 2 + lines[at + 1 :]), f"line {at + 1} doubled")
-    combined(b"".join(lines[:at] + lines[at + 1 :]), f"line {at + 1} left out")
     for other in range(at + 1, len(lines)):
         moved = list(lines)
         moved[at], moved[other] = moved[other], moved[at]
         combined(b"".join(moved), f"lines {at + 1} and {other + 1} swapped")
+need(counts["right report"] == 1 and not others, "each line that is doubled or swapped with another is refused")
+for at in range(len(lines)):
+    combined(b"".join(lines[:at] + lines[at + 1 :]), f"line {at + 1} left out")
 for at, byte in enumerate(whole):
     for new in alike(byte):
         combined(whole[:at] + bytes([new]) + whole[at + 1 :], f"byte {at + 1}, {chr(byte)!r} to {chr(new)!r}, in {whole[max(0, at - 12) : at + 8].decode()!r}")
