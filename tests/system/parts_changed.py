@@ -52,6 +52,7 @@ def alike(byte):
 
 combined(whole, "unchanged")
 need(counts["right report"] == 1, "what was sent gives the report")
+counts["right report"] = 0
 for size in range(len(whole)):
     combined(whole[:size], f"cut at {size}")
 need(counts["refused"] == len(whole), "each cut is refused")
@@ -62,7 +63,7 @@ for at in range(len(lines)):
         moved = list(lines)
         moved[at], moved[other] = moved[other], moved[at]
         combined(b"".join(moved), f"lines {at + 1} and {other + 1} swapped")
-need(counts["right report"] == 1 and not others, "each line that is doubled or swapped with another is refused")
+need(counts["right report"] == 0 and not others, "each line that is doubled or swapped with another is refused")
 for at in range(len(lines)):
     combined(b"".join(lines[:at] + lines[at + 1 :]), f"line {at + 1} left out")
 for at, byte in enumerate(whole):
