@@ -173,6 +173,12 @@ def readme(program):
 def log_to_report(page, folder):
     """From the log to the report and back, and in other ways of reading."""
     folder.write(page.code("rides.log"), page.block("when,office"))
+    folder.quiet(page.block("awk -F, 'NR > 1 { if"))
+    row = page.code("2026-03-02 08:05:00.000,ride,harbour,12")
+    need(folder.read(page.code("north-text.csv")).startswith(f"{row}\n"), "the first row of north-text.csv")
+    folder.write(page.code("text.job"), page.block("version 3 iso milliseconds"))
+    report = folder.quiet(page.block("flumina fold text.job"))
+    same(report, page.block("2026-03-02T23:59:59.999Z,day,harbour"), "the report with times as text and names")
     for start in "mlr --icsv", "TZ=UTC awk":
         folder.quiet(page.block(start))
         rows = folder.read("seconds.csv")
@@ -194,10 +200,6 @@ def log_to_report(page, folder):
     by_miller, by_awk = (folder.quiet(it) for it in page.block("mlr --csv").splitlines())
     same(by_awk, page.block("2026-03-02 23:59:59,day,longest"), "the report with names and dates")
     same(re.sub(r"^(\S+)T(\S+)Z,", r"\1 \2,", by_miller, flags=re.M), by_awk, "the same by Miller, whose dates have T and Z")
-    report = folder.quiet(page.block("awk -F, 'FNR == NR { key"))
-    row = page.code("2026-03-02 08:05:00.000,ride[1],12")
-    need(folder.read(page.code("north-text.csv")).startswith(f"{row}\n"), "the first row of north-text.csv")
-    same(report, page.block("2026-03-02T23:59:59.999Z,day,longest"), "the report with times as text")
 
 
 def many_keys(page, folder):

@@ -25,6 +25,7 @@ NODE = re.compile(r"^node (\w+):.*?(?:-> (\w+) (\w+))?$", re.M)
 CONFLICT = re.compile(r"flumina: conflict: (\w+)(?:\[\d+\])? and (\w+)(?:\[\d+\])? on ")
 KEYS = 4
 ITEMS = [0, 1, 2, 3, 3, 70, 5000, 65535]
+NAMES = ["harbour", "market hall", "7", "a;b", "e\u0301t\u00e9", "x" * 64, "cell", "007"]
 
 
 class Job:
@@ -35,6 +36,9 @@ class Job:
         self.version = rng.choice([1, 1, 2, 3, 3])
         self.cells = [(f"c{i}", rng.random() < 0.5, rng.choice(["sum", "max", "last"])) for i in range(rng.randint(1, 3))]
         self.kinds = [(f"k{i}", rng.random() < 0.5, rng.random() < 0.7, self.version == 3 and rng.random() < 0.6) for i in range(rng.randint(1, 4))]
+        self.lists = [rng.sample(NAMES, rng.randint(1, 6)) for _ in range(rng.randint(1, 2) * (self.version == 3 and rng.random() < 0.6))]
+        self.names = {name: rng.choice([None, *range(len(self.lists))]) for name, many, *_ in self.cells if many}
+        self.names |= {name: rng.choice([None, *range(len(self.lists))]) for name, _, _, itemed in self.kinds if itemed}
         self.depends = set()
         self.actions = [[self.action(*kind[1:]) for _ in range(rng.randint(1, 3))] for kind in self.kinds]
         for actions, kind in zip(self.actions, self.kinds):
@@ -88,9 +92,12 @@ class Job:
     def text(self):
         """The job's text."""
         lines = [f"version {self.version}"] if self.version > 1 else []
-        lines += [f"cell {name} {'keyed ' if keyed else ''}{sort}" for name, keyed, sort in self.cells]
+        for number, names in enumerate(self.lists):
+            lines.append(f"names l{number}: " + ", ".join(f'"{name}"' for name in names))
+        lines += [f"cell {name} {'keyed ' + self.by(name) if keyed else ''}{sort}" for name, keyed, sort in self.cells]
         lines += [
-            f"tag {name} {'keyed ' if keyed else ''}{'item ' if itemed else ''}{'int' if valued else 'none'}" for name, keyed, valued, itemed in self.kinds
+            f"tag {name} {'keyed ' if keyed else ''}{'item ' + self.by(name) if itemed else ''}{'int' if valued else 'none'}"
+            for name, keyed, valued, itemed in self.kinds
         ]
         lines += [f"depends {self.kinds[a][0]} {self.kinds[b][0]}{' same' if same else ''}" for a, b, same in sorted(self.depends)]
         lines += [f"on {kind[0]}: {'; '.join(actions)}" for kind, actions in zip(self.kinds, self.actions)]
@@ -98,6 +105,17 @@ class Job:
             listed = ", ".join(self.kinds[k][0] + (f"[{low}..{high}]" if self.kinds[k][1] else "") for k, low, high in tags)
             lines.append(f'source {name} "{name}.csv" rate {rate}: {listed}')
         return "\n".join(lines) + "\n"
+
+    def by(self, name):
+        """Which list names the keys of a family or the items of a kind, as its declaration says it."""
+        return "" if self.names[name] is None else f"by l{self.names[name]} "
+
+    def item(self, name):
+        """An item of a kind, as a row gives it."""
+        if self.names[name] is None:
+            return self.rng.choice(ITEMS)
+        shown = self.rng.choice(self.lists[self.names[name]])
+        return self.rng.choice([shown, f'"{shown}"'])
 
     def accept(self, program, folder):
         """Adds what the program's `check` asks for, `same` first where both kinds are keyed, until the job is accepted."""
@@ -167,7 +185,7 @@ class Job:
             name, keyed, valued, itemed = self.kinds[kind]
             tag = f"{name}[{self.rng.randint(low, high)}]" if keyed else name
             if itemed:
-                tag += f",{self.rng.choice(ITEMS)}"
+                tag += f",{self.item(name)}"
             value = f",{self.rng.randint(-9, 9)}" if valued else ""
             lines.append(f"{time_now},beat" if self.rng.random() < 0.15 else f"{time_now},{tag}{value}")
         return "\n".join(lines + ["end"]) + "\n"

@@ -1,4 +1,5 @@
--- The plain pieces of templates are UTF-8 where the normal form of the job is: they stand in it between quotes and braces.
+-- The plain pieces of templates, and the texts of lists of names, are UTF-8 where the normal form of the job is: they stand in it between quotes and
+-- braces.
 use Rattle.std.proofs.Common.{◌≡◌, ℕ, Bool, true, false, List, [], ◌∷◌, ◌++◌, map, refl, sym, ap, subst, ◌∙◌, arith}
 use Rattle.std.specs.Prelude.{nat_le, nat_lt, length, not, ◌&&◌, option_map, slice_get, codes}
 use Rattle.std.specs.List.{flat_map, list_all, AllByRecursion}
@@ -15,13 +16,15 @@ use Rattle.flu_model.specs.declared.jobs.Piece.{Piece}
 use Rattle.flu_model.specs.declared.jobs.Piece.TheVariants.{Plain, Value, Key, Item, Time, Read, CellValue, FamilyCell}
 use Rattle.flu_model.specs.declared.jobs.Program.{Program}
 use Rattle.flu_model.specs.Erasure.{job_of, plain_act, plain_action, plain_kind, term_of}
+use Rattle.flu_model.specs.Numberings.{Numbering}
 use Rattle.flu_model.specs.Rules.{action_fits, act_fits, guard_fits, are_apart, emit_piece_fits, flush_piece_fits, follows_plain, is_keyed}
 use Rattle.flu_model.specs.Rules.{is_short, kind_fits}
 use Rattle.flu_model.specs.Templates.{family_name, written_cell, written_piece, written_template}
 use Rattle.flu_layout.specs.Laid.{line_end, quoted}
-use Rattle.flu_parse.specs.Printing.{version_line, cell_line, tag_line, depends_line, on_line, source_line, actions_line, normal_form}
+use Rattle.flu_layout.specs.Lists.{separated}
+use Rattle.flu_parse.specs.Printing.{version_line, names_line, cell_line, tag_line, depends_line, on_line, source_line, actions_line, normal_form}
 use Rattle.flu_parse.specs.Printing.{act_text, guard_text, action_text}
-use Rattle.flu_sending.specs.Texts.{IsUtf8Piece, EmitsUtf8, TemplatesAreUtf8}
+use Rattle.flu_sending.specs.Texts.{IsUtf8Piece, EmitsUtf8, NamesAreUtf8, TemplatesAreUtf8}
 use Rattle.flu_combine.proofs.Ascii.{before_ascii, from_ascii, behind_ascii}
 
 -- ---- the pieces of a template, with the quote behind it
@@ -161,12 +164,56 @@ module _ (families : List Family) (whole : List ℕ) (utf8 : IsUtf8 whole) where
         kinds ks (and_right (kind_fits families k) (list_all (kind_fits families) ks) fit) (back whole line rest h),
       )
 
+-- ---- lists of names
+module _ (whole : List ℕ) (utf8 : IsUtf8 whole) where
+  text : (t : List ℕ) → Inside whole (quoted t) → IsUtf8 t
+  text t h =
+      let behind = behind_ascii h.before 34 ((t ++ 34 ∷ []) ++ h.after) (omega arith) (subst IsUtf8 h.is utf8) in
+      before_ascii t 34 h.after (omega arith) (subst IsUtf8 (append_assoc t (34 ∷ []) h.after) behind)
+
+  more_texts : (ts : List (List ℕ)) → Inside whole (flat_map (λ t. codes ", " ++ quoted t) ts) → AllByRecursion IsUtf8 ts
+  more_texts [] h = tt
+  more_texts (t ∷ ts) h =
+      let rest = flat_map (λ u. codes ", " ++ quoted u) ts in
+      (text t (back whole (codes ", ") (quoted t) (front whole (codes ", " ++ quoted t) rest h)), more_texts ts (back whole (codes ", " ++ quoted t) rest h))
+
+  texts : (ts : List (List ℕ)) → Inside whole (separated (codes ", ") quoted ts) → AllByRecursion IsUtf8 ts
+  texts [] h = tt
+  texts (t ∷ ts) h =
+      let rest = flat_map (λ u. codes ", " ++ quoted u) ts in (text t (front whole (quoted t) rest h), more_texts ts (back whole (quoted t) rest h))
+
+  lists : (ls : List Numbering) → Inside whole (flat_map names_line ls) → NamesAreUtf8 ls
+  lists [] h = tt
+  lists (l ∷ ls) h =
+      let head = codes "names " ++ l.name ++ codes ": " in
+      let listed = separated (codes ", ") quoted l.texts in
+      let rest = flat_map names_line ls in (
+        texts l.texts (back whole head listed (front whole (head ++ listed) line_end (front whole (names_line l) rest h))),
+        lists ls (back whole (names_line l) rest h),
+      )
+
+pub names_are_utf8 : (p : Program) → IsUtf8 (normal_form (job_of p)) → NamesAreUtf8 p.lists
+names_are_utf8 p utf8 =
+    let job = job_of p in
+    let whole = normal_form job in
+    let before = version_line job.version job.iso in
+    let lines = flat_map names_line job.lists in
+    let cells = flat_map (cell_line job.lists) job.families in
+    let tags = flat_map (tag_line job.lists) job.kinds in
+    let depends = flat_map (depends_line job.kinds) job.depends in
+    let ons = flat_map (on_line job.families) job.kinds in
+    let sources = flat_map (source_line job.kinds) job.sources in
+    let so_far = before ++ lines in
+    lists whole utf8 p.lists (back whole before lines (front whole so_far cells (front whole (so_far ++ cells) tags
+    (front whole (so_far ++ cells ++ tags) depends (front whole (so_far ++ cells ++ tags ++ depends) ons
+    (front whole (so_far ++ cells ++ tags ++ depends ++ ons) sources (itself whole)))))))
+
 pub templates_are_utf8 : (p : Program) → IsUtf8 (normal_form (job_of p)) → TemplatesAreUtf8 p.kinds
 templates_are_utf8 p utf8 =
     let job = job_of p in
     let whole = normal_form job in
-    let before = version_line job.version job.iso ++ flat_map cell_line job.families ++ flat_map tag_line job.kinds
-    ++ flat_map (depends_line job.kinds) job.depends in
+    let before = version_line job.version job.iso ++ flat_map names_line job.lists ++ flat_map (cell_line job.lists) job.families
+    ++ flat_map (tag_line job.lists) job.kinds ++ flat_map (depends_line job.kinds) job.depends in
     let ons = flat_map (on_line job.families) job.kinds in
     let sources = flat_map (source_line job.kinds) job.sources in
     kinds p.families whole utf8 p.kinds p.kinds_fit (back whole before ons (front whole (before ++ ons) sources (itself whole)))

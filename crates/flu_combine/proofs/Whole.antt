@@ -34,7 +34,7 @@ use Rattle.flu_node_run.specs.Partials.{head_of, name_of_node, text_of_partial}
 use Rattle.flu_combine.specs.Laws.{TextsAreWholePartials}
 use Rattle.flu_combine.specs.Partials.{most_bytes, node_named}
 use Rattle.flu_combine.proofs.PlanText.{plan_is_utf8}
-use Rattle.flu_combine.proofs.Templates.{templates_are_utf8}
+use Rattle.flu_combine.proofs.Templates.{names_are_utf8, templates_are_utf8}
 
 -- ---- the head
 least_time : (t : ℕ) (ts : List ℕ) → IsTime t → AllByRecursion IsTime ts → IsTime (fold min t ts)
@@ -120,7 +120,7 @@ texts_are_whole heads printed whole has handed utf8 come rise p nodes w lists jo
     record { first = first_in_range (all_times lists) readable.times; node = subst (λ (n : List ℕ). is_name n ≡ true) (sym at.2) named } in
     let all = handed p nodes w lists one streams readable in
     let head_line = heads h is_head job_utf8 (plan_is_utf8 p nodes has_text) short.0 in
-    let lines = have_lines printed has p last ks all (utf8 p nodes w lists (templates_are_utf8 p job_utf8)) short.1 in
+    let lines = have_lines printed has p last ks all (utf8 p nodes w lists (names_are_utf8 p job_utf8) (templates_are_utf8 p job_utf8)) short.1 in
     record {
       head = h;
       lines = cs;

@@ -16,6 +16,7 @@ use Rattle.flu_model.specs.Merging.{all_events, merged, is_before}
 use Rattle.flu_outside.specs.Outside.{Contents as Files}
 use Rattle.flu_outside.specs.Taking.{bytes_left}
 use Rattle.flu_rows.specs.Laws.{TimesAreInRange}
+use Rattle.flu_model.specs.Erasure.{job_of}
 use Rattle.flu_rows.specs.Row.{form_of}
 use Rattle.flu_rows.specs.declared.rows.Next.{Next}
 use Rattle.flu_streams.specs.declared.border.Border.TheVariants.{Closed}
@@ -46,7 +47,7 @@ settled_from slack (Some last) t e = (last, refl, by (nat_le slack last) e)
 -- the lines of files, by the source's number
 lines_of_files : TimesAreInRange → (p : Program) (left : Files) (whole : ℕ → List Next) → LinesIn p left whole → LinesFit p whole
 lines_of_files times p left whole is i s at =
-    subst (AllByRecursion NextFits) (sym (is i s at)) (file_read times (form_of p.version p.iso) (bytes_left left s.file))
+    subst (AllByRecursion NextFits) (sym (is i s at)) (file_read times (form_of (job_of p)) (bytes_left left s.file))
 
 -- a round with a border, and some border of it
 pub record RoundTo (p : Program) (rows : ℕ) (whole : ℕ → List Next) (above : Option ℕ) (before : ℕ → List Next) : Type 0 where

@@ -169,7 +169,7 @@ pub record IsPut (p : Program) (o : Opening) (texts : List (List ℕ)) (left : C
 
 lines_are_in : (p : Program) (left : Contents) → LinesIn p left (lines_in p left)
 lines_are_in p left i s at =
-    ap (λ (found : Option Source). option_map_or (λ (source : Source). read_file (form_of p.version p.iso) (bytes_left left source.file)) found []) at
+    ap (λ (found : Option Source). option_map_or (λ (source : Source). read_file (form_of (job_of p)) (bytes_left left source.file)) found []) at
 
 put_by_some : (p : Program) (o : Opening) (done : List (List (List Item))) (border : Option ℕ) (lines : ℕ → List Next) (checkpoint : List ℕ)
     → Some checkpoint ≡ put_by p o done border lines
@@ -286,18 +286,18 @@ module _ (p : Program) (one other : Contents) (same : (name : List ℕ) → Cont
   same_lines_at i = by (slice_get p.sources i) refl
     where
       by : (o : Option Source) → slice_get p.sources i ≡ o
-          → option_map_or (λ (s : Source). read_file (form_of p.version p.iso) (bytes_left other s.file)) o []
-          ≡ option_map_or (λ (s : Source). read_file (form_of p.version p.iso) (bytes_left one s.file)) o []
+          → option_map_or (λ (s : Source). read_file (form_of (job_of p)) (bytes_left other s.file)) o []
+          ≡ option_map_or (λ (s : Source). read_file (form_of (job_of p)) (bytes_left one s.file)) o []
       by None at = refl
-      by (Some s) at = ap (read_file (form_of p.version p.iso)) (same s.file (file_there p.sources i s at))
+      by (Some s) at = ap (read_file (form_of (job_of p))) (same s.file (file_there p.sources i s at))
 
   -- the lists of some sources behind others
   same_lists : (before ss : List Source) → ((i : ℕ) (s : Source) → slice_get ss i ≡ Some s → bytes_left other s.file ≡ bytes_left one s.file)
-      → flat_map (λ e. lists_of_rows p.kinds e.1 (sum_by width e.0) (rows_in (form_of p.version p.iso) other e.1)) (with_before before ss)
-      ≡ flat_map (λ e. lists_of_rows p.kinds e.1 (sum_by width e.0) (rows_in (form_of p.version p.iso) one e.1)) (with_before before ss)
+      → flat_map (λ e. lists_of_rows p.kinds e.1 (sum_by width e.0) (rows_in (form_of (job_of p)) other e.1)) (with_before before ss)
+      ≡ flat_map (λ e. lists_of_rows p.kinds e.1 (sum_by width e.0) (rows_in (form_of (job_of p)) one e.1)) (with_before before ss)
   same_lists before [] each = refl
   same_lists before (s ∷ ss) each =
-      λ i. lists_of_rows p.kinds s (sum_by width before) (rows_of (read_file (form_of p.version p.iso) (each 0 s refl i)))
+      λ i. lists_of_rows p.kinds s (sum_by width before) (rows_of (read_file (form_of (job_of p)) (each 0 s refl i)))
       ++ same_lists (before ++ s ∷ []) ss (λ j x at. each (suc j) x at) i
 
 pub sources_decide : SourcesDecide

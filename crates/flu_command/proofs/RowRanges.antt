@@ -17,20 +17,22 @@ use Rattle.flu_model.specs.declared.jobs.Source.{Source}
 use Rattle.flu_model.specs.declared.jobs.Program.{Program}
 use Rattle.flu_model.specs.Merging.{events_of, all_events, merged, is_before}
 use Rattle.flu_lemmas.specs.Late.{is_less}
+use Rattle.flu_model.specs.Numberings.{Numbering}
 use Rattle.flu_rows.specs.declared.row.RowForm.{RowForm}
 use Rattle.flu_rows.specs.declared.row.RowForm.TheVariants.{Older, WithItems}
 use Rattle.flu_rows.specs.declared.row.Fields.{Fields}
-use Rattle.flu_rows.specs.declared.row.Fields.TheVariants.{Nothing, One, Two, Other}
+use Rattle.flu_rows.specs.declared.row.Fields.TheVariants.{Nothing, One, Two, Named, NamedWith, Other}
 use Rattle.flu_rows.specs.declared.row.Row.{Row}
 use Rattle.flu_rows.specs.declared.row.Row.TheVariants.{Event as EventRow, Beat as BeatRow, End as EndRow}
 use Rattle.flu_rows.specs.declared.rows.Next.{Next}
 use Rattle.flu_rows.specs.declared.rows.Next.TheVariants.{Row as RowNext, Bad, TooManyLines, Done}
 use Rattle.flu_rows.specs.Fields.{number_of, time_of, item_of, value_of, tag_of}
+use Rattle.flu_rows.specs.ItemNames.{items_named, named_item}
 use Rattle.flu_rows.specs.Laws.{TimesAreInRange}
 use Rattle.flu_rows.specs.Lines.{line_of, line_of_fields, line_of_row, line_of_one, line_of_records, begins_with_mark, lines_of}
 use Rattle.flu_rows.specs.Reading.{read_line, read_lines, read_file}
 use Rattle.flu_rows.specs.Records.{first_record, record_after}
-use Rattle.flu_rows.specs.Row.{number_field, one_field, number_fields, two_fields, row_of, row_of_two, row_of_three, row_of_four, filled_len}
+use Rattle.flu_rows.specs.Row.{number_field, field_by, one_field, number_fields, named_fields, fields_by, two_fields, row_of, row_of_two, row_of_three, row_of_four, filled_len}
 use Rattle.flu_streams.specs.declared.border.Border.{Border}
 use Rattle.flu_streams.specs.Before.{each_with_before, with_before}
 use Rattle.flu_streams.specs.Good.{event_of, item_in, items_at, in_time_order, time_at, lists_of_rows}
@@ -45,6 +47,8 @@ abbrev pub FieldsFit : Fields → Type 0
 FieldsFit Nothing = ⊤
 FieldsFit (One item value) = IsWord value
 FieldsFit (Two item value) = IsWord value
+FieldsFit (Named item) = ⊤
+FieldsFit (NamedWith item value) = IsWord value
 FieldsFit Other = ⊤
 
 -- a time below 2^63, and a value of 64 bits
@@ -125,26 +129,37 @@ value_fits text = by (value_of text) (value_word text)
     by None word = tt
     by (Some v) word = word v refl
 
-one_fits : (form : RowForm) (text : List ℕ) → IfSome (one_field form text) FieldsFit
-one_fits Older text = by (value_of text) (value_fits text)
+-- a number, or an item by its name
+by_fits : (list : Option Numbering) (text : List ℕ) → FieldsFit (field_by list text)
+by_fits None text = number_fits (item_of text) (value_of text) (value_fits text)
+by_fits (Some list) text = tt
+
+one_fits : (form : RowForm) (name text : List ℕ) → IfSome (one_field form name text) FieldsFit
+one_fits Older name text = by (value_of text) (value_fits text)
   where
     by : (o : Option ℤ) → IfSome o IsWord → IfSome (option_map (λ v. One None v) o) FieldsFit
     by None word = tt
     by (Some v) word = word
-one_fits (WithItems iso) text = number_fits (item_of text) (value_of text) (value_fits text)
+one_fits (WithItems iso lists) name text = by_fits (items_named lists name) text
 
-two_fits : (first second : List ℕ) → FieldsFit (two_fields first second)
-two_fits first second = by (item_of first) (value_of second) (value_fits second)
-  where
-    by : (item : Option ℕ) (o : Option ℤ) → IfSome o IsWord → FieldsFit (number_fields item o)
-    by None o word = tt
-    by (Some i) None word = tt
-    by (Some i) (Some v) word = word
+two_numbers_fit : (item : Option ℕ) (o : Option ℤ) → IfSome o IsWord → FieldsFit (number_fields item o)
+two_numbers_fit None o word = tt
+two_numbers_fit (Some i) None word = tt
+two_numbers_fit (Some i) (Some v) word = word
+
+named_fit : (item : Option ℕ) (o : Option ℤ) → IfSome o IsWord → FieldsFit (named_fields item o)
+named_fit item None word = tt
+named_fit item (Some v) word = word
+
+two_fits : (list : Option Numbering) (first second : List ℕ) → FieldsFit (fields_by list first second)
+two_fits None first second = two_numbers_fit (item_of first) (value_of second) (value_fits second)
+two_fits (Some list) first second = named_fit (named_item list first) (value_of second) (value_fits second)
 
 -- a row with fields
-module _ (times : TimesAreInRange) (form : RowForm) (time tag : List ℕ) (found : Option Fields) (fits : IfSome found FieldsFit) where
+module _ (times : TimesAreInRange) (form : RowForm) (time tag : List ℕ) (found : List ℕ → Option Fields)
+    (fits : (name : List ℕ) → IfSome (found name) FieldsFit) where
   with_fields : Option Row
-  with_fields = option_and_then (λ t. option_and_then (λ k. option_and_then (λ f. Some (EventRow t k.0 k.1 f)) found) (tag_of tag)) (time_of form time)
+  with_fields = option_and_then (λ t. option_and_then (λ k. option_and_then (λ f. Some (EventRow t k.0 k.1 f)) (found k.0)) (tag_of tag)) (time_of form time)
 
   fields_row : IfSome with_fields RowFits
   unfolding with_fields
@@ -156,23 +171,24 @@ module _ (times : TimesAreInRange) (form : RowForm) (time tag : List ℕ) (found
       by_fields t k small (Some f) fit = (small, fit)
 
       by_tag : (t : ℕ) → t < 2 ^ 63 → (o : Option (List ℕ × Option ℕ))
-          → IfSome (option_and_then (λ k. option_and_then (λ f. Some (EventRow t k.0 k.1 f)) found) o) RowFits
+          → IfSome (option_and_then (λ k. option_and_then (λ f. Some (EventRow t k.0 k.1 f)) (found k.0)) o) RowFits
       by_tag t small None = tt
-      by_tag t small (Some k) = by_fields t k small found fits
+      by_tag t small (Some k) = by_fields t k small (found k.0) (fits k.0)
 
       by_time : (o : Option ℕ) → ((n : ℕ) → o ≡ Some n → n < 2 ^ 63)
-          → IfSome (option_and_then (λ t. option_and_then (λ k. option_and_then (λ f. Some (EventRow t k.0 k.1 f)) found) (tag_of tag)) o) RowFits
+          → IfSome (option_and_then (λ t. option_and_then (λ k. option_and_then (λ f. Some (EventRow t k.0 k.1 f)) (found k.0)) (tag_of tag)) o) RowFits
       by_time None small = tt
       by_time (Some t) small = by_tag t (small t refl) (tag_of tag)
 
 three_fit : TimesAreInRange → (form : RowForm) (time tag third : List ℕ) → IfSome (row_of_three form time tag third) RowFits
 unfolding row_of_three with_fields
-three_fit times form time tag third = fields_row times form time tag (one_field form third) (one_fits form third)
+three_fit times form time tag third = fields_row times form time tag (λ name. one_field form name third) (λ name. one_fits form name third)
 
 four_fit : TimesAreInRange → (form : RowForm) (time tag third fourth : List ℕ) → IfSome (row_of_four form time tag third fourth) RowFits
 unfolding row_of_four with_fields
 four_fit times Older time tag third fourth = tt
-four_fit times (WithItems iso) time tag third fourth = fields_row times (WithItems iso) time tag (Some (two_fields third fourth)) (two_fits third fourth)
+four_fit times (WithItems iso lists) time tag third fourth =
+    fields_row times (WithItems iso lists) time tag (λ name. Some (two_fields lists name third fourth)) (λ name. two_fits (items_named lists name) third fourth)
 
 row_fits : TimesAreInRange → (form : RowForm) (fields : List (List ℕ)) → IfSome (row_of form fields) RowFits
 unfolding row_of
@@ -291,6 +307,12 @@ given_fits true true (One item value) fits = omega arith
 given_fits false has_value (Two item value) fits = omega arith
 given_fits true false (Two item value) fits = omega arith
 given_fits true true (Two item value) fits = fits
+given_fits false has_value (Named item) fits = omega arith
+given_fits true false (Named item) fits = omega arith
+given_fits true true (Named item) fits = omega arith
+given_fits false has_value (NamedWith item value) fits = omega arith
+given_fits true false (NamedWith item value) fits = omega arith
+given_fits true true (NamedWith item value) fits = fits
 given_fits has_item has_value Other fits = omega arith
 
 value_given : (kind : Option Kind) (fields : Fields) → FieldsFit fields → IsWord (unwrap_or (given_by kind fields) (0, pos 0)).1

@@ -18,7 +18,7 @@ use Rattle.flu_command.specs.Reading.{Reading, Unread, Whole, InRounds, AreSourc
 
 pub same_lines : (texts : List (List ℕ)) (left : Contents) (p q : Program) (i : ℕ) → IsSameJob p q → lines_behind texts left q i ≡ lines_behind texts left p i
 same_lines texts left p q i same =
-    ap (λ (j : Job). option_map_or (λ (s : Source). read_file (form_of j.version j.iso) (bytes_left (emptied_each texts left) s.file))
+    ap (λ (j : Job). option_map_or (λ (s : Source). read_file (form_of j) (bytes_left (emptied_each texts left) s.file))
     (slice_get j.sources i) []) (sym same)
 
 module _ (law : JobsReadTheSame) where

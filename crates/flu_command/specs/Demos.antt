@@ -1,5 +1,5 @@
 -- The demo: its job, and the summary of the report of its streams.
-use Rattle.std.specs.Prelude.{ℕ, ◌==◌, None, List, ◌++◌, codes, count_by, length, map}
+use Rattle.std.specs.Prelude.{ℕ, ◌==◌, None, List, [], ◌++◌, codes, count_by, length, map}
 use Rattle.std.specs.Fmt.{decimal}
 use Rattle.flu_model.specs.declared.jobs.Program.{Program}
 use Rattle.flu_model.specs.Contents.{nothing_held}
@@ -13,7 +13,7 @@ use Rattle.flu_gen.specs.DemoStreams.{demo_lists}
 -- the job of a demo
 abbrev pub demo_job : Job
 demo_job =
-    record { version = 1; iso = None; families = demo_families; kinds = map plain_kind demo_kinds; depends = demo_depends; sources = demo_sources }
+    record { version = 1; iso = None; lists = []; families = demo_families; kinds = map plain_kind demo_kinds; depends = demo_depends; sources = demo_sources }
 
 -- how many lines some bytes are: how many of them are line feeds
 abbrev pub lines_in : List ℕ → ℕ

@@ -6,6 +6,7 @@ use Rattle.flu_model.specs.declared.jobs.Program.{Program}
 use Rattle.flu_model.specs.declared.jobs.Source.{Source}
 use Rattle.flu_rows.specs.declared.rows.Next.{Next}
 use Rattle.flu_rows.specs.Lines.{IsUndecided}
+use Rattle.flu_model.specs.Erasure.{job_of}
 use Rattle.flu_rows.specs.Row.{form_of}
 use Rattle.flu_rows.specs.Reading.{Place, ahead}
 use Rattle.flu_streams.specs.Faults.{StopsWithout}
@@ -29,11 +30,11 @@ pub record HidesNoDefect (command : Command) (name : List ℕ) (old new : Option
   pub named : source.file ≡ name
   pub read : List Next
   pub place : Place
-  pub form : place.form ≡ form_of p.version p.iso
+  pub form : place.form ≡ form_of (job_of p)
   pub file : place.file ≡ source.file
   pub undecided : IsUndecided place.taken
   pub told : WhereTold old new (λ was is. HasJob (job_wanted command) was p
-      × StopsWithout (form_of p.version p.iso) p.kinds earlier source read (ahead place is) (emptied_each (texts_named command) was))
+      × StopsWithout (form_of (job_of p)) p.kinds earlier source read (ahead place is) (emptied_each (texts_named command) was))
 
 -- the command can start, and the round in which the source with this file failed is unfinished: the rows that were read of it have no
 -- defect, and are not enough

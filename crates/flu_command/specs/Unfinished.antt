@@ -7,6 +7,7 @@ use Rattle.flu_model.specs.declared.jobs.Program.{Program}
 use Rattle.flu_model.specs.declared.jobs.Source.{Source}
 use Rattle.flu_rows.specs.declared.rows.Next.{Next}
 use Rattle.flu_rows.specs.Lines.{IsUndecided}
+use Rattle.flu_model.specs.Erasure.{job_of}
 use Rattle.flu_rows.specs.Row.{form_of}
 use Rattle.flu_rows.specs.Reading.{Place, ahead}
 use Rattle.flu_streams.specs.Rounds.{Turn, Reads, IsPassed, ComesFrom, defect_in, is_enough}
@@ -27,7 +28,7 @@ pub record Unfinished (p : Program) (rows : ℕ) : Type 0 where
   pub sound : defect_in p.kinds source (now at) ≡ None
   pub few : (k : ℕ) → k ≤ length more → is_enough rows border source (before at ++ take k more) ≡ false
   pub place : Place
-  pub form : place.form ≡ form_of p.version p.iso
+  pub form : place.form ≡ form_of (job_of p)
   pub file : place.file ≡ source.file
   pub undecided : IsUndecided place.taken
 

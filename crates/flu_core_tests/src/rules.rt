@@ -272,6 +272,7 @@ fn is_accepted(alloc: Global, case: &Case) -> Result<bool, AllocError> {
     let made = program(
         case.version,
         None,
+        List::of(Vec::new(alloc)),
         List::of(families_of(alloc, case)?),
         List::of(kinds_of(alloc, case)?),
         List::of(depends),
@@ -291,7 +292,12 @@ fn families_of(alloc: Global, case: &Case) -> Result<Vec<Family>, AllocError> {
 
 fn family(alloc: Global, name: &str, keyed: bool, sort: Sort) -> Result<Family, AllocError> {
     let name = Name::of(String::from_str(alloc, name)?);
-    Ok(Family { name, keyed, sort })
+    Ok(Family {
+        name,
+        keyed,
+        list: None,
+        sort,
+    })
 }
 
 fn kinds_of(alloc: Global, case: &Case) -> Result<Vec<Kind>, AllocError> {
@@ -323,6 +329,7 @@ fn kind(
         name,
         keyed,
         has_item: false,
+        list: None,
         has_value,
         actions: List::of(actions),
     })

@@ -45,12 +45,14 @@ fn job(alloc: Global, iso: Option<Unit>) -> Result<Option<Program>, AllocError> 
     let times = Family {
         name: name_of(alloc, "times")?,
         keyed: true,
+        list: None,
         sort: Sort::Sum,
     };
     let tick = Kind {
         name: name_of(alloc, "tick")?,
         keyed: false,
         has_item: false,
+        list: None,
         has_value: false,
         actions: List::of(actions(alloc)?),
     };
@@ -68,6 +70,7 @@ fn job(alloc: Global, iso: Option<Unit>) -> Result<Option<Program>, AllocError> 
     Ok(program(
         3,
         iso,
+        List::of(Vec::new(alloc)),
         List::of(vec![in alloc; times]?),
         List::of(vec![in alloc; tick]?),
         List::of(Vec::new(alloc)),

@@ -46,6 +46,7 @@ fn family(alloc: Global, name: &str, keyed: bool, sort: Sort) -> Result<Family, 
     Ok(Family {
         name: name_of(alloc, name)?,
         keyed,
+        list: None,
         sort,
     })
 }
@@ -95,6 +96,7 @@ fn kinds(alloc: Global, act: Act) -> Result<Vec<Kind>, AllocError> {
         name: name_of(alloc, "ride")?,
         keyed: false,
         has_item: true,
+        list: None,
         has_value: true,
         actions: List::of(ride_actions(alloc)?),
     };
@@ -102,6 +104,7 @@ fn kinds(alloc: Global, act: Act) -> Result<Vec<Kind>, AllocError> {
         name: name_of(alloc, "day")?,
         keyed: false,
         has_item: false,
+        list: None,
         has_value: false,
         actions: List::of(day_actions(alloc)?),
     };
@@ -109,6 +112,7 @@ fn kinds(alloc: Global, act: Act) -> Result<Vec<Kind>, AllocError> {
         name: name_of(alloc, "unlisted")?,
         keyed: false,
         has_item: false,
+        list: None,
         has_value: false,
         actions: List::of(vec![in alloc; always(act)]?),
     };
@@ -138,6 +142,7 @@ fn job(alloc: Global, version: u32, act: Act) -> Result<Option<Program>, AllocEr
     Ok(program(
         version,
         None,
+        List::of(Vec::new(alloc)),
         List::of(families(alloc)?),
         List::of(kinds(alloc, act)?),
         List::of(Vec::new(alloc)),

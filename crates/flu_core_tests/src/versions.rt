@@ -66,6 +66,7 @@ fn families(alloc: Global, name: &str) -> Result<Vec<Family>, AllocError> {
         Family {
             name,
             keyed: true,
+            list: None,
             sort: Sort::Sum
         },
     ]?)
@@ -89,6 +90,7 @@ fn kind(
         name: Name::of(String::from_str(alloc, name)?),
         keyed: true,
         has_item,
+        list: None,
         has_value: true,
         actions: List::of(actions),
     })

@@ -34,7 +34,8 @@ use Rattle.flu_model.specs.declared.jobs.Program.{Program}
 -- ---- families: 0 is `views`, 1 is `zip`
 abbrev pub demo_families : List Family
 demo_families =
-    record { name = codes "views"; keyed = true; sort = Sum } ∷ record { name = codes "zip"; keyed = true; sort = Last } ∷ []
+    record { name = codes "views"; keyed = true; list = None; sort = Sum }
+    ∷ record { name = codes "zip"; keyed = true; list = None; sort = Last } ∷ []
 
 -- ---- kinds: 0 is `view`, 1 is `update`, 2 is `tick`
 abbrev pub of_key : ℕ → CellRef
@@ -53,13 +54,13 @@ abbrev pub tick_actions : List Action
 tick_actions = always (Flush 0 (Plain (codes "page ") ∷ KeyField ∷ Plain (codes " views ") ∷ CellValue ∷ [])) ∷ []
 
 abbrev pub keyed_kind : List ℕ → List Action → Kind
-keyed_kind name actions = record { name = name; keyed = true; has_item = false; has_value = true; actions = actions }
+keyed_kind name actions = record { name = name; keyed = true; has_item = false; list = None; has_value = true; actions = actions }
 
 abbrev pub demo_kinds : List Kind
 demo_kinds =
     keyed_kind (codes "view") view_actions
     ∷ keyed_kind (codes "update") update_actions
-    ∷ record { name = codes "tick"; keyed = false; has_item = false; has_value = false; actions = tick_actions } ∷ []
+    ∷ record { name = codes "tick"; keyed = false; has_item = false; list = None; has_value = false; actions = tick_actions } ∷ []
 
 -- ---- dependencies
 abbrev pub depend : ℕ → ℕ → Bool → Depend
@@ -85,6 +86,7 @@ demo_sources =
 pub record IsDemoJob (p : Program) : Type 0 where
   pub version : p.version ≡ 1
   pub iso : p.iso ≡ None
+  pub lists : p.lists ≡ []
   pub families : p.families ≡ demo_families
   pub kinds : p.kinds ≡ demo_kinds
   pub depends : p.depends ≡ demo_depends

@@ -5,8 +5,8 @@ ghost use Rattle.flu_gen.specs.DemoJob.{demo_families, view_actions, update_acti
 ghost use Rattle.flu_gen.specs.DemoJob.{demo_depends, ten_keys, source, demo_sources, IsDemoJob};
 
 use flu_model::{
-    Act, Action, At, CellRef, Depend, Expr, Family, Keys, Kind, List, Name, Piece, Program, Sort,
-    Source, TagRef, Text,
+    Act, Action, At, CellRef, Depend, Expr, Family, Keys, Kind, List, Name, NameList, Piece,
+    Program, Sort, Source, TagRef, Text,
 };
 use std::alloc::{AllocError, Global};
 
@@ -38,16 +38,19 @@ pub fn demo_job(alloc: Global) -> Result<Program, AllocError>
     let kinds = kinds(alloc)?;
     let depends = depends(alloc)?;
     let sources = sources(alloc)?;
-    Ok(job_of(families, kinds, depends, sources))
+    let lists = List::of(Vec::new(alloc));
+    Ok(job_of(lists, families, kinds, depends, sources))
 }
 
 // The job of these parts, which keep the rules of the language.
 fn job_of(
+    lists: List<NameList>,
     families: List<Family>,
     kinds: List<Kind>,
     depends: List<Depend>,
     sources: List<Source>,
 ) -> Program
+    requires lists { lists ≡ [] }
     requires families { families ≡ demo_families }
     requires kinds { kinds ≡ demo_kinds }
     requires depends { depends ≡ demo_depends }
@@ -57,6 +60,7 @@ fn job_of(
     Program {
         version: 1,
         iso: None,
+        lists,
         families,
         kinds,
         depends,
@@ -86,11 +90,13 @@ fn families(alloc: Global) -> Result<List<Family>, AllocError>
     let views = Family {
         name: name_of(alloc, "views")?,
         keyed: true,
+        list: None,
         sort: Sort::Sum,
     };
     let zip = Family {
         name: name_of(alloc, "zip")?,
         keyed: true,
+        list: None,
         sort: Sort::Last,
     };
     let families = vec![in alloc; views, zip]?;
@@ -161,6 +167,7 @@ fn keyed_kind(alloc: Global, name: &str, actions: List<Action>) -> Result<Kind, 
         name,
         keyed: true,
         has_item: false,
+        list: None,
         has_value: true,
         actions,
     })
@@ -175,6 +182,7 @@ fn kinds(alloc: Global) -> Result<List<Kind>, AllocError>
         name: name_of(alloc, "tick")?,
         keyed: false,
         has_item: false,
+        list: None,
         has_value: false,
         actions: tick_actions(alloc)?,
     };

@@ -1,17 +1,22 @@
 -- Each fault that the reader finds in a job text is by a rule that the text breaks.
-use Rattle.std.proofs.Common.{◌≡◌, ◌≢◌, inl, inr, ℕ, ◌+◌, ◌<◌, ◌≤◌, Bool, true, false, List, [], ◌∷◌, ◌++◌, length}
+use Rattle.std.proofs.Common.{◌≡◌, ◌≢◌, inl, inr, ℕ, ◌+◌, ◌<◌, ◌≤◌, Bool, true, false, List, [], ◌∷◌, ◌++◌, map, length}
 use Rattle.std.proofs.Common.{Option, Some, None, Ok, Err, refl, sym, ap, subst, ◌∙◌, length-append, arith}
-use Rattle.std.specs.Prelude.{not, is_some, ◌==◌, ◌&&◌, nat_lt, nat_le}
+use Rattle.std.specs.Prelude.{not, is_some, ◌==◌, ◌&&◌, nat_lt, nat_le, slice_get, position}
 use Rattle.std.specs.List.{list_any, flat_map, sum_by, position_or_len}
-use Rattle.std.specs.Str.{is_utf8}
+use Rattle.std.specs.Str.{is_utf8, bytes_eq}
+use Rattle.std.proofs.lemmas.List.{length-map}
 use Rattle.std.proofs.lemmas.Str.{is_utf8-from_IsUtf8}
 use Rattle.flu_lemmas.specs.Items.{Pairs}
 use Rattle.flu_lemmas.specs.Loops.{◌>>=◌, ◌>>◌}
 use Rattle.flu_lemmas.specs.Totals.{total}
+use Rattle.flu_lemmas.proofs.Bytes.{bytes_itself, bytes_is}
 use Rattle.flu_lemmas.proofs.Searches.{eq_true}
 use Rattle.flu_lemmas.proofs.Tests.{not_both, true_le, lt_true}
 use Rattle.flu_lemmas.proofs.Totals.{sum_by-total, total-append}
-use Rattle.flu_model.specs.declared.limits.What.TheVariants.{Nesting, Families, Kinds, Sources, Depends, Itags, Rate, Slack}
+use Rattle.flu_model.specs.declared.limits.What.TheVariants.{Nesting, Families, Kinds, Lists, Names as NamesLimit, Sources, Depends, Itags, Rate, Slack}
+use Rattle.flu_model.specs.declared.jobs.Sort.{Sort}
+use Rattle.flu_model.specs.Contents.{key_count}
+use Rattle.flu_model.specs.ListRules.{is_listed_text}
 use Rattle.flu_model.specs.declared.jobs.Keys.{Keys}
 use Rattle.flu_model.specs.declared.jobs.Keys.TheVariants as keys
 use Rattle.flu_model.specs.declared.jobs.Source.{Source}
@@ -26,6 +31,10 @@ use Rattle.flu_text.specs.declared.written.WrittenNumber.{WrittenNumber}
 use Rattle.flu_text.specs.declared.written.WrittenKeys.{WrittenKeys}
 use Rattle.flu_text.specs.declared.written.WrittenKeys.TheVariants as ks
 use Rattle.flu_text.specs.Laws.{ReadingIsTokens, ReadingIsBadPlace}
+use Rattle.flu_syntax.specs.declared.tree.WrittenBy.{WrittenBy}
+use Rattle.flu_syntax.specs.declared.tree.WrittenCells.{WrittenCells}
+use Rattle.flu_syntax.specs.declared.tree.WrittenCells.TheVariants as cells
+use Rattle.flu_syntax.specs.declared.tree.WrittenItem.{WrittenItem}
 use Rattle.flu_syntax.specs.declared.tree.WrittenTag.{WrittenTag}
 use Rattle.flu_syntax.specs.declared.tree.WrittenRelation.{WrittenRelation}
 use Rattle.flu_syntax.specs.declared.tree.WrittenRelation.TheVariants as r
@@ -40,38 +49,44 @@ use Rattle.flu_parse.specs.declared.faults.JobFault.{JobFault}
 use Rattle.flu_parse.specs.declared.faults.JobFault.TheVariants as f
 use Rattle.flu_parse.specs.declared.names.KindHead.{KindHead}
 use Rattle.flu_parse.specs.Faults.{Found, unless, room}
-use Rattle.flu_parse.specs.Naming.{Naming, in_version, is_version_3, look_up, is_declared, known, fresh_name, with_family, with_kind}
-use Rattle.flu_parse.specs.Naming.{with_source, declare, no_names, naming_of, kind_of}
+use Rattle.flu_parse.specs.Lists.{with_text, texts_of, list_of}
+use Rattle.flu_parse.specs.Naming.{Naming, in_version, is_version_3, has_keys, keys_by, items_by, look_up, is_declared, known, fresh_name, with_family}
+use Rattle.flu_parse.specs.Naming.{with_kind, with_list, with_source, declare, no_names, naming_of, kind_of}
 use Rattle.flu_parse.specs.Cells.{resolved_key}
 use Rattle.flu_parse.specs.Actions.{resolved_actions}
 use Rattle.flu_parse.specs.Listings.{are_bracketed, written_keys, keys_of, tag_count, Listed, with_tag, tags_of, rate_of, slack_of, file_of}
 use Rattle.flu_parse.specs.Resolving.{Drafted, same_of, with_depend, with_actions, with_on, with_source as with_source_of}
-use Rattle.flu_parse.specs.Resolving.{cell_name_fits, item_word_fits, with_declaration, first_draft, draft_of, version_of, unit_named, found_unit, unit_of, iso_of}
+use Rattle.flu_parse.specs.Resolving.{with_cell, with_tag as with_tag_of, with_names, cell_name_fits, item_word_fits, with_declaration, first_draft}
+use Rattle.flu_parse.specs.Resolving.{draft_of, version_of, unit_named, found_unit, unit_of, iso_of}
 use Rattle.flu_parse.specs.Resolving.{job_with, resolved}
 use Rattle.flu_parse.specs.Reading.{found_job}
-use Rattle.flu_grammar.specs.Declared.{DeclaredKind, WrittenSource, families_in, kinds_in, depends_in, sources_in}
+use Rattle.flu_grammar.specs.Declared.{DeclaredKind, WrittenSource, families_in, kinds_in, depends_in, sources_in, lists_in, list_names}
 use Rattle.flu_grammar.specs.Cells.{family_name}
 use Rattle.flu_grammar.specs.Sources.{MeansKind, MeansTag, MeansSource}
 use Rattle.flu_grammar.specs.Faults.{NoneIsNamed, spans_in}
 use Rattle.flu_grammar.specs.Broken.{BreaksActions}
 use Rattle.flu_grammar.specs.BrokenJobs.{declared_name, has_key_brackets, IsWrittenKey, listed_itags, itags_in, IsListedTwice, BreaksTag, tag_unknown}
 use Rattle.flu_grammar.specs.BrokenJobs.{tag_brackets, too_many_itags, listed_twice, range_falls, tag_key, BreaksDeclaration, called_item}
-use Rattle.flu_grammar.specs.BrokenJobs.{items_of_older, first_unknown, second_unknown}
+use Rattle.flu_grammar.specs.BrokenJobs.{items_of_older, first_unknown, second_unknown, BreaksList, list_of_older, list_unknown, BreaksName, no_name}
+use Rattle.flu_grammar.specs.BrokenJobs.{too_many_names, name_twice, in_keys, in_items, names_of_older, in_names, too_many_lists}
 use Rattle.flu_grammar.specs.BrokenJobs.{same_of_unkeyed, kind_unknown, second_on, in_actions, no_file, second_file, high_rate, high_slack, in_tags}
 use Rattle.flu_grammar.specs.BrokenJobs.{BreaksJob, declared_twice, too_many_families, too_many_kinds, too_many_sources, too_many_depends, no_version}
 use Rattle.flu_grammar.specs.BrokenJobs.{unit_of_older, no_unit}
 use Rattle.flu_grammar.specs.Jobs.{MeansVersion}
 use Rattle.flu_grammar.specs.BrokenJobs.{in_declaration, IsFaultOf, too_many_bytes, not_utf8, no_token, not_continued, too_deep, of_written, FaultsAreByRule}
-use Rattle.flu_grammar.proofs.FaultKinds.{FaultsAre, no_fault, one_fault, faults_bind}
-use Rattle.flu_grammar.proofs.Broken.{faults_found, faults_where, faults_weaker, at_element, known_where, number_breaks, not_less, not_most, actions_break}
-use Rattle.flu_grammar.proofs.Lists.{met_at, pairs_right}
+use Rattle.flu_grammar.proofs.FaultKinds.{FaultsAre, no_fault, one_fault, faults_bind, faults_then}
+use Rattle.flu_grammar.proofs.Broken.{faults_found, fault_where, faults_where, faults_weaker, at_element, known_where, number_breaks, not_less}
+use Rattle.flu_grammar.proofs.Broken.{not_most, actions_break}
+use Rattle.flu_grammar.proofs.Lists.{get_unmap, met_at, pairs_right}
 use Rattle.flu_grammar.proofs.Items.{not_false, is_item_word, item_word}
 use Rattle.flu_grammar.proofs.JobCells.{family_head, KnowFamilies, under_head}
-use Rattle.flu_grammar.proofs.JobNames.{kind_name, kind_head, all_families, all_kinds, Named, OwnNames, heads_length, naming_is}
+use Rattle.flu_grammar.proofs.JobNames.{kind_name, kind_head, all_families, all_kinds, lists_named, Named, OwnNames, heads_length, naming_is}
+use Rattle.flu_grammar.proofs.JobLists.{no_texts, texts_are}
 use Rattle.flu_grammar.proofs.JobSources.{KnowKinds, kind_is, kind_found, kind_means, keys_found, part_count, tags_are, apart_none}
 use Rattle.flu_grammar.proofs.JobDrafts.{itag_count, Drafts, drafts_are}
-use Rattle.flu_grammar.proofs.JobTexts.{know_families, know_kinds, families_in_version, kinds_in_version, as_many_sources, version_is}
-use Rattle.flu_grammar.proofs.Faults.{declared_before}
+use Rattle.flu_grammar.proofs.JobTexts.{know_families, know_kinds, families_in_version, kinds_in_version, as_many_sources, as_many_lists}
+use Rattle.flu_grammar.proofs.JobTexts.{version_is}
+use Rattle.flu_grammar.proofs.Faults.{no_place, declared_before}
 use Rattle.flu_grammar.proofs.Twice.{given_twice, read_twice}
 use Rattle.flu_grammar.proofs.Units.{unit_said}
 use Rattle.flu_grammar.proofs.TextFaults as text_faults
@@ -111,7 +126,8 @@ key_brackets_apart false (ks.One n) fails same = absurd cc
 key_brackets_apart true (ks.Range low high) fails same = absurd cc
 key_brackets_apart false (ks.Range low high) fails same = absurd cc
 
-module _ (text : List ℕ) (n : Naming) (all : Declarations) (know : KnowFamilies n (all_families text all)) (knows : KnowKinds n (all_kinds text all)) where
+module _ (text : List ℕ) (n : Naming) (all : Declarations) (know : KnowFamilies n (all_families text all)) (knows : KnowKinds n (all_kinds text all))
+    (names_are : n.lists ≡ list_names text all) where
   abbrev kinds : List DeclaredKind
   kinds = all_kinds text all
 
@@ -345,22 +361,118 @@ module _ (text : List ℕ) (n : Naming) (all : Declarations) (know : KnowFamilie
             (in_tags name file rate slack found.before found.after found.x e
             (tag_breaks (itags_in before) found.before found.state found.x means counted e found.fault))
 
-    tag_word_breaks : (name : WrittenSpan) (keyed : Bool) (item : Option ℕ) (has_value : Bool)
-        → FaultsAre (Broken (d.Tag name keyed item has_value)) (item_word_fits n item >> Ok x)
-    tag_word_breaks name keyed None has_value = no_fault (Broken (d.Tag name keyed None has_value)) x
-    tag_word_breaks name keyed (Some at) has_value =
-        faults_where (Broken (d.Tag name keyed (Some at) has_value)) (is_version_3 n) (f.WrongShape at) (Ok x)
-        (λ fails. items_of_older name keyed at has_value (λ third. not_both (n.version == 3) (eq_true n.version 3 third) fails))
-        (λ yes. no_fault (Broken (d.Tag name keyed (Some at) has_value)) x)
+    -- ---- lists of names
+
+    list_breaks : (written : WrittenBy) → FaultsAre (BreaksList text n.version all written) (list_of text n (Some written))
+    list_breaks written =
+        let P = BreaksList text n.version all written in
+        let name = name_of text written.list in
+        let place = position (bytes_eq name) n.lists in
+        faults_where P (is_version_3 n) (f.WrongShape written.at) (known written.list.from place >>= λ number. Ok (Some number))
+        (λ fails. list_of_older (λ third. not_both (n.version == 3) (eq_true n.version 3 third) fails))
+        (λ yes. faults_bind P (known written.list.from place) (λ number. Ok (Some number))
+        (known_where P written.list.from place (λ none. list_unknown (none_named name none)))
+        (λ number. no_fault P (Some number)))
+      where
+        none_named : (name : List ℕ) → position (bytes_eq name) n.lists ≡ None → NoneIsNamed (λ (x : List ℕ). x) (list_names text all) name
+        none_named name none = λ i x there same. no_place (bytes_eq name) (list_names text all) i x
+            (ap (position (bytes_eq name)) (sym names_are) ∙ none) there
+            (subst (λ (z : List ℕ). bytes_eq name z ≡ true) (sym same) (bytes_itself name))
+
+    keys_list_breaks : (name : WrittenSpan) (cells : WrittenCells) (sort : Sort) → FaultsAre (Broken (d.Cell name cells sort)) (list_of text n (keys_by cells))
+    keys_list_breaks name cells.Alone sort = no_fault (Broken (d.Cell name cells.Alone sort)) None
+    keys_list_breaks name cells.Keyed sort = no_fault (Broken (d.Cell name cells.Keyed sort)) None
+    keys_list_breaks name (cells.By written) sort =
+        faults_weaker (Broken (d.Cell name (cells.By written) sort)) (BreaksList text n.version all written) (list_of text n (Some written))
+        (λ fault broken. in_keys name written sort fault broken) (list_breaks written)
+
+    cell_breaks : (name : WrittenSpan) (cells : WrittenCells) (sort : Sort) → FaultsAre (Broken (d.Cell name cells sort)) (with_cell text n x name cells)
+    unfolding with_cell
+    cell_breaks name cells sort =
+        let P = Broken (d.Cell name cells sort) in
+        faults_where P (cell_name_fits text n name) (f.WrongShape name.from)
+        (list_of text n (keys_by cells) >>= λ list. Ok (record x { family_lists = x.family_lists ++ list ∷ [] }))
+        (λ fails. (let item = item_word n.version (name_of text name) (not_false (is_item_word n.version (name_of text name)) fails) in
+        called_item name cells sort item.0 item.1))
+        (λ yes. faults_bind P (list_of text n (keys_by cells)) (λ list. Ok (record x { family_lists = x.family_lists ++ list ∷ [] }))
+        (keys_list_breaks name cells sort) (λ list. no_fault P (record x { family_lists = x.family_lists ++ list ∷ [] })))
+
+    item_word_breaks : (name : WrittenSpan) (keyed : Bool) (item : Option WrittenItem) (has_value : Bool)
+        → FaultsAre (Broken (d.Tag name keyed item has_value)) (item_word_fits n item)
+    item_word_breaks name keyed None has_value = no_fault (Broken (d.Tag name keyed None has_value)) tt
+    item_word_breaks name keyed (Some item) has_value =
+        fault_where (Broken (d.Tag name keyed (Some item) has_value)) (is_version_3 n) (f.WrongShape item.at)
+        (λ fails. items_of_older name keyed item has_value (λ third. not_both (n.version == 3) (eq_true n.version 3 third) fails))
+
+    items_list_breaks : (name : WrittenSpan) (keyed : Bool) (item : Option WrittenItem) (has_value : Bool)
+        → FaultsAre (Broken (d.Tag name keyed item has_value)) (list_of text n (items_by item))
+    items_list_breaks name keyed None has_value = no_fault (Broken (d.Tag name keyed None has_value)) None
+    items_list_breaks name keyed (Some item) has_value = of item.by refl
+      where
+        of : (o : Option WrittenBy) → item.by ≡ o → FaultsAre (Broken (d.Tag name keyed (Some item) has_value)) (list_of text n o)
+        of None is = no_fault (Broken (d.Tag name keyed (Some item) has_value)) None
+        of (Some written) is =
+            faults_weaker (Broken (d.Tag name keyed (Some item) has_value)) (BreaksList text n.version all written) (list_of text n (Some written))
+            (λ fault broken. in_items name keyed item written has_value fault is broken) (list_breaks written)
+
+    tag_line_breaks : (name : WrittenSpan) (keyed : Bool) (item : Option WrittenItem) (has_value : Bool)
+        → FaultsAre (Broken (d.Tag name keyed item has_value)) (with_tag_of text n x item)
+    unfolding with_tag_of
+    tag_line_breaks name keyed item has_value =
+        let P = Broken (d.Tag name keyed item has_value) in
+        faults_then P (item_word_fits n item) (list_of text n (items_by item) >>= λ list. Ok (record x { kind_lists = x.kind_lists ++ list ∷ [] }))
+        (item_word_breaks name keyed item has_value)
+        (faults_bind P (list_of text n (items_by item)) (λ list. Ok (record x { kind_lists = x.kind_lists ++ list ∷ [] }))
+        (items_list_breaks name keyed item has_value) (λ list. no_fault P (record x { kind_lists = x.kind_lists ++ list ∷ [] })))
+
+    name_breaks : (earlier : List WrittenSpan) (done : List (List ℕ)) (s : WrittenSpan) → done ≡ map (inside text) earlier
+        → FaultsAre (BreaksName text earlier s) (with_text text done s)
+    unfolding with_text
+    name_breaks earlier done s is =
+        let P = BreaksName text earlier s in
+        let t = inside text s in
+        let last : Found (List (List ℕ)) = Ok (done ++ t ∷ []) in
+        let third : Found (List (List ℕ)) = unless (not (list_any (bytes_eq t) done)) (f.TwiceNamed s.from) >> last in
+        let second : Found (List (List ℕ)) = room NamesLimit 65536 (length done) >> third in
+        let many : length done ≡ length earlier = ap length is ∙ length-map earlier (inside text) in
+        faults_where P (is_listed_text t) (f.WrongShape s.from) second
+        (λ fails. no_name (λ yes. not_both (is_listed_text t) yes fails))
+        (λ yes. faults_where P (nat_lt (length done) 65536) (f.OverLimit NamesLimit 65537) third
+        (λ fails. too_many_names (subst (λ (m : ℕ). key_count ≤ m) many (not_less (length done) 65536 fails)))
+        (λ few. faults_where P (not (list_any (bytes_eq t) done)) (f.TwiceNamed s.from) last (λ fails. twice (list_any (bytes_eq t) done) refl fails)
+        (λ own. no_fault P (done ++ t ∷ []))))
+      where
+        twice : (b : Bool) → list_any (bytes_eq (inside text s)) done ≡ b → not b ≡ false → BreaksName text earlier s (f.TwiceNamed s.from)
+        twice false met fails = absurd cc
+        twice true met fails =
+            let found = met_at (bytes_eq (inside text s)) done met in
+            let place = position_or_len (bytes_eq (inside text s)) done in
+            let got = get_unmap (inside text) earlier place found.0 (ap (λ (l : List (List ℕ)). slice_get l place) (sym is) ∙ found.1) in
+            name_twice place got.0 got.1 (got.2 ∙ sym (bytes_is (inside text s) found.0 found.2))
+
+    names_break : (at : ℕ) (name : WrittenSpan) (texts : List WrittenSpan) → FaultsAre (Broken (d.Names at name texts)) (with_names text n x at name texts)
+    unfolding with_names
+    names_break at name texts =
+        let P = Broken (d.Names at name texts) in
+        faults_where P (is_version_3 n) (f.WrongShape at)
+        (texts_of text texts >>= λ named. Ok (record x { lists = x.lists ++ record { name = name_of text name; texts = named } ∷ [] }))
+        (λ fails. names_of_older at name texts (λ third. not_both (n.version == 3) (eq_true n.version 3 third) fails))
+        (λ yes. faults_bind P (texts_of text texts)
+        (λ named. Ok (record x { lists = x.lists ++ record { name = name_of text name; texts = named } ∷ [] })) texts_break
+        (λ named. no_fault P (record x { lists = x.lists ++ record { name = name_of text name; texts = named } ∷ [] })))
+      where
+        texts_break : FaultsAre (Broken (d.Names at name texts)) (texts_of text texts)
+        texts_break e h =
+            let found = at_element (with_text text) [] texts e h in
+            let so_far = texts_are text [] found.before found.state found.reached no_texts in
+            subst (λ (l : List WrittenSpan). Broken (d.Names at name l) e) (sym found.is)
+            (in_names at name found.before found.after found.x e (name_breaks found.before found.state found.x so_far.0 e found.fault))
 
     declaration_breaks : (y : Declaration) → FaultsAre (Broken y) (with_declaration text n x y)
     unfolding with_declaration
-    declaration_breaks (d.Cell name keyed sort) =
-        faults_where (Broken (d.Cell name keyed sort)) (cell_name_fits text n name) (f.WrongShape name.from) (Ok x)
-        (λ fails. (let item = item_word n.version (name_of text name) (not_false (is_item_word n.version (name_of text name)) fails) in
-        called_item name keyed sort item.0 item.1))
-        (λ yes. no_fault (Broken (d.Cell name keyed sort)) x)
-    declaration_breaks (d.Tag name keyed item has_value) = tag_word_breaks name keyed item has_value
+    declaration_breaks (d.Cell name cells sort) = cell_breaks name cells sort
+    declaration_breaks (d.Tag name keyed item has_value) = tag_line_breaks name keyed item has_value
+    declaration_breaks (d.Names at name texts) = names_break at name texts
     declaration_breaks (d.Depends a b relation) = depend_breaks a b relation
     declaration_breaks (d.On kind actions) = on_breaks kind actions
     declaration_breaks (d.Source name file rate slack tags) = source_breaks name file rate slack tags
@@ -407,16 +519,19 @@ module _ (text : List ℕ) (job : WrittenJob) where
 
   declare_breaks : (done : Declarations) (y : Declaration) (after : Declarations) → job.declarations ≡ done ++ y ∷ after → (n : Naming) → Named text done n
       → OwnNames text done → FaultsAre Job (declare text n y)
-  unfolding declare with_family with_kind with_source
-  declare_breaks done (d.Cell s keyed sort) after is n named own =
-      let made = λ (name : List ℕ). record n { families = n.families ++ (name, record { number = length n.families; keyed = keyed; sort = sort }) ∷ [] } in
+  unfolding declare with_family with_kind with_list with_source
+  declare_breaks done (d.Cell s cells sort) after is n named own =
+      let made = λ (name : List ℕ). record n {
+        families = n.families ++ (name, record { number = length n.families; keyed = has_keys cells; sort = sort }) ∷ [];
+      } in
       let count = ap length named.families ∙ heads_length text family_name family_head 0 (all_families text done) in
       faults_bind Job (fresh_name text n s) (λ name. room Families 64 (length n.families) >> Ok (made name))
-      (fresh_breaks done (d.Cell s keyed sort) after is n named own s refl)
+      (fresh_breaks done (d.Cell s cells sort) after is n named own s refl)
       (λ name. faults_where Job (nat_lt (length n.families) 64) (f.OverLimit Families 65) (Ok (made name))
-      (λ fails. too_many_families (over done (d.Cell s keyed sort) after is n named own (families_in text) (record {
+      (λ fails. too_many_families (over done (d.Cell s cells sort) after is n named own (families_in text) (record {
         name = name_of text s;
-        keyed = keyed;
+        keyed = has_keys cells;
+        list = None;
         sort = sort;
       })
       refl 64 (length n.families) count (not_less (length n.families) 64 fails)))
@@ -433,6 +548,15 @@ module _ (text : List ℕ) (job : WrittenJob) where
       (λ fails. too_many_kinds (over done (d.Tag s keyed item has_value) after is n named own (kinds_in text)
       (record { name = name_of text s; keyed = keyed; has_item = is_some item; has_value = has_value }) refl 64 (length n.kinds) count
       (not_less (length n.kinds) 64 fails)))
+      (λ yes. no_fault Job (made name)))
+  declare_breaks done (d.Names at s texts) after is n named own =
+      let made = λ (name : List ℕ). record n { lists = n.lists ++ name ∷ [] } in
+      let count = ap length named.lists ∙ as_many_lists text done in
+      faults_bind Job (fresh_name text n s) (λ name. room Lists 64 (length n.lists) >> Ok (made name))
+      (fresh_breaks done (d.Names at s texts) after is n named own s refl)
+      (λ name. faults_where Job (nat_lt (length n.lists) 64) (f.OverLimit Lists 65) (Ok (made name))
+      (λ fails. too_many_lists (over done (d.Names at s texts) after is n named own lists_in (record { name = s; texts = texts }) refl 64
+      (length n.lists) count (not_less (length n.lists) 64 fails)))
       (λ yes. no_fault Job (made name)))
   declare_breaks done (d.Depends a b relation) after is n named own =
       faults_where Job (nat_lt n.depends 4096) (f.OverLimit Depends 4097) (Ok (record n { depends = n.depends + 1 }))
@@ -494,13 +618,13 @@ module _ (text : List ℕ) (job : WrittenJob) where
       let found = at_element (with_declaration text m) (first_draft m) ds e h in
       let drafts = drafts_are text m (all_families text ds) (all_kinds text ds) know knows found.before found.state found.reached in
       in_declaration version found.before found.x found.after e (version_is job.head version means) found.is
-      (declaration_breaks text m ds know knows found.before found.state drafts found.x e found.fault)
+      (declaration_breaks text m ds know knows (names.0.lists ∙ lists_named text ds) found.before found.state drafts found.x e found.fault)
 
   resolved_breaks : FaultsAre Job (resolved text job)
   unfolding resolved
   resolved_breaks =
-      let drafted_in = λ (n : Naming) (version : ℕ) (iso : Option TimeUnit). draft_of text (in_version n version) job.declarations >>= λ x. let r : Found ReadJob =
-      Ok (job_with iso (in_version n version) x) in r in
+      let drafted_in = λ (n : Naming) (version : ℕ) (iso : Option TimeUnit). draft_of text (in_version n version) job.declarations >>= λ x.
+      let r : Found ReadJob = Ok (job_with iso (in_version n version) x) in r in
       let with_unit = λ (n : Naming) (version : ℕ). iso_of text version job.head >>= λ iso. drafted_in n version iso in
       faults_found Job (naming_of text job.declarations) (λ n. version_of job.head >>= λ version. with_unit n version) naming_breaks
       (λ n is. faults_found Job (version_of job.head) (λ version. with_unit n version) (version_breaks job.head refl)

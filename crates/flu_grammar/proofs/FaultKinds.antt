@@ -1,11 +1,13 @@
 -- Which faults the looks at a written job find: none of bytes, tokens or grammar.
 use Rattle.std.proofs.Common.{◌≡◌, ℕ, ◌+◌, Bool, true, false, cond, List, [], ◌∷◌, ◌++◌, length, Option, Some, None, Ok, Err, refl, subst}
-use Rattle.std.specs.Prelude.{Result, is_some, not, ◌==◌, ◌&&◌, nat_lt, nat_le, if◌then◌else◌}
+use Rattle.std.specs.Prelude.{Result, is_some, not, ◌==◌, ◌&&◌, nat_lt, nat_le, position, if◌then◌else◌}
 use Rattle.std.specs.List.{list_any, list_all}
+use Rattle.std.specs.Str.{bytes_eq}
 use Rattle.flu_lemmas.specs.Loops.{◌>>=◌, ◌>>◌, each}
 use Rattle.flu_lemmas.proofs.Loops.{collect}
 use Rattle.flu_model.specs.declared.limits.What.{What}
-use Rattle.flu_model.specs.declared.limits.What.TheVariants.{Families, Kinds, Sources, Depends, Key, Rate, Itags, Actions, Height, Slack}
+use Rattle.flu_model.specs.declared.limits.What.TheVariants.{Families, Kinds, Lists, Names as NamesLimit, Sources, Depends, Key, Rate, Itags}
+use Rattle.flu_model.specs.declared.limits.What.TheVariants.{Actions, Height, Slack}
 use Rattle.flu_model.specs.declared.jobs.Sort.{Sort}
 use Rattle.flu_model.specs.declared.jobs.At.TheVariants as at
 use Rattle.flu_model.specs.declared.jobs.Keys.TheVariants as keys
@@ -13,6 +15,7 @@ use Rattle.flu_model.specs.declared.jobs.Piece.{Piece}
 use Rattle.flu_model.specs.declared.jobs.Piece.TheVariants as piece
 use Rattle.flu_model.specs.declared.jobs.Source.{Source}
 use Rattle.flu_model.specs.Contents.{key_count}
+use Rattle.flu_model.specs.ListRules.{is_listed_text}
 use Rattle.flu_model.specs.Rules.{is_version, is_same_text}
 use Rattle.flu_model.specs.Texts.{Unit as TimeUnit}
 use Rattle.flu_model.specs.Erasure.{Literal, EventValue, EventKey, EventItem, EventTime, CellRead, CellHeld, Negative, Negation, Operation}
@@ -25,6 +28,9 @@ use Rattle.flu_text.specs.declared.written.WrittenKeys.TheVariants as ks
 use Rattle.flu_syntax.specs.declared.tree.WrittenKey.{WrittenKey}
 use Rattle.flu_syntax.specs.declared.tree.WrittenKey.TheVariants as k
 use Rattle.flu_syntax.specs.declared.tree.WrittenRef.{WrittenRef}
+use Rattle.flu_syntax.specs.declared.tree.WrittenBy.{WrittenBy}
+use Rattle.flu_syntax.specs.declared.tree.WrittenCells.{WrittenCells}
+use Rattle.flu_syntax.specs.declared.tree.WrittenItem.{WrittenItem}
 use Rattle.flu_syntax.specs.declared.tree.WrittenTag.{WrittenTag}
 use Rattle.flu_syntax.specs.declared.tree.WrittenRelation.{WrittenRelation}
 use Rattle.flu_syntax.specs.declared.tree.WrittenRelation.TheVariants as r
@@ -40,15 +46,17 @@ use Rattle.flu_parse.specs.declared.names.KindHead.{KindHead}
 use Rattle.flu_parse.specs.declared.pieces.WrittenPiece.{WrittenPiece}
 use Rattle.flu_parse.specs.declared.pieces.WrittenPiece.TheVariants as w
 use Rattle.flu_parse.specs.Faults.{Found, unless, room}
-use Rattle.flu_parse.specs.Naming.{Naming, in_version, is_version_3, takes_items, look_up, is_declared, known, fresh_name, with_family, with_kind}
-use Rattle.flu_parse.specs.Naming.{with_source, declare, no_names, naming_of, family_of, kind_of}
+use Rattle.flu_parse.specs.Lists.{with_text, texts_of, list_of}
+use Rattle.flu_parse.specs.Naming.{Naming, in_version, is_version_3, has_keys, keys_by, items_by, takes_items, look_up, is_declared, known, fresh_name}
+use Rattle.flu_parse.specs.Naming.{with_family, with_kind, with_list, with_source, declare, no_names, naming_of, family_of, kind_of}
 use Rattle.flu_parse.specs.Cells.{resolved_key, is_wanted, brackets_fit, family_for, at_of, resolved_cell}
 use Rattle.flu_parse.specs.Terms.{height, is_item, op_fits, first_part, first_token, term_of, expression_of}
 use Rattle.flu_parse.specs.Templates.{template_at, known_name, known_names, piece_fits, family_piece, piece_of, pieces_of, may_be_printed, template_of}
 use Rattle.flu_parse.specs.Actions.{sort_for, act_with, clears_whole, resolved_act, guard_of, action_of, with_action, resolved_actions}
 use Rattle.flu_parse.specs.Listings.{are_bracketed, written_keys, keys_of, tag_count, Listed, with_tag, tags_of, rate_of, slack_of, file_of}
 use Rattle.flu_parse.specs.Resolving.{Drafted, same_of, with_depend, with_actions, with_on, with_source as with_source_of}
-use Rattle.flu_parse.specs.Resolving.{cell_name_fits, item_word_fits, with_declaration, first_draft, draft_of, version_of, unit_named, found_unit, unit_of, iso_of}
+use Rattle.flu_parse.specs.Resolving.{with_cell, with_tag as with_tag_of, with_names, cell_name_fits, item_word_fits, with_declaration, first_draft}
+use Rattle.flu_parse.specs.Resolving.{draft_of, version_of, unit_named, found_unit, unit_of, iso_of}
 use Rattle.flu_parse.specs.Resolving.{job_with, resolved}
 
 -- ---- looks of which each fault is so
@@ -89,6 +97,8 @@ module _ {E : Type 0} (P : E → Type 0) where
 abbrev pub IsOfWritten : What → Type 0
 IsOfWritten Families = Unit {0}
 IsOfWritten Kinds = Unit {0}
+IsOfWritten Lists = Unit {0}
+IsOfWritten NamesLimit = Unit {0}
 IsOfWritten Sources = Unit {0}
 IsOfWritten Depends = Unit {0}
 IsOfWritten Key = Unit {0}
@@ -403,16 +413,66 @@ module _ (P : JobFault → Type 0) (plain : Plain P) where
             itags = l.itags;
           })))))
 
-      item_faults : (item : Option ℕ) → FaultsAre P (item_word_fits n item)
+      item_faults : (item : Option WrittenItem) → FaultsAre P (item_word_fits n item)
       item_faults None = no_fault P tt
-      item_faults (Some at) = fault_unless P (is_version_3 n) (f.WrongShape at) (plain.shape at)
+      item_faults (Some item) = fault_unless P (is_version_3 n) (f.WrongShape item.at) (plain.shape item.at)
+
+      list_faults : (o : Option WrittenBy) → FaultsAre P (list_of text n o)
+      list_faults None = no_fault P None
+      list_faults (Some written) =
+          let place = position (bytes_eq (name_of text written.list)) n.lists in
+          faults_then P (unless (is_version_3 n) (f.WrongShape written.at)) (known written.list.from place >>= λ number. Ok (Some number))
+          (fault_unless P (is_version_3 n) (f.WrongShape written.at) (plain.shape written.at))
+          (faults_bind P (known written.list.from place) (λ number. Ok (Some number)) (known_faults written.list.from place)
+          (λ number. no_fault P (Some number)))
+
+      text_faults : (done : List (List ℕ)) (s : WrittenSpan) → FaultsAre P (with_text text done s)
+      unfolding with_text
+      text_faults done s =
+          let t = inside text s in
+          let last : Found (List (List ℕ)) = Ok (done ++ t ∷ []) in
+          let own = not (list_any (bytes_eq t) done) in
+          let third : Found (List (List ℕ)) = unless own (f.TwiceNamed s.from) >> last in
+          let second : Found (List (List ℕ)) = room NamesLimit 65536 (length done) >> third in
+          faults_then P (unless (is_listed_text t) (f.WrongShape s.from)) second
+          (fault_unless P (is_listed_text t) (f.WrongShape s.from) (plain.shape s.from))
+          (faults_then P (room NamesLimit 65536 (length done)) third
+          (fault_unless P (nat_lt (length done) 65536) (f.OverLimit NamesLimit 65537) (plain.limit NamesLimit 65537 tt))
+          (faults_then P (unless own (f.TwiceNamed s.from)) last (fault_unless P own (f.TwiceNamed s.from) (twice s.from)) (no_fault P (done ++ t ∷ []))))
+
+      cell_line_faults : (x : Drafted) (name : WrittenSpan) (cells : WrittenCells) → FaultsAre P (with_cell text n x name cells)
+      unfolding with_cell
+      cell_line_faults x name cells =
+          faults_then P (unless (cell_name_fits text n name) (f.WrongShape name.from))
+          (list_of text n (keys_by cells) >>= λ list. Ok (record x { family_lists = x.family_lists ++ list ∷ [] }))
+          (fault_unless P (cell_name_fits text n name) (f.WrongShape name.from) (plain.shape name.from))
+          (faults_bind P (list_of text n (keys_by cells)) (λ list. Ok (record x { family_lists = x.family_lists ++ list ∷ [] }))
+          (list_faults (keys_by cells)) (λ list. no_fault P (record x { family_lists = x.family_lists ++ list ∷ [] })))
+
+      tag_line_faults : (x : Drafted) (item : Option WrittenItem) → FaultsAre P (with_tag_of text n x item)
+      unfolding with_tag_of
+      tag_line_faults x item =
+          faults_then P (item_word_fits n item) (list_of text n (items_by item) >>= λ list. Ok (record x { kind_lists = x.kind_lists ++ list ∷ [] }))
+          (item_faults item)
+          (faults_bind P (list_of text n (items_by item)) (λ list. Ok (record x { kind_lists = x.kind_lists ++ list ∷ [] }))
+          (list_faults (items_by item)) (λ list. no_fault P (record x { kind_lists = x.kind_lists ++ list ∷ [] })))
+
+      names_line_faults : (x : Drafted) (at : ℕ) (name : WrittenSpan) (texts : List WrittenSpan) → FaultsAre P (with_names text n x at name texts)
+      unfolding with_names
+      names_line_faults x at name texts =
+          faults_then P (unless (is_version_3 n) (f.WrongShape at))
+          (texts_of text texts >>= λ named. Ok (record x { lists = x.lists ++ record { name = name_of text name; texts = named } ∷ [] }))
+          (fault_unless P (is_version_3 n) (f.WrongShape at) (plain.shape at))
+          (faults_bind P (texts_of text texts)
+          (λ named. Ok (record x { lists = x.lists ++ record { name = name_of text name; texts = named } ∷ [] }))
+          (faults_each P (with_text text) text_faults [] texts)
+          (λ named. no_fault P (record x { lists = x.lists ++ record { name = name_of text name; texts = named } ∷ [] })))
 
       declaration_faults : (x : Drafted) (y : Declaration) → FaultsAre P (with_declaration text n x y)
       unfolding with_declaration
-      declaration_faults x (d.Cell name keyed sort) =
-          shape_faults (cell_name_fits text n name) name.from x
-      declaration_faults x (d.Tag name keyed item has_value) =
-          faults_then P (item_word_fits n item) (Ok x) (item_faults item) (no_fault P x)
+      declaration_faults x (d.Cell name cells sort) = cell_line_faults x name cells
+      declaration_faults x (d.Tag name keyed item has_value) = tag_line_faults x item
+      declaration_faults x (d.Names at name texts) = names_line_faults x at name texts
       declaration_faults x (d.Depends a b relation) = depend_faults x a b relation
       declaration_faults x (d.On kind actions) = on_faults x kind actions
       declaration_faults x (d.Source name file rate slack tags) = source_faults x name file rate slack tags
@@ -434,12 +494,12 @@ module _ (P : JobFault → Type 0) (plain : Plain P) where
         (no_fault P x)
 
     declare_faults : (n : Naming) (y : Declaration) → FaultsAre P (declare text n y)
-    unfolding declare with_family with_kind with_source
-    declare_faults n (d.Cell s keyed sort) =
+    unfolding declare with_family with_kind with_list with_source
+    declare_faults n (d.Cell s cells sort) =
         faults_bind P (fresh_name text n s) (λ name. room Families 64 (length n.families) >> Ok (record n {
-          families = n.families ++ (name, record { number = length n.families; keyed = keyed; sort = sort }) ∷ [];
+          families = n.families ++ (name, record { number = length n.families; keyed = has_keys cells; sort = sort }) ∷ [];
         })) (fresh_faults n s) (λ name. room_faults Families 64 (length n.families) (record n {
-          families = n.families ++ (name, record { number = length n.families; keyed = keyed; sort = sort }) ∷ [];
+          families = n.families ++ (name, record { number = length n.families; keyed = has_keys cells; sort = sort }) ∷ [];
         }) tt)
     declare_faults n (d.Tag s keyed item has_value) =
         faults_bind P (fresh_name text n s) (λ name. room Kinds 64 (length n.kinds) >> Ok (record n {
@@ -447,6 +507,10 @@ module _ (P : JobFault → Type 0) (plain : Plain P) where
         })) (fresh_faults n s) (λ name. room_faults Kinds 64 (length n.kinds) (record n {
           kinds = n.kinds ++ (name, record { number = length n.kinds; keyed = keyed; has_item = is_some item; has_value = has_value }) ∷ [];
         }) tt)
+    declare_faults n (d.Names at s texts) =
+        faults_bind P (fresh_name text n s) (λ name. room Lists 64 (length n.lists) >> Ok (record n { lists = n.lists ++ name ∷ [] }))
+        (fresh_faults n s)
+        (λ name. room_faults Lists 64 (length n.lists) (record n { lists = n.lists ++ name ∷ [] }) tt)
     declare_faults n (d.Depends a b relation) = room_faults Depends 4096 n.depends (record n { depends = n.depends + 1 }) tt
     declare_faults n (d.On kind actions) = no_fault P n
     declare_faults n (d.Source s file rate slack tags) =
@@ -475,8 +539,8 @@ module _ (P : JobFault → Type 0) (plain : Plain P) where
     pub resolved_faults : (job : WrittenJob) → FaultsAre P (resolved text job)
     unfolding resolved
     resolved_faults job =
-        let drafted_in = λ (n : Naming) (version : ℕ) (iso : Option TimeUnit). draft_of text (in_version n version) job.declarations >>= λ x. let r : Found Job =
-        Ok (job_with iso (in_version n version) x) in r in
+        let drafted_in = λ (n : Naming) (version : ℕ) (iso : Option TimeUnit). draft_of text (in_version n version) job.declarations >>= λ x.
+        let r : Found Job = Ok (job_with iso (in_version n version) x) in r in
         let with_unit = λ (n : Naming) (version : ℕ). iso_of text version job.head >>= λ iso. drafted_in n version iso in
         faults_bind P (naming_of text job.declarations) (λ n. version_of job.head >>= λ version. with_unit n version)
         (faults_each P (declare text) declare_faults no_names job.declarations)

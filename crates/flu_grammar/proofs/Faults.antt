@@ -9,7 +9,7 @@ use Rattle.flu_lemmas.proofs.Elements.{fails_at}
 use Rattle.flu_lemmas.proofs.Tests.{lt_true, not_both}
 use Rattle.flu_lemmas.proofs.Bytes.{bytes_itself, bytes_is}
 use Rattle.flu_model.specs.declared.limits.What.{What}
-use Rattle.flu_model.specs.declared.limits.What.TheVariants.{Families, Kinds, Sources, Depends}
+use Rattle.flu_model.specs.declared.limits.What.TheVariants.{Families, Kinds, Lists, Sources, Depends}
 use Rattle.flu_model.specs.declared.jobs.Kind.{Kind}
 use Rattle.flu_model.specs.declared.jobs.Source.{Source}
 use Rattle.flu_model.specs.Rules.{is_same_text}
@@ -20,7 +20,8 @@ use Rattle.flu_layout.specs.Spelling.{name_of}
 use Rattle.flu_parse.specs.declared.faults.JobFault.{JobFault}
 use Rattle.flu_parse.specs.declared.faults.JobFault.TheVariants as j
 use Rattle.flu_parse.specs.Faults.{Found as JobFound, ◌>>=◌, ◌>>◌, unless as job_unless, room, each}
-use Rattle.flu_parse.specs.Naming.{Naming, look_up, is_declared, known, fresh_name, with_family, with_kind, with_source, declare, no_names}
+use Rattle.flu_parse.specs.Naming.{Naming, has_keys, look_up, is_declared, known, fresh_name, with_family, with_kind, with_list, with_source, declare}
+use Rattle.flu_parse.specs.Naming.{no_names}
 use Rattle.flu_plan.specs.declared.fault.PlanFault.TheVariants as p
 use Rattle.flu_plan.specs.declared.written.WrittenNode.{WrittenNode}
 use Rattle.flu_plan.specs.Faults.{unless as plan_unless}
@@ -159,10 +160,10 @@ module _ (text : List ℕ) where
     earlier : slice_get (all_names text done) place ≡ Some (name_of text name)
 
   again : (done : Declarations) (n : Naming) (x : Declaration) (at : ℕ) → Named text done n → declare text n x ≡ Err (j.TwiceNamed at) → Again done x at
-  unfolding declare with_family with_kind with_source
-  again done n (d.Cell s keyed sort) at named e =
+  unfolding declare with_family with_kind with_list with_source
+  again done n (d.Cell s cells sort) at named e =
       let fault = fresh_fault n s 64 (length n.families) (λ name. record n {
-        families = n.families ++ (name, record { number = length n.families; keyed = keyed; sort = sort }) ∷ [];
+        families = n.families ++ (name, record { number = length n.families; keyed = has_keys cells; sort = sort }) ∷ [];
       }) Families at e in
       let before = declared_before done n (name_of text s) named fault.0 in
       record { name = s; named = refl; here = fault.1; place = before.0; earlier = before.1 }
@@ -170,6 +171,10 @@ module _ (text : List ℕ) where
       let fault = fresh_fault n s 64 (length n.kinds) (λ name. record n {
         kinds = n.kinds ++ (name, record { number = length n.kinds; keyed = keyed; has_item = is_some item; has_value = has_value }) ∷ [];
       }) Kinds at e in
+      let before = declared_before done n (name_of text s) named fault.0 in
+      record { name = s; named = refl; here = fault.1; place = before.0; earlier = before.1 }
+  again done n (d.Names place s texts) at named e =
+      let fault = fresh_fault n s 64 (length n.lists) (λ name. record n { lists = n.lists ++ name ∷ [] }) Lists at e in
       let before = declared_before done n (name_of text s) named fault.0 in
       record { name = s; named = refl; here = fault.1; place = before.0; earlier = before.1 }
   again done n (d.Depends a b relation) at named e = absurd (room_not_twice Depends 4096 n.depends (record n { depends = n.depends + 1 }) at e)

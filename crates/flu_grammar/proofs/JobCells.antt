@@ -27,23 +27,25 @@ use Rattle.flu_parse.specs.Naming.{Naming, takes_items, family, families_of, loo
 use Rattle.flu_parse.specs.Cells.{resolved_key, brackets_fit, is_wanted, family_for, at_of, resolved_cell}
 use Rattle.flu_grammar.specs.Means.{AllDiffer, Under, HasItems}
 use Rattle.flu_grammar.specs.Cells.{IsKey, MeansKey, HasSort, family_name, MeansCell}
+use Rattle.flu_grammar.specs.Jobs.{without_list}
 use Rattle.flu_grammar.proofs.Looks.{ok_same, ok_ok, passed, passes, binds}
 use Rattle.flu_grammar.proofs.Heads.{heads, HeadFound, looked_up, looks_up}
 
 abbrev pub family_head : ℕ → Family → FamilyHead
 family_head i x = record { number = i; keyed = x.keyed; sort = x.sort }
 
-pub families_back : (i : ℕ) (fs : List Family) → map family (heads family_name family_head i fs) ≡ fs
+pub families_back : (i : ℕ) (fs : List Family) → map family (heads family_name family_head i fs) ≡ map without_list fs
 families_back i [] = refl
-families_back i (x ∷ fs) = ap (λ l. x ∷ l) (families_back (i + 1) fs)
+families_back i (x ∷ fs) = ap (λ l. without_list x ∷ l) (families_back (i + 1) fs)
 
--- the names of a job know these families
+-- the names of a job know these families, which lists are not said of
 pub record KnowFamilies (n : Naming) (families : List Family) : Type 0 where
   pub heads_are : n.families ≡ heads family_name family_head 0 families
   pub differ : AllDiffer (map family_name families)
+  pub without : map without_list families ≡ families
 
 pub families_are : (n : Naming) (families : List Family) → KnowFamilies n families → families_of n ≡ families
-families_are n families knows = ap (map family) knows.heads_are ∙ families_back 0 families
+families_are n families knows = ap (map family) knows.heads_are ∙ families_back 0 families ∙ knows.without
 
 pub known_is : {X : Type 0} (at : ℕ) (o : Option X) (x : X) → known at o ≡ Ok x → o ≡ Some x
 known_is at None x e = absurd cc

@@ -15,11 +15,16 @@ use Rattle.flu_lemmas.proofs.Tests.{not_true, not_both, false_if_not, true_eq}
 use Rattle.flu_lemmas.proofs.Totals.{total-append}
 use Rattle.flu_lemmas.proofs.Bytes.{bytes_itself, bytes_is}
 use Rattle.flu_model.specs.declared.jobs.Family.{Family}
+use Rattle.flu_model.specs.declared.jobs.Sort.{Sort}
 use Rattle.flu_model.specs.declared.jobs.Source.{Source}
 use Rattle.flu_model.specs.Erasure.{PlainAction, PlainKind}
+use Rattle.flu_model.specs.Numberings.{Numbering}
 use Rattle.flu_model.specs.Rules.{is_same_text}
 use Rattle.flu_text.specs.declared.written.WrittenSpan.{WrittenSpan}
 use Rattle.flu_text.specs.declared.written.WrittenNumber.{WrittenNumber}
+use Rattle.flu_syntax.specs.declared.tree.WrittenBy.{WrittenBy}
+use Rattle.flu_syntax.specs.declared.tree.WrittenCells.{WrittenCells}
+use Rattle.flu_syntax.specs.declared.tree.WrittenItem.{WrittenItem}
 use Rattle.flu_syntax.specs.declared.tree.WrittenTag.{WrittenTag}
 use Rattle.flu_syntax.specs.declared.tree.WrittenRelation.{WrittenRelation}
 use Rattle.flu_syntax.specs.Tree.{Action, Declaration, Declarations}
@@ -28,15 +33,17 @@ use Rattle.flu_layout.specs.Spelling.{name_of}
 use Rattle.flu_parse.specs.declared.faults.JobFault.TheVariants as f
 use Rattle.flu_parse.specs.declared.names.KindHead.{KindHead}
 use Rattle.flu_parse.specs.Faults.{◌>>=◌, ◌>>◌, unless, each}
-use Rattle.flu_parse.specs.Naming.{Naming, kind_of}
+use Rattle.flu_parse.specs.Lists.{texts_of, list_of}
+use Rattle.flu_parse.specs.Naming.{Naming, is_version_3, keys_by, items_by, kind_of}
 use Rattle.flu_parse.specs.Actions.{resolved_actions}
-use Rattle.flu_parse.specs.Resolving.{Drafted, with_depend, with_actions, with_on, with_source, cell_name_fits, item_word_fits, with_declaration, idle_kind}
-use Rattle.flu_parse.specs.Resolving.{first_draft, draft_of}
-use Rattle.flu_grammar.specs.Means.{AllDiffer, IsNamed}
+use Rattle.flu_parse.specs.Resolving.{Drafted, with_depend, with_actions, with_on, with_source, cell_name_fits, item_word_fits, with_cell, with_tag}
+use Rattle.flu_parse.specs.Resolving.{with_names, with_declaration, idle_kind, first_draft, draft_of}
+use Rattle.flu_grammar.specs.Means.{AllDiffer, IfWritten, IsNamed}
 use Rattle.flu_grammar.specs.Actions.{MeansAction}
-use Rattle.flu_grammar.specs.Declared.{DeclaredKind, under_kind, IsDeclaredIn, WrittenDepend, WrittenSource, depends_in, ons_in, actions_in, sources_in}
+use Rattle.flu_grammar.specs.Declared.{DeclaredKind, under_kind, IsDeclaredIn, WrittenDepend, WrittenSource, WrittenNames, depends_in, ons_in, actions_in}
+use Rattle.flu_grammar.specs.Declared.{sources_in, lists_in, family_lists_in, kind_lists_in}
 use Rattle.flu_grammar.specs.Sources.{MeansDepend, MeansSource}
-use Rattle.flu_grammar.specs.Jobs.{MeansDeclaredKind}
+use Rattle.flu_grammar.specs.Jobs.{MeansNames, MeansList, MeansDeclaredKind}
 use Rattle.flu_grammar.proofs.Lists.{some_same, no_some, get_map, get_unmap, differ_none, differ_tail, differ_head, differ_push, pairs_left, pairs_push}
 use Rattle.flu_grammar.proofs.Looks.{ok_same, passed}
 use Rattle.flu_grammar.proofs.Heads.{heads}
@@ -44,6 +51,7 @@ use Rattle.flu_grammar.proofs.Items.{is_item_word, is_item}
 use Rattle.flu_grammar.proofs.JobCells.{KnowFamilies, under_head}
 use Rattle.flu_grammar.proofs.JobActions.{actions_mean}
 use Rattle.flu_grammar.proofs.JobNames.{kind_name, kind_head, grown, unchanged}
+use Rattle.flu_grammar.proofs.JobLists.{names_mean, list_is}
 use Rattle.flu_grammar.proofs.JobSources.{KnowKinds, kind_is, depend_is, part_count, with_one_depend, with_one_source, source_is}
 
 -- how many itags some sources list
@@ -55,8 +63,9 @@ module _ (text : List ℕ) where
   pub no_actions : (name : List ℕ) (ds : Declarations) → ((i : ℕ) → slice_get (flat_map (ons_in text) ds) i ≡ Some name → ⊥) → flat_map
       (actions_in text name) ds ≡ []
   no_actions name [] none = refl
-  no_actions name (d.Cell s keyed sort ∷ ds) none = no_actions name ds none
+  no_actions name (d.Cell s cells sort ∷ ds) none = no_actions name ds none
   no_actions name (d.Tag s keyed item has_value ∷ ds) none = no_actions name ds none
+  no_actions name (d.Names at s texts ∷ ds) none = no_actions name ds none
   no_actions name (d.Depends a b relation ∷ ds) none = no_actions name ds none
   no_actions name (d.Source s file rate slack tags ∷ ds) none = no_actions name ds none
   no_actions name (d.On kind actions ∷ ds) none =
@@ -75,8 +84,15 @@ module _ (text : List ℕ) (n : Naming) (families : List Family) (kinds : List D
   abbrev IsGiven : List ℕ → ℕ → Type 0
   IsGiven name number = IsNamed kind_name kinds name number
 
+  -- what names the keys of a family, or the items of a kind
+  abbrev IsList : Option WrittenBy → Option ℕ → Type 0
+  IsList by number = IfWritten (MeansList text n.lists) by number
+
   -- what is drafted is what these declarations mean
   pub record Drafts (done : Declarations) (x : Drafted) : Type 0 where
+    pub lists : Pairs (MeansNames text) (flat_map lists_in done) x.lists
+    pub family_lists : Pairs IsList (flat_map family_lists_in done) x.family_lists
+    pub kind_lists : Pairs IsList (flat_map kind_lists_in done) x.kind_lists
     pub kinds_are : Pairs (Kind done) kinds x.kinds
     pub given : Pairs IsGiven (flat_map (ons_in text) done) x.given
     pub own_ons : AllDiffer (flat_map (ons_in text) done)
@@ -101,13 +117,24 @@ module _ (text : List ℕ) (n : Naming) (families : List Family) (kinds : List D
       not_both (is_item_word n.version (name_of text s)) (is_item n.version (name_of text s) (third, named))
       (not_true (is_item_word n.version (name_of text s)) fits)
 
-  tag_allowed : (item : Option ℕ) (u : Unit {0}) → item_word_fits n item ≡ Ok u → is_some item ≡ true → n.version ≡ 3
+  tag_allowed : (item : Option WrittenItem) (u : Unit {0}) → item_word_fits n item ≡ Ok u → is_some item ≡ true → n.version ≡ 3
   tag_allowed None u e some = absurd cc
-  tag_allowed (Some at) u e some = by (n.version == 3) refl e
+  tag_allowed (Some item) u e some = by (n.version == 3) refl e
     where
-      by : (b : Bool) → (n.version == 3) ≡ b → unless b (f.WrongShape at) ≡ Ok u → n.version ≡ 3
+      by : (b : Bool) → (n.version == 3) ≡ b → unless b (f.WrongShape item.at) ≡ Ok u → n.version ≡ 3
       by true is e = true_eq n.version 3 is
       by false is e = absurd cc
+
+  -- ---- what one declaration more gives
+  module _ {X Y : Type 0} (R : X → Y → Type 0) (g : Declaration → List X) where
+    kept : (done : Declarations) (y : Declaration) (ls : List Y) → g y ≡ [] → Pairs R (flat_map g done) ls → Pairs R (flat_map g (done ++ y ∷ [])) ls
+    kept done y ls none is = subst (λ (l : List X). Pairs R l ls) (unchanged text g done y none) is
+
+    pushed : (done : Declarations) (y : Declaration) (ls : List Y) (x : X) (one : Y) → g y ≡ x ∷ [] → R x one → Pairs R (flat_map g done) ls
+        → Pairs R (flat_map g (done ++ y ∷ [])) (ls ++ one ∷ [])
+    pushed done y ls x one gives r is =
+        subst (λ (l : List X). Pairs R l (ls ++ one ∷ [])) (sym (grown text g done y ∙ ap (λ (l : List X). flat_map g done ++ l) gives))
+        (pairs_push R (flat_map g done) ls x one is r)
 
   -- ---- a declaration that has no actions of a kind
 
@@ -214,6 +241,9 @@ module _ (text : List ℕ) (n : Naming) (families : List Family) (kinds : List D
       let acts_mean : Pairs (MeansAction text families (under_kind n.version k)) actions acts =
       subst (λ (z : KindHead). Pairs (MeansAction text families (under_head n z)) actions acts) (sym head.is) means.0 in
       let drafts : Drafts (done ++ on ∷ []) (record x { kinds = with_actions x.kinds h.number acts; given = x.given ++ h.number ∷ [] }) = record {
+        lists = kept (MeansNames text) lists_in done on x.lists refl is.lists;
+        family_lists = kept IsList family_lists_in done on x.family_lists refl is.family_lists;
+        kind_lists = kept IsList kind_lists_in done on x.kind_lists refl is.kind_lists;
         kinds_are = kinds_on done kind actions acts kinds x.kinds h.number k knows.differ here (sym head.named) none acts_mean means.1 is.kinds_are;
         given =
             subst (λ (l : List (List ℕ)). Pairs IsGiven l (x.given ++ h.number ∷ [])) (sym (grown text (ons_in text) done on))
@@ -232,11 +262,21 @@ module _ (text : List ℕ) (n : Naming) (families : List Family) (kinds : List D
 
   -- ---- the others
 
+  -- the draft with other lists
+  abbrev with_lists : Drafted → List Numbering → List (Option ℕ) → List (Option ℕ) → Drafted
+  with_lists x lists family_lists kind_lists = record x { lists = lists; family_lists = family_lists; kind_lists = kind_lists }
+
   -- a declaration of a name
-  nothing_next : (done : Declarations) (x : Drafted) (y : Declaration) → ((name : List ℕ) → actions_in text name y ≡ []) → ons_in text y ≡ []
-      → depends_in y ≡ []
-      → sources_in y ≡ [] → IsDeclaredIn text n.version y → Drafts done x → Drafts (done ++ y ∷ []) x
-  nothing_next done x y no_acts no_on no_depend no_source has is = record {
+  nothing_next : (done : Declarations) (x : Drafted) (y : Declaration) (lists : List Numbering) (family_lists kind_lists : List (Option ℕ))
+      → ((name : List ℕ) → actions_in text name y ≡ []) → ons_in text y ≡ [] → depends_in y ≡ [] → sources_in y ≡ [] → IsDeclaredIn text n.version y
+      → Pairs (MeansNames text) (flat_map lists_in (done ++ y ∷ [])) lists
+      → Pairs IsList (flat_map family_lists_in (done ++ y ∷ [])) family_lists
+      → Pairs IsList (flat_map kind_lists_in (done ++ y ∷ [])) kind_lists
+      → Drafts done x → Drafts (done ++ y ∷ []) (with_lists x lists family_lists kind_lists)
+  nothing_next done x y lists family_lists kind_lists no_acts no_on no_depend no_source has names families_named kinds_named is = record {
+    lists = names;
+    family_lists = families_named;
+    kind_lists = kinds_named;
     kinds_are = kinds_kept done y kinds x.kinds (λ i k at. no_acts k.name) is.kinds_are;
     given = subst (λ (l : List (List ℕ)). Pairs IsGiven l x.given) (unchanged text (ons_in text) done y no_on) is.given;
     own_ons = subst (λ (l : List (List ℕ)). AllDiffer l) (unchanged text (ons_in text) done y no_on) is.own_ons;
@@ -248,6 +288,53 @@ module _ (text : List ℕ) (n : Naming) (families : List Family) (kinds : List D
     few_itags = is.few_itags;
   }
 
+  cell_next : (done : Declarations) (x more : Drafted) (s : WrittenSpan) (cells : WrittenCells) (sort : Sort) → Drafts done x
+      → with_cell text n x s cells ≡ Ok more → Drafts (done ++ d.Cell s cells sort ∷ []) more
+  unfolding with_cell
+  cell_next done x more s cells sort is e =
+      let y = d.Cell s cells sort in
+      let one = passed (cell_name_fits text n s) (f.WrongShape s.from)
+      (list_of text n (keys_by cells) >>= λ list. Ok (record x { family_lists = x.family_lists ++ list ∷ [] })) more e in
+      let two = bind_ok (list_of text n (keys_by cells)) (λ list. Ok (record x { family_lists = x.family_lists ++ list ∷ [] })) more one.1 in
+      let list = list_is text n (keys_by cells) two.0 two.1 in
+      subst (λ (z : Drafted). Drafts (done ++ y ∷ []) z) (ok_same (record x { family_lists = x.family_lists ++ two.0 ∷ [] }) more two.2)
+      (nothing_next done x y x.lists (x.family_lists ++ two.0 ∷ []) x.kind_lists (λ name. refl) refl refl refl (cell_allowed s one.0, list.1)
+      (kept (MeansNames text) lists_in done y x.lists refl is.lists)
+      (pushed IsList family_lists_in done y x.family_lists (keys_by cells) two.0 refl list.0 is.family_lists)
+      (kept IsList kind_lists_in done y x.kind_lists refl is.kind_lists) is)
+
+  tag_next : (done : Declarations) (x more : Drafted) (s : WrittenSpan) (keyed : Bool) (item : Option WrittenItem) (has_value : Bool) → Drafts done x
+      → with_tag text n x item ≡ Ok more → Drafts (done ++ d.Tag s keyed item has_value ∷ []) more
+  unfolding with_tag
+  tag_next done x more s keyed item has_value is e =
+      let y = d.Tag s keyed item has_value in
+      let one = then_ok (item_word_fits n item)
+      (list_of text n (items_by item) >>= λ list. Ok (record x { kind_lists = x.kind_lists ++ list ∷ [] })) more e in
+      let two = bind_ok (list_of text n (items_by item)) (λ list. Ok (record x { kind_lists = x.kind_lists ++ list ∷ [] })) more one.2 in
+      let list = list_is text n (items_by item) two.0 two.1 in
+      subst (λ (z : Drafted). Drafts (done ++ y ∷ []) z) (ok_same (record x { kind_lists = x.kind_lists ++ two.0 ∷ [] }) more two.2)
+      (nothing_next done x y x.lists x.family_lists (x.kind_lists ++ two.0 ∷ []) (λ name. refl) refl refl refl (tag_allowed item one.0 one.1)
+      (kept (MeansNames text) lists_in done y x.lists refl is.lists)
+      (kept IsList family_lists_in done y x.family_lists refl is.family_lists)
+      (pushed IsList kind_lists_in done y x.kind_lists (items_by item) two.0 refl list.0 is.kind_lists) is)
+
+  names_next : (done : Declarations) (x more : Drafted) (at : ℕ) (s : WrittenSpan) (texts : List WrittenSpan) → Drafts done x
+      → with_names text n x at s texts ≡ Ok more → Drafts (done ++ d.Names at s texts ∷ []) more
+  unfolding with_names
+  names_next done x more at s texts is e =
+      let y = d.Names at s texts in
+      let v : WrittenNames = record { name = s; texts = texts } in
+      let one = passed (is_version_3 n) (f.WrongShape at)
+      (texts_of text texts >>= λ named. Ok (record x { lists = x.lists ++ record { name = name_of text s; texts = named } ∷ [] })) more e in
+      let two = bind_ok (texts_of text texts) (λ named. Ok (record x { lists = x.lists ++ record { name = name_of text s; texts = named } ∷ [] })) more one.1 in
+      let list : Numbering = record { name = name_of text s; texts = two.0 } in
+      let means : MeansNames text v list = names_mean text v two.0 two.1 in
+      subst (λ (z : Drafted). Drafts (done ++ y ∷ []) z) (ok_same (record x { lists = x.lists ++ list ∷ [] }) more two.2)
+      (nothing_next done x y (x.lists ++ list ∷ []) x.family_lists x.kind_lists (λ name. refl) refl refl refl (true_eq n.version 3 one.0)
+      (pushed (MeansNames text) lists_in done y x.lists v list refl means is.lists)
+      (kept IsList family_lists_in done y x.family_lists refl is.family_lists)
+      (kept IsList kind_lists_in done y x.kind_lists refl is.kind_lists) is)
+
   depend_next : (done : Declarations) (x more : Drafted) (a b : WrittenSpan) (relation : WrittenRelation) → Drafts done x
       → with_depend text n x a b relation ≡ Ok more
       → Drafts (done ++ d.Depends a b relation ∷ []) more
@@ -256,6 +343,9 @@ module _ (text : List ℕ) (n : Naming) (families : List Family) (kinds : List D
       let v : WrittenDepend = record { a = a; b = b; relation = relation } in
       let one = depend_is text n kinds knows x a b relation more e in
       let drafts : Drafts (done ++ y ∷ []) (with_one_depend text n kinds knows x one.0) = record {
+        lists = kept (MeansNames text) lists_in done y x.lists refl is.lists;
+        family_lists = kept IsList family_lists_in done y x.family_lists refl is.family_lists;
+        kind_lists = kept IsList kind_lists_in done y x.kind_lists refl is.kind_lists;
         kinds_are = kinds_kept done y kinds x.kinds (λ i k at. refl) is.kinds_are;
         given = subst (λ (l : List (List ℕ)). Pairs IsGiven l x.given) (unchanged text (ons_in text) done y refl) is.given;
         own_ons = subst (λ (l : List (List ℕ)). AllDiffer l) (unchanged text (ons_in text) done y refl) is.own_ons;
@@ -289,6 +379,9 @@ module _ (text : List ℕ) (n : Naming) (families : List Family) (kinds : List D
       let count = total-append (λ (z : Source). total part_count z.tags) x.sources (s ∷ []) in
       let before = is.itags in
       let drafts : Drafts (done ++ y ∷ []) (with_one_source text n kinds knows x s) = record {
+        lists = kept (MeansNames text) lists_in done y x.lists refl is.lists;
+        family_lists = kept IsList family_lists_in done y x.family_lists refl is.family_lists;
+        kind_lists = kept IsList kind_lists_in done y x.kind_lists refl is.kind_lists;
         kinds_are = kinds_kept done y kinds x.kinds (λ i k at. refl) is.kinds_are;
         given = subst (λ (l : List (List ℕ)). Pairs IsGiven l x.given) (unchanged text (ons_in text) done y refl) is.given;
         own_ons = subst (λ (l : List (List ℕ)). AllDiffer l) (unchanged text (ons_in text) done y refl) is.own_ons;
@@ -306,14 +399,9 @@ module _ (text : List ℕ) (n : Naming) (families : List Family) (kinds : List D
   pub drafts_next : (done : Declarations) (x more : Drafted) (y : Declaration) → Drafts done x → with_declaration text n x y ≡ Ok more → Drafts
       (done ++ y ∷ []) more
   unfolding with_declaration
-  drafts_next done x more (d.Cell s keyed sort) is e =
-      let one = passed (cell_name_fits text n s) (f.WrongShape s.from) (Ok x) more e in
-      subst (λ (z : Drafted). Drafts (done ++ d.Cell s keyed sort ∷ []) z) (ok_same x more one.1) (nothing_next done x (d.Cell s keyed sort)
-      (λ name. refl) refl refl refl (cell_allowed s one.0) is)
-  drafts_next done x more (d.Tag s keyed item has_value) is e =
-      let one = then_ok (item_word_fits n item) (Ok x) more e in
-      subst (λ (z : Drafted). Drafts (done ++ d.Tag s keyed item has_value ∷ []) z) (ok_same x more one.2) (nothing_next done x (d.Tag s keyed item has_value)
-      (λ name. refl) refl refl refl (tag_allowed item one.0 one.1) is)
+  drafts_next done x more (d.Cell s cells sort) is e = cell_next done x more s cells sort is e
+  drafts_next done x more (d.Tag s keyed item has_value) is e = tag_next done x more s keyed item has_value is e
+  drafts_next done x more (d.Names at s texts) is e = names_next done x more at s texts is e
   drafts_next done x more (d.Depends a b relation) is e = depend_next done x more a b relation is e
   drafts_next done x more (d.On kind actions) is e = on_next done x more kind actions is e
   drafts_next done x more (d.Source name file rate slack tags) is e = source_next done x more name file rate slack tags is e
@@ -333,6 +421,9 @@ module _ (text : List ℕ) (n : Naming) (families : List Family) (kinds : List D
 
   pub first_drafts : Drafts [] (first_draft n)
   first_drafts = record {
+    lists = tt;
+    family_lists = tt;
+    kind_lists = tt;
     kinds_are = subst (λ (l : List (List ℕ × KindHead)). Pairs (Kind []) kinds (map idle_kind l)) (sym knows.heads_are) (idle 0 kinds);
     given = tt;
     own_ons = differ_none;

@@ -12,7 +12,7 @@ use Rattle.flu_lemmas.proofs.Loops.{bind_ok}
 use Rattle.flu_lemmas.proofs.Places.{slice_get-behind}
 use Rattle.flu_lemmas.proofs.Tests.{not_true, not_both, false_if_not, true_lt, lt_true}
 use Rattle.flu_lemmas.proofs.Bytes.{bytes_itself, bytes_is}
-use Rattle.flu_model.specs.declared.limits.What.TheVariants.{Families, Kinds, Sources, Depends}
+use Rattle.flu_model.specs.declared.limits.What.TheVariants.{Families, Kinds, Lists, Sources, Depends}
 use Rattle.flu_model.specs.declared.jobs.Family.{Family}
 use Rattle.flu_text.specs.declared.written.WrittenSpan.{WrittenSpan}
 use Rattle.flu_syntax.specs.Tree.{Declaration, Declarations}
@@ -21,10 +21,12 @@ use Rattle.flu_layout.specs.Spelling.{name_of}
 use Rattle.flu_parse.specs.declared.faults.JobFault.TheVariants as f
 use Rattle.flu_parse.specs.declared.names.KindHead.{KindHead}
 use Rattle.flu_parse.specs.Faults.{◌>>◌, room, each}
-use Rattle.flu_parse.specs.Naming.{Naming, look_up, is_declared, fresh_name, with_family, with_kind, with_source, declare, no_names, naming_of}
+use Rattle.flu_parse.specs.Naming.{Naming, has_keys, look_up, is_declared, fresh_name, with_family, with_kind, with_list, with_source, declare, no_names}
+use Rattle.flu_parse.specs.Naming.{naming_of}
 use Rattle.flu_grammar.specs.Means.{AllDiffer}
 use Rattle.flu_grammar.specs.Cells.{family_name}
-use Rattle.flu_grammar.specs.Declared.{DeclaredKind, WrittenDepend, WrittenSource, names_in, families_in, kinds_in, depends_in, sources_in}
+use Rattle.flu_grammar.specs.Declared.{DeclaredKind, WrittenDepend, WrittenSource, WrittenNames, names_in, families_in, kinds_in, depends_in, sources_in}
+use Rattle.flu_grammar.specs.Declared.{lists_in, list_names}
 use Rattle.flu_grammar.proofs.Lists.{get_front, get_below, differ_none, differ_push, any_none}
 use Rattle.flu_grammar.proofs.Looks.{ok_same, passed, passes, binds}
 use Rattle.flu_grammar.proofs.Heads.{heads, heads_more}
@@ -40,22 +42,24 @@ kind_head i k = record { number = i; keyed = k.keyed; has_item = k.has_item; has
 
 -- the names with one declaration more
 abbrev pub next : List ℕ → Naming → Declaration → Naming
-next text n (d.Cell s keyed sort) = record n {
+next text n (d.Cell s cells sort) = record n {
   families = n.families ++
-      (name_of text s, record { number = length n.families; keyed = keyed; sort = sort }) ∷ [];
+      (name_of text s, record { number = length n.families; keyed = has_keys cells; sort = sort }) ∷ [];
 }
 next text n (d.Tag s keyed item has_value) = record n {
   kinds = n.kinds ++
       (name_of text s, record { number = length n.kinds; keyed = keyed; has_item = is_some item; has_value = has_value }) ∷ [];
 }
+next text n (d.Names at s texts) = record n { lists = n.lists ++ name_of text s ∷ [] }
 next text n (d.Depends a b relation) = record n { depends = n.depends + 1 }
 next text n (d.On kind actions) = n
 next text n (d.Source s file rate slack tags) = record n { sources = n.sources ++ name_of text s ∷ [] }
 
 -- what is looked at before
 abbrev pub Checks : List ℕ → Naming → Declaration → Type 0
-Checks text n (d.Cell s keyed sort) = (is_declared n (name_of text s) ≡ false) × (length n.families < 64)
+Checks text n (d.Cell s cells sort) = (is_declared n (name_of text s) ≡ false) × (length n.families < 64)
 Checks text n (d.Tag s keyed item has_value) = (is_declared n (name_of text s) ≡ false) × (length n.kinds < 64)
+Checks text n (d.Names at s texts) = (is_declared n (name_of text s) ≡ false) × (length n.lists < 64)
 Checks text n (d.Depends a b relation) = n.depends < 4096
 Checks text n (d.On kind actions) = Unit {0}
 Checks text n (d.Source s file rate slack tags) = (is_declared n (name_of text s) ≡ false) × (length n.sources < 64)
@@ -71,11 +75,13 @@ fresh_passes text n s free =
     passes (not (is_declared n (name_of text s))) (f.TwiceNamed s.from) (Ok (name_of text s)) (name_of text s) (ap not free) refl
 
 pub declare_is : (text : List ℕ) (n : Naming) (x : Declaration) (m : Naming) → declare text n x ≡ Ok m → Checks text n x × (next text n x ≡ m)
-unfolding declare with_family with_kind with_source
-declare_is text n (d.Cell s keyed sort) m e =
-    let grown = λ (name : List ℕ). record n { families = n.families ++ (name, record { number = length n.families; keyed = keyed; sort = sort }) ∷ [] } in
+unfolding declare with_family with_kind with_list with_source
+declare_is text n (d.Cell s cells sort) m e =
+    let grown = λ (name : List ℕ). record n {
+      families = n.families ++ (name, record { number = length n.families; keyed = has_keys cells; sort = sort }) ∷ [];
+    } in
     let one = bind_ok (fresh_name text n s) (λ name. room Families 64 (length n.families) >> Ok (record n {
-      families = n.families ++ (name, record { number = length n.families; keyed = keyed; sort = sort }) ∷ [];
+      families = n.families ++ (name, record { number = length n.families; keyed = has_keys cells; sort = sort }) ∷ [];
     })) m e in
     let free = fresh_is text n s one.0 one.1 in
     let two = passed (nat_lt (length n.families) 64) (f.OverLimit Families 65) (Ok (grown one.0)) m one.2 in
@@ -91,6 +97,12 @@ declare_is text n (d.Tag s keyed item has_value) m e =
     let free = fresh_is text n s one.0 one.1 in
     let two = passed (nat_lt (length n.kinds) 64) (f.OverLimit Kinds 65) (Ok (grown one.0)) m one.2 in
     ((free.0, true_lt (length n.kinds) 64 two.0), ap grown free.1 ∙ ok_same (grown one.0) m two.1)
+declare_is text n (d.Names at s texts) m e =
+    let grown = λ (name : List ℕ). record n { lists = n.lists ++ name ∷ [] } in
+    let one = bind_ok (fresh_name text n s) (λ name. room Lists 64 (length n.lists) >> Ok (record n { lists = n.lists ++ name ∷ [] })) m e in
+    let free = fresh_is text n s one.0 one.1 in
+    let two = passed (nat_lt (length n.lists) 64) (f.OverLimit Lists 65) (Ok (grown one.0)) m one.2 in
+    ((free.0, true_lt (length n.lists) 64 two.0), ap grown free.1 ∙ ok_same (grown one.0) m two.1)
 declare_is text n (d.Depends a b relation) m e =
     let one = passed (nat_lt n.depends 4096) (f.OverLimit Depends 4097) (Ok (record n { depends = n.depends + 1 })) m e in
     (true_lt n.depends 4096 one.0, ok_same (record n { depends = n.depends + 1 }) m one.1)
@@ -103,12 +115,12 @@ declare_is text n (d.Source s file rate slack tags) m e =
     ((free.0, true_lt (length n.sources) 64 two.0), ap grown free.1 ∙ ok_same (grown one.0) m two.1)
 
 declare_passes : (text : List ℕ) (n : Naming) (x : Declaration) → Checks text n x → declare text n x ≡ Ok (next text n x)
-unfolding declare with_family with_kind with_source
-declare_passes text n (d.Cell s keyed sort) h =
+unfolding declare with_family with_kind with_list with_source
+declare_passes text n (d.Cell s cells sort) h =
     binds (fresh_name text n s) (λ name. room Families 64 (length n.families) >> Ok (record n {
-      families = n.families ++ (name, record { number = length n.families; keyed = keyed; sort = sort }) ∷ [];
-    })) (name_of text s) (next text n (d.Cell s keyed sort)) (fresh_passes text n s h.0)
-    (passes (nat_lt (length n.families) 64) (f.OverLimit Families 65) (Ok (next text n (d.Cell s keyed sort))) (next text n (d.Cell s keyed sort))
+      families = n.families ++ (name, record { number = length n.families; keyed = has_keys cells; sort = sort }) ∷ [];
+    })) (name_of text s) (next text n (d.Cell s cells sort)) (fresh_passes text n s h.0)
+    (passes (nat_lt (length n.families) 64) (f.OverLimit Families 65) (Ok (next text n (d.Cell s cells sort))) (next text n (d.Cell s cells sort))
     (lt_true (length n.families) 64 h.1) refl)
 declare_passes text n (d.Tag s keyed item has_value) h =
     binds (fresh_name text n s) (λ name. room Kinds 64 (length n.kinds) >> Ok (record n {
@@ -116,6 +128,11 @@ declare_passes text n (d.Tag s keyed item has_value) h =
     })) (name_of text s) (next text n (d.Tag s keyed item has_value)) (fresh_passes text n s h.0)
     (passes (nat_lt (length n.kinds) 64) (f.OverLimit Kinds 65) (Ok (next text n (d.Tag s keyed item has_value))) (next text n (d.Tag s keyed item has_value))
     (lt_true (length n.kinds) 64 h.1) refl)
+declare_passes text n (d.Names at s texts) h =
+    binds (fresh_name text n s) (λ name. room Lists 64 (length n.lists) >> Ok (record n { lists = n.lists ++ name ∷ [] })) (name_of text s)
+    (next text n (d.Names at s texts)) (fresh_passes text n s h.0)
+    (passes (nat_lt (length n.lists) 64) (f.OverLimit Lists 65) (Ok (next text n (d.Names at s texts))) (next text n (d.Names at s texts))
+    (lt_true (length n.lists) 64 h.1) refl)
 declare_passes text n (d.Depends a b relation) h =
     passes (nat_lt n.depends 4096) (f.OverLimit Depends 4097) (Ok (next text n (d.Depends a b relation))) (next text n (d.Depends a b relation))
     (lt_true n.depends 4096 h) refl
@@ -142,10 +159,24 @@ module _ (text : List ℕ) where
   abbrev pub source_names_in : Declaration → List (List ℕ)
   source_names_in x = map (λ (w : WrittenSource). name_of text w.name) (sources_in x)
 
+  abbrev pub list_names_in : Declaration → List (List ℕ)
+  list_names_in x = map (λ (w : WrittenNames). name_of text w.name) (lists_in x)
+
+  -- the names of all lists are those that each declaration gives
+  pub lists_named : (ds : Declarations) → flat_map list_names_in ds ≡ list_names text ds
+  lists_named [] = refl
+  lists_named (d.Cell s cells sort ∷ ds) = lists_named ds
+  lists_named (d.Tag s keyed item has_value ∷ ds) = lists_named ds
+  lists_named (d.Names at s texts ∷ ds) = ap (λ (l : List (List ℕ)). name_of text s ∷ l) (lists_named ds)
+  lists_named (d.Depends a b relation ∷ ds) = lists_named ds
+  lists_named (d.On kind actions ∷ ds) = lists_named ds
+  lists_named (d.Source s file rate slack tags ∷ ds) = lists_named ds
+
   -- the names are those of these declarations
   pub record Named (done : Declarations) (n : Naming) : Type 0 where
     pub families : n.families ≡ heads family_name family_head 0 (all_families done)
     pub kinds : n.kinds ≡ heads kind_name kind_head 0 (all_kinds done)
+    pub lists : n.lists ≡ flat_map list_names_in done
     pub sources : n.sources ≡ flat_map source_names_in done
     pub depends : n.depends ≡ length (flat_map depends_in done)
     pub declared : (s : List ℕ) → is_declared n s ≡ list_any (bytes_eq s) (all_names done)
@@ -155,6 +186,7 @@ module _ (text : List ℕ) where
     pub own : AllDiffer (all_names done)
     pub few_families : length (all_families done) ≤ 64
     pub few_kinds : length (all_kinds done) ≤ 64
+    pub few_lists : length (flat_map list_names_in done) ≤ 64
     pub few_sources : length (flat_map source_names_in done) ≤ 64
     pub few_depends : length (flat_map depends_in done) ≤ 4096
 
@@ -176,28 +208,42 @@ module _ (text : List ℕ) where
       by true more = refl
       by false more = more
 
-  first_grown : (a b c e : Bool) → ((a || e) || b || c) ≡ ((a || b || c) || (e || false))
-  first_grown true b c e = refl
-  first_grown false true c true = refl
-  first_grown false true c false = refl
-  first_grown false false true true = refl
-  first_grown false false true false = refl
-  first_grown false false false true = refl
-  first_grown false false false false = refl
+  first_grown : (a b c l e : Bool) → ((a || e) || b || c || l) ≡ ((a || b || c || l) || (e || false))
+  first_grown true b c l e = refl
+  first_grown false true c l true = refl
+  first_grown false true c l false = refl
+  first_grown false false true l true = refl
+  first_grown false false true l false = refl
+  first_grown false false false true true = refl
+  first_grown false false false true false = refl
+  first_grown false false false false true = refl
+  first_grown false false false false false = refl
 
-  second_grown : (a b c e : Bool) → (a || (b || e) || c) ≡ ((a || b || c) || (e || false))
-  second_grown true b c e = refl
-  second_grown false true c e = refl
-  second_grown false false true true = refl
-  second_grown false false true false = refl
-  second_grown false false false true = refl
-  second_grown false false false false = refl
+  second_grown : (a b c l e : Bool) → (a || (b || e) || c || l) ≡ ((a || b || c || l) || (e || false))
+  second_grown true b c l e = refl
+  second_grown false true c l e = refl
+  second_grown false false true l true = refl
+  second_grown false false true l false = refl
+  second_grown false false false true true = refl
+  second_grown false false false true false = refl
+  second_grown false false false false true = refl
+  second_grown false false false false false = refl
 
-  third_grown : (a b c e : Bool) → (a || b || (c || (e || false))) ≡ ((a || b || c) || (e || false))
-  third_grown true b c e = refl
-  third_grown false true c e = refl
-  third_grown false false true e = refl
-  third_grown false false false e = refl
+  third_grown : (a b c l e : Bool) → (a || b || (c || (e || false)) || l) ≡ ((a || b || c || l) || (e || false))
+  third_grown true b c l e = refl
+  third_grown false true c l e = refl
+  third_grown false false true l e = refl
+  third_grown false false false true true = refl
+  third_grown false false false true false = refl
+  third_grown false false false false true = refl
+  third_grown false false false false false = refl
+
+  fourth_grown : (a b c l e : Bool) → (a || b || c || (l || (e || false))) ≡ ((a || b || c || l) || (e || false))
+  fourth_grown true b c l e = refl
+  fourth_grown false true c l e = refl
+  fourth_grown false false true l e = refl
+  fourth_grown false false false true e = refl
+  fourth_grown false false false false e = refl
 
   -- what one declaration more adds to a list
   pub grown : {X : Type 0} (g : Declaration → List X) (done : Declarations) (x : Declaration) → flat_map g (done ++ x ∷ []) ≡ flat_map g done ++ g x
@@ -213,22 +259,24 @@ module _ (text : List ℕ) where
       ∙ ap (list_any (bytes_eq s)) (sym (grown (names_in text) done x))
 
   pub named_next : (done : Declarations) (n : Naming) (x : Declaration) → Named done n → Named (done ++ x ∷ []) (next text n x)
-  named_next done n (d.Cell s keyed sort) named =
-      let x = d.Cell s keyed sort in
+  named_next done n (d.Cell s cells sort) named =
+      let x = d.Cell s cells sort in
       let name = name_of text s in
-      let family : Family = record { name = name; keyed = keyed; sort = sort } in
+      let family : Family = record { name = name; keyed = has_keys cells; list = None; sort = sort } in
       let many : length n.families ≡ 0 + length (all_families done) =
       (let one = ap length named.families in let two = heads_length family_name family_head 0 (all_families done) in omega (arith, one, two)) in record {
         families =
             (λ i. named.families i ++ (name, family_head (many i) family) ∷ []) ∙ sym (heads_more family_name family_head 0 (all_families done) family)
             ∙ ap (heads family_name family_head 0) (sym (grown (families_in text) done x));
         kinds = named.kinds ∙ ap (heads kind_name kind_head 0) (unchanged (kinds_in text) done x refl);
+        lists = named.lists ∙ unchanged list_names_in done x refl;
         sources = named.sources ∙ unchanged source_names_in done x refl;
         depends = named.depends ∙ ap length (unchanged depends_in done x refl);
         declared = λ t.
-            ap (λ b. b || is_some (look_up t n.kinds) || list_any (bytes_eq t) n.sources)
-            (headed_more t name (record { number = length n.families; keyed = keyed; sort = sort }) n.families)
-            ∙ first_grown (is_some (look_up t n.families)) (is_some (look_up t n.kinds)) (list_any (bytes_eq t) n.sources) (bytes_eq t name)
+            ap (λ b. b || is_some (look_up t n.kinds) || list_any (bytes_eq t) n.sources || list_any (bytes_eq t) n.lists)
+            (headed_more t name (record { number = length n.families; keyed = has_keys cells; sort = sort }) n.families)
+            ∙ first_grown (is_some (look_up t n.families)) (is_some (look_up t n.kinds)) (list_any (bytes_eq t) n.sources) (list_any (bytes_eq t) n.lists)
+            (bytes_eq t name)
             ∙ ap (λ b. b || (bytes_eq t name || false)) (named.declared t) ∙ any_grown t name done x refl;
       }
   named_next done n (d.Tag s keyed item has_value) named =
@@ -241,12 +289,29 @@ module _ (text : List ℕ) where
         kinds =
             (λ i. named.kinds i ++ (name, kind_head (many i) kind) ∷ []) ∙ sym (heads_more kind_name kind_head 0 (all_kinds done) kind)
             ∙ ap (heads kind_name kind_head 0) (sym (grown (kinds_in text) done x));
+        lists = named.lists ∙ unchanged list_names_in done x refl;
         sources = named.sources ∙ unchanged source_names_in done x refl;
         depends = named.depends ∙ ap length (unchanged depends_in done x refl);
         declared = λ t.
-            ap (λ b. is_some (look_up t n.families) || b || list_any (bytes_eq t) n.sources)
+            ap (λ b. is_some (look_up t n.families) || b || list_any (bytes_eq t) n.sources || list_any (bytes_eq t) n.lists)
             (headed_more t name (record { number = length n.kinds; keyed = keyed; has_item = is_some item; has_value = has_value }) n.kinds)
-            ∙ second_grown (is_some (look_up t n.families)) (is_some (look_up t n.kinds)) (list_any (bytes_eq t) n.sources) (bytes_eq t name)
+            ∙ second_grown (is_some (look_up t n.families)) (is_some (look_up t n.kinds)) (list_any (bytes_eq t) n.sources) (list_any (bytes_eq t) n.lists)
+            (bytes_eq t name)
+            ∙ ap (λ b. b || (bytes_eq t name || false)) (named.declared t) ∙ any_grown t name done x refl;
+      }
+  named_next done n (d.Names at s texts) named =
+      let x = d.Names at s texts in
+      let name = name_of text s in record {
+        families = named.families ∙ ap (heads family_name family_head 0) (unchanged (families_in text) done x refl);
+        kinds = named.kinds ∙ ap (heads kind_name kind_head 0) (unchanged (kinds_in text) done x refl);
+        lists = ap (λ l. l ++ name ∷ []) named.lists ∙ sym (grown list_names_in done x);
+        sources = named.sources ∙ unchanged source_names_in done x refl;
+        depends = named.depends ∙ ap length (unchanged depends_in done x refl);
+        declared = λ t.
+            ap (λ b. is_some (look_up t n.families) || is_some (look_up t n.kinds) || list_any (bytes_eq t) n.sources || b)
+            (list_any-append (bytes_eq t) n.lists (name ∷ []))
+            ∙ fourth_grown (is_some (look_up t n.families)) (is_some (look_up t n.kinds)) (list_any (bytes_eq t) n.sources) (list_any (bytes_eq t) n.lists)
+            (bytes_eq t name)
             ∙ ap (λ b. b || (bytes_eq t name || false)) (named.declared t) ∙ any_grown t name done x refl;
       }
   named_next done n (d.Depends a b relation) named =
@@ -256,6 +321,7 @@ module _ (text : List ℕ) where
       let before = named.depends in record {
         families = named.families ∙ ap (heads family_name family_head 0) (unchanged (families_in text) done x refl);
         kinds = named.kinds ∙ ap (heads kind_name kind_head 0) (unchanged (kinds_in text) done x refl);
+        lists = named.lists ∙ unchanged list_names_in done x refl;
         sources = named.sources ∙ unchanged source_names_in done x refl;
         depends = omega (arith, more, count, before);
         declared = λ t. named.declared t ∙ ap (list_any (bytes_eq t)) (unchanged (names_in text) done x refl);
@@ -264,6 +330,7 @@ module _ (text : List ℕ) where
       let x = d.On kind actions in record {
         families = named.families ∙ ap (heads family_name family_head 0) (unchanged (families_in text) done x refl);
         kinds = named.kinds ∙ ap (heads kind_name kind_head 0) (unchanged (kinds_in text) done x refl);
+        lists = named.lists ∙ unchanged list_names_in done x refl;
         sources = named.sources ∙ unchanged source_names_in done x refl;
         depends = named.depends ∙ ap length (unchanged depends_in done x refl);
         declared = λ t. named.declared t ∙ ap (list_any (bytes_eq t)) (unchanged (names_in text) done x refl);
@@ -273,11 +340,14 @@ module _ (text : List ℕ) where
       let name = name_of text s in record {
         families = named.families ∙ ap (heads family_name family_head 0) (unchanged (families_in text) done x refl);
         kinds = named.kinds ∙ ap (heads kind_name kind_head 0) (unchanged (kinds_in text) done x refl);
+        lists = named.lists ∙ unchanged list_names_in done x refl;
         sources = ap (λ l. l ++ name ∷ []) named.sources ∙ sym (grown source_names_in done x);
         depends = named.depends ∙ ap length (unchanged depends_in done x refl);
         declared = λ t.
-            ap (λ b. is_some (look_up t n.families) || is_some (look_up t n.kinds) || b) (list_any-append (bytes_eq t) n.sources (name ∷ []))
-            ∙ third_grown (is_some (look_up t n.families)) (is_some (look_up t n.kinds)) (list_any (bytes_eq t) n.sources) (bytes_eq t name)
+            ap (λ b. is_some (look_up t n.families) || is_some (look_up t n.kinds) || b || list_any (bytes_eq t) n.lists)
+            (list_any-append (bytes_eq t) n.sources (name ∷ []))
+            ∙ third_grown (is_some (look_up t n.families)) (is_some (look_up t n.kinds)) (list_any (bytes_eq t) n.sources) (list_any (bytes_eq t) n.lists)
+            (bytes_eq t name)
             ∙ ap (λ b. b || (bytes_eq t name || false)) (named.declared t) ∙ any_grown t name done x refl;
       }
 
@@ -292,8 +362,8 @@ module _ (text : List ℕ) where
       (all_names done) i name none here)) own
 
   pub own_next : (done : Declarations) (n : Naming) (x : Declaration) → Named done n → Checks text n x → OwnNames done → OwnNames (done ++ x ∷ [])
-  own_next done n (d.Cell s keyed sort) named h own =
-      let x = d.Cell s keyed sort in
+  own_next done n (d.Cell s cells sort) named h own =
+      let x = d.Cell s cells sort in
       let many = ap length named.families in
       let heads_many = heads_length family_name family_head 0 (all_families done) in
       let more = ap length (grown (families_in text) done x) in
@@ -302,6 +372,7 @@ module _ (text : List ℕ) where
         own = subst (λ (l : List (List ℕ)). AllDiffer l) (sym (grown (names_in text) done x)) (name_new done n (name_of text s) named h.0 own.own);
         few_families = omega (arith, many, heads_many, more, count, room_left);
         few_kinds = subst (λ (l : List DeclaredKind). length l ≤ 64) (unchanged (kinds_in text) done x refl) own.few_kinds;
+        few_lists = subst (λ (l : List (List ℕ)). length l ≤ 64) (unchanged list_names_in done x refl) own.few_lists;
         few_sources = subst (λ (l : List (List ℕ)). length l ≤ 64) (unchanged source_names_in done x refl) own.few_sources;
         few_depends = subst (λ (l : List WrittenDepend). length l ≤ 4096) (unchanged depends_in done x refl) own.few_depends;
       }
@@ -315,6 +386,20 @@ module _ (text : List ℕ) where
         own = subst (λ (l : List (List ℕ)). AllDiffer l) (sym (grown (names_in text) done x)) (name_new done n (name_of text s) named h.0 own.own);
         few_families = subst (λ (l : List Family). length l ≤ 64) (unchanged (families_in text) done x refl) own.few_families;
         few_kinds = omega (arith, many, heads_many, more, count, room_left);
+        few_lists = subst (λ (l : List (List ℕ)). length l ≤ 64) (unchanged list_names_in done x refl) own.few_lists;
+        few_sources = subst (λ (l : List (List ℕ)). length l ≤ 64) (unchanged source_names_in done x refl) own.few_sources;
+        few_depends = subst (λ (l : List WrittenDepend). length l ≤ 4096) (unchanged depends_in done x refl) own.few_depends;
+      }
+  own_next done n (d.Names at s texts) named h own =
+      let x = d.Names at s texts in
+      let many = ap length named.lists in
+      let more = ap length (grown list_names_in done x) in
+      let count = length-append (flat_map list_names_in done) (list_names_in x) in
+      let room_left = h.1 in record {
+        own = subst (λ (l : List (List ℕ)). AllDiffer l) (sym (grown (names_in text) done x)) (name_new done n (name_of text s) named h.0 own.own);
+        few_families = subst (λ (l : List Family). length l ≤ 64) (unchanged (families_in text) done x refl) own.few_families;
+        few_kinds = subst (λ (l : List DeclaredKind). length l ≤ 64) (unchanged (kinds_in text) done x refl) own.few_kinds;
+        few_lists = omega (arith, many, more, count, room_left);
         few_sources = subst (λ (l : List (List ℕ)). length l ≤ 64) (unchanged source_names_in done x refl) own.few_sources;
         few_depends = subst (λ (l : List WrittenDepend). length l ≤ 4096) (unchanged depends_in done x refl) own.few_depends;
       }
@@ -326,6 +411,7 @@ module _ (text : List ℕ) where
         own = subst (λ (l : List (List ℕ)). AllDiffer l) (unchanged (names_in text) done x refl) own.own;
         few_families = subst (λ (l : List Family). length l ≤ 64) (unchanged (families_in text) done x refl) own.few_families;
         few_kinds = subst (λ (l : List DeclaredKind). length l ≤ 64) (unchanged (kinds_in text) done x refl) own.few_kinds;
+        few_lists = subst (λ (l : List (List ℕ)). length l ≤ 64) (unchanged list_names_in done x refl) own.few_lists;
         few_sources = subst (λ (l : List (List ℕ)). length l ≤ 64) (unchanged source_names_in done x refl) own.few_sources;
         few_depends = omega (arith, many, more, count, h);
       }
@@ -334,6 +420,7 @@ module _ (text : List ℕ) where
         own = subst (λ (l : List (List ℕ)). AllDiffer l) (unchanged (names_in text) done x refl) own.own;
         few_families = subst (λ (l : List Family). length l ≤ 64) (unchanged (families_in text) done x refl) own.few_families;
         few_kinds = subst (λ (l : List DeclaredKind). length l ≤ 64) (unchanged (kinds_in text) done x refl) own.few_kinds;
+        few_lists = subst (λ (l : List (List ℕ)). length l ≤ 64) (unchanged list_names_in done x refl) own.few_lists;
         few_sources = subst (λ (l : List (List ℕ)). length l ≤ 64) (unchanged source_names_in done x refl) own.few_sources;
         few_depends = subst (λ (l : List WrittenDepend). length l ≤ 4096) (unchanged depends_in done x refl) own.few_depends;
       }
@@ -346,6 +433,7 @@ module _ (text : List ℕ) where
         own = subst (λ (l : List (List ℕ)). AllDiffer l) (sym (grown (names_in text) done x)) (name_new done n (name_of text s) named h.0 own.own);
         few_families = subst (λ (l : List Family). length l ≤ 64) (unchanged (families_in text) done x refl) own.few_families;
         few_kinds = subst (λ (l : List DeclaredKind). length l ≤ 64) (unchanged (kinds_in text) done x refl) own.few_kinds;
+        few_lists = subst (λ (l : List (List ℕ)). length l ≤ 64) (unchanged list_names_in done x refl) own.few_lists;
         few_sources = omega (arith, many, more, count, room_left);
         few_depends = subst (λ (l : List WrittenDepend). length l ≤ 4096) (unchanged depends_in done x refl) own.few_depends;
       }
@@ -381,8 +469,8 @@ module _ (text : List ℕ) where
       omega (arith, place, below))))
 
   checks_pass : (done rest : Declarations) (n : Naming) (x : Declaration) → Named done n → OwnNames (done ++ x ∷ rest) → Checks text n x
-  checks_pass done rest n (d.Cell s keyed sort) named own =
-      let x = d.Cell s keyed sort in
+  checks_pass done rest n (d.Cell s cells sort) named own =
+      let x = d.Cell s cells sort in
       let many = ap length named.families in
       let heads_many = heads_length family_name family_head 0 (all_families done) in
       let more = longer (families_in text) done rest x in
@@ -395,6 +483,12 @@ module _ (text : List ℕ) where
       let more = longer (kinds_in text) done rest x in
       let few = own.few_kinds in
       (name_free done rest n x (name_of text s) refl named own.own, omega (arith, many, heads_many, more, few))
+  checks_pass done rest n (d.Names at s texts) named own =
+      let x = d.Names at s texts in
+      let many = ap length named.lists in
+      let more = longer list_names_in done rest x in
+      let few = own.few_lists in
+      (name_free done rest n x (name_of text s) refl named own.own, omega (arith, many, more, few))
   checks_pass done rest n (d.Depends a b relation) named own =
       let many = named.depends in
       let more = longer depends_in done rest (d.Depends a b relation) in
@@ -439,10 +533,17 @@ module _ (text : List ℕ) where
       )
 
   pub none_named : Named [] no_names
-  none_named = record { families = refl; kinds = refl; sources = refl; depends = refl; declared = λ s. refl }
+  none_named = record { families = refl; kinds = refl; lists = refl; sources = refl; depends = refl; declared = λ s. refl }
 
   pub none_own : OwnNames []
-  none_own = record { own = differ_none; few_families = omega arith; few_kinds = omega arith; few_sources = omega arith; few_depends = omega arith }
+  none_own = record {
+    own = differ_none;
+    few_families = omega arith;
+    few_kinds = omega arith;
+    few_lists = omega arith;
+    few_sources = omega arith;
+    few_depends = omega arith;
+  }
 
   pub naming_is : (ds : Declarations) (n : Naming) → naming_of text ds ≡ Ok n → Named ds n × OwnNames ds
   naming_is ds n e = all_named [] ds no_names n e none_named none_own

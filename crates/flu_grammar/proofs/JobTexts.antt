@@ -1,5 +1,5 @@
 -- The job of a text is read exactly where the text is that job's.
-use Rattle.std.proofs.Common.{◌≡◌, ◌⊎◌, inl, inr, ℕ, zero, suc, ◌+◌, ◌≤◌, List, [], ◌∷◌, ◌++◌, map, length}
+use Rattle.std.proofs.Common.{◌≡◌, ◌⊎◌, inl, inr, ℕ, zero, suc, ◌+◌, List, [], ◌∷◌, ◌++◌, map, length}
 use Rattle.std.proofs.Common.{Option, Some, None, Ok, Err, refl, sym, ap, subst, ◌∙◌, length-append, arith}
 use Rattle.std.specs.Prelude.{nat_le, slice_get, is_some}
 use Rattle.std.specs.List.{flat_map}
@@ -16,7 +16,7 @@ use Rattle.flu_model.specs.declared.jobs.Family.{Family}
 use Rattle.flu_model.specs.declared.jobs.TagRef.{TagRef}
 use Rattle.flu_model.specs.declared.jobs.Source.{Source}
 use Rattle.flu_model.specs.declared.events.Tag.{Tag}
-use Rattle.flu_model.specs.Erasure.{Job}
+use Rattle.flu_model.specs.Erasure.{PlainKind, Job}
 use Rattle.flu_model.specs.Listing.{tag, listed_keys, listed_tags, tags_of_source, itags_of_sources}
 use Rattle.flu_model.specs.Rules.{is_version}
 use Rattle.flu_model.specs.Texts.{Unit as TimeUnit}
@@ -31,22 +31,27 @@ use Rattle.flu_syntax.specs.Machine.{Verdict, verdict, Found as IsVerdict, Unexp
 use Rattle.flu_layout.specs.Spelling.{name_of, written_value}
 use Rattle.flu_parse.specs.declared.faults.JobFault.TheVariants as f
 use Rattle.flu_parse.specs.Faults.{Found, ◌>>=◌}
-use Rattle.flu_parse.specs.Naming.{Naming, in_version, family, naming_of}
+use Rattle.flu_parse.specs.Lists.{listed_families, listed_kinds}
+use Rattle.flu_parse.specs.Naming.{Naming, in_version, has_keys, family, naming_of}
 use Rattle.flu_parse.specs.Resolving.{draft_of, version_of, iso_of, job_with, resolved}
 use Rattle.flu_parse.specs.Reading.{text_in, found_tokens, tokens_in, found_job, written_in, job_in}
-use Rattle.flu_grammar.specs.Means.{AllDiffer}
+use Rattle.flu_grammar.specs.Means.{AllDiffer, IfWritten}
 use Rattle.flu_grammar.specs.Cells.{family_name}
-use Rattle.flu_grammar.specs.Declared.{DeclaredKind, names_in, families_in, kinds_in, depends_in, ons_in, sources_in}
+use Rattle.flu_grammar.specs.Declared.{DeclaredKind, WrittenNames, names_in, families_in, kinds_in, depends_in, ons_in, sources_in, lists_in, list_names}
+use Rattle.flu_grammar.specs.Declared.{family_lists_in, kind_lists_in}
 use Rattle.flu_grammar.specs.Sources.{MeansDepend, MeansSource}
-use Rattle.flu_grammar.specs.Jobs.{MeansVersion, MeansDeclaredKind, MeansJob, IsJobText}
+use Rattle.flu_grammar.specs.Jobs.{MeansVersion, MeansNames, MeansList, without_list, MeansDeclaredKind, MeansJob, IsJobText}
 use Rattle.flu_grammar.specs.Laws.{JobsAreGrammar, TextsHaveOneJob}
 use Rattle.flu_grammar.proofs.Lists.{differ_none, differ_cons, differ_tail, differ_head, get_behind, pairs_left, pairs_length}
 use Rattle.flu_grammar.proofs.Looks.{ok_same, ok_ok, passed, passes, binds}
 use Rattle.flu_grammar.proofs.JobCells.{families_back, KnowFamilies}
-use Rattle.flu_grammar.proofs.JobNames.{kind_name, all_names, all_families, all_kinds, source_names_in, Named, OwnNames, naming_is, naming_found}
+use Rattle.flu_grammar.proofs.JobNames.{kind_name, all_names, all_families, all_kinds, source_names_in, list_names_in, lists_named, Named, OwnNames}
+use Rattle.flu_grammar.proofs.JobNames.{naming_is, naming_found}
+use Rattle.flu_grammar.proofs.JobLists.{family_list, families_listed, families_kept, families_again, kind_list, kinds_listed, kinds_so, as_many_kinds}
+use Rattle.flu_grammar.proofs.JobLists.{kinds_again}
 use Rattle.flu_grammar.proofs.JobSources.{KnowKinds, part_count}
 use Rattle.flu_grammar.proofs.JobDrafts.{itag_count, drafts_are}
-use Rattle.flu_grammar.proofs.JobFound.{Aim, drafted}
+use Rattle.flu_grammar.proofs.JobFound.{Parts, Aim, drafted}
 use Rattle.flu_grammar.proofs.Units.{iso_is, iso_found}
 
 -- ---- the names of families and of kinds are among all
@@ -99,24 +104,46 @@ module _ (text : List ℕ) {X : Type 0} (name : X → List ℕ) (g : Declaration
       differ_in y ds (gives y) own (among_differ gives ds (behind_names (names_in text y) ds own)) (λ i s e. among gives ds i s e)
 
 families_one : (text : List ℕ) (y : Declaration) → GivesOne text family_name (families_in text) y
-families_one text (d.Cell s keyed sort) = inr (record { name = name_of text s; keyed = keyed; sort = sort }, refl, refl)
+families_one text (d.Cell s cells sort) = inr (record { name = name_of text s; keyed = has_keys cells; list = None; sort = sort }, refl, refl)
 families_one text (d.Tag s keyed item has_value) = inl refl
+families_one text (d.Names at s texts) = inl refl
 families_one text (d.Depends a b relation) = inl refl
 families_one text (d.On kind actions) = inl refl
 families_one text (d.Source s file rate slack tags) = inl refl
 
 kinds_one : (text : List ℕ) (y : Declaration) → GivesOne text kind_name (kinds_in text) y
-kinds_one text (d.Cell s keyed sort) = inl refl
+kinds_one text (d.Cell s cells sort) = inl refl
 kinds_one text (d.Tag s keyed item has_value) =
     inr (record { name = name_of text s; keyed = keyed; has_item = is_some item; has_value = has_value }, refl, refl)
+kinds_one text (d.Names at s texts) = inl refl
 kinds_one text (d.Depends a b relation) = inl refl
 kinds_one text (d.On kind actions) = inl refl
 kinds_one text (d.Source s file rate slack tags) = inl refl
+
+lists_one : (text : List ℕ) (y : Declaration) → GivesOne text (λ (l : WrittenNames). name_of text l.name) lists_in y
+lists_one text (d.Cell s cells sort) = inl refl
+lists_one text (d.Tag s keyed item has_value) = inl refl
+lists_one text (d.Names at s texts) = inr (record { name = s; texts = texts }, refl, refl)
+lists_one text (d.Depends a b relation) = inl refl
+lists_one text (d.On kind actions) = inl refl
+lists_one text (d.Source s file rate slack tags) = inl refl
+
+-- no list is said of a family where it is declared
+without_lists : (text : List ℕ) (ds : Declarations) → map without_list (all_families text ds) ≡ all_families text ds
+without_lists text [] = refl
+without_lists text (d.Cell s cells sort ∷ ds) =
+    ap (λ (l : List Family). record { name = name_of text s; keyed = has_keys cells; list = None; sort = sort } ∷ l) (without_lists text ds)
+without_lists text (d.Tag s keyed item has_value ∷ ds) = without_lists text ds
+without_lists text (d.Names at s texts ∷ ds) = without_lists text ds
+without_lists text (d.Depends a b relation ∷ ds) = without_lists text ds
+without_lists text (d.On kind actions ∷ ds) = without_lists text ds
+without_lists text (d.Source s file rate slack tags ∷ ds) = without_lists text ds
 
 pub know_families : (text : List ℕ) (ds : Declarations) (n : Naming) → Named text ds n → AllDiffer (all_names text ds) → KnowFamilies n (all_families text ds)
 know_families text ds n named own = record {
   heads_are = named.families;
   differ = among_differ text family_name (families_in text) (families_one text) ds own;
+  without = without_lists text ds;
 }
 
 pub kinds_differ : (text : List ℕ) (ds : Declarations) → AllDiffer (all_names text ds) → AllDiffer (map kind_name (all_kinds text ds))
@@ -124,7 +151,10 @@ kinds_differ text ds own = among_differ text kind_name (kinds_in text) (kinds_on
 
 -- the same names with a version
 pub families_in_version : (n : Naming) (version : ℕ) (families : List Family) → KnowFamilies n families → KnowFamilies (in_version n version) families
-families_in_version n version families know = record { heads_are = know.heads_are; differ = know.differ }
+families_in_version n version families know = record { heads_are = know.heads_are; differ = know.differ; without = know.without }
+
+lists_differ : (text : List ℕ) (ds : Declarations) → AllDiffer (all_names text ds) → AllDiffer (list_names text ds)
+lists_differ text ds own = among_differ text (λ (l : WrittenNames). name_of text l.name) lists_in (lists_one text) ds own
 
 pub kinds_in_version : (n : Naming) (version : ℕ) (kinds : List DeclaredKind) → KnowKinds n kinds → KnowKinds (in_version n version) kinds
 kinds_in_version n version kinds know = record { heads_are = know.heads_are; differ = know.differ }
@@ -136,11 +166,46 @@ know_kinds text ds n named own = record { heads_are = named.kinds; differ = kind
 
 pub as_many_sources : (text : List ℕ) (ds : Declarations) → length (flat_map (source_names_in text) ds) ≡ length (flat_map sources_in ds)
 as_many_sources text [] = refl
-as_many_sources text (d.Cell s keyed sort ∷ ds) = as_many_sources text ds
+as_many_sources text (d.Cell s cells sort ∷ ds) = as_many_sources text ds
 as_many_sources text (d.Tag s keyed item has_value ∷ ds) = as_many_sources text ds
+as_many_sources text (d.Names at s texts ∷ ds) = as_many_sources text ds
 as_many_sources text (d.Depends a b relation ∷ ds) = as_many_sources text ds
 as_many_sources text (d.On kind actions ∷ ds) = as_many_sources text ds
 as_many_sources text (d.Source s file rate slack tags ∷ ds) = ap (λ (m : ℕ). suc m) (as_many_sources text ds)
+
+pub as_many_lists : (text : List ℕ) (ds : Declarations) → length (flat_map (list_names_in text) ds) ≡ length (flat_map lists_in ds)
+as_many_lists text ds = ap length (lists_named text ds) ∙ length-map (flat_map lists_in ds) (λ (l : WrittenNames). name_of text l.name)
+
+-- each family, and each kind, has a list or has none
+as_many_families : (text : List ℕ) (ds : Declarations) → length (flat_map family_lists_in ds) ≡ length (all_families text ds)
+as_many_families text [] = refl
+as_many_families text (d.Cell s cells sort ∷ ds) = ap (λ (m : ℕ). suc m) (as_many_families text ds)
+as_many_families text (d.Tag s keyed item has_value ∷ ds) = as_many_families text ds
+as_many_families text (d.Names at s texts ∷ ds) = as_many_families text ds
+as_many_families text (d.Depends a b relation ∷ ds) = as_many_families text ds
+as_many_families text (d.On kind actions ∷ ds) = as_many_families text ds
+as_many_families text (d.Source s file rate slack tags ∷ ds) = as_many_families text ds
+
+as_many_kinds_declared : (text : List ℕ) (ds : Declarations) → length (flat_map kind_lists_in ds) ≡ length (all_kinds text ds)
+as_many_kinds_declared text [] = refl
+as_many_kinds_declared text (d.Cell s cells sort ∷ ds) = as_many_kinds_declared text ds
+as_many_kinds_declared text (d.Tag s keyed item has_value ∷ ds) = ap (λ (m : ℕ). suc m) (as_many_kinds_declared text ds)
+as_many_kinds_declared text (d.Names at s texts ∷ ds) = as_many_kinds_declared text ds
+as_many_kinds_declared text (d.Depends a b relation ∷ ds) = as_many_kinds_declared text ds
+as_many_kinds_declared text (d.On kind actions ∷ ds) = as_many_kinds_declared text ds
+as_many_kinds_declared text (d.Source s file rate slack tags ∷ ds) = as_many_kinds_declared text ds
+
+-- what a declared kind is does not depend on the list that names its items
+kind_with : (text : List ℕ) (version : ℕ) (families : List Family) (ds : Declarations) (declared : DeclaredKind) (k : PlainKind) (l : Option ℕ)
+    → MeansDeclaredKind text version families ds declared k → MeansDeclaredKind text version families ds declared (record k { list = l })
+kind_with text version families ds declared k l is = record {
+  name = is.name;
+  keyed = is.keyed;
+  has_item = is.has_item;
+  has_value = is.has_value;
+  actions = is.actions;
+  few_actions = is.few_actions;
+}
 
 tags_counted : (ts : List TagRef) → length (flat_map listed_tags ts) ≡ total part_count ts
 tags_counted [] = refl
@@ -198,15 +263,38 @@ job_means text written job e =
     let know = families_in_version n two.0 families (know_families text ds n named own.own) in
     let knows = kinds_in_version n two.0 kinds (know_kinds text ds n named own.own) in
     let is = drafts_are text m families kinds know knows ds x three.1 in
-    let the_families : map family n.families ≡ families = ap (map family) named.families ∙ families_back 0 families in
+    let the_families : map family n.families ≡ families =
+    ap (map family) named.families ∙ families_back 0 families ∙ without_lists text ds in
+    let job_families = listed_families (map family n.families) x.family_lists in
+    let job_kinds = listed_kinds x.kinds x.kind_lists in
+    let without : map without_list job_families ≡ families =
+    families_kept (map family n.families) x.family_lists ∙ ap (map without_list) the_families ∙ without_lists text ds in
     let kinds_many = pairs_length (MeansDeclaredKind text two.0 families ds) kinds x.kinds is.kinds_are in
+    let names_are : n.lists ≡ list_names text ds = named.lists ∙ lists_named text ds in
+    let family_lists = subst (λ (l : List (List ℕ)). Pairs (IfWritten (MeansList text l)) (flat_map family_lists_in ds) x.family_lists) names_are
+    is.family_lists in
+    let kind_lists = subst (λ (l : List (List ℕ)). Pairs (IfWritten (MeansList text l)) (flat_map kind_lists_in ds) x.kind_lists) names_are
+    is.kind_lists in
+    let families_listed_many : length x.family_lists ≡ length (map family n.families) =
+    pairs_length (IfWritten (MeansList text (list_names text ds))) (flat_map family_lists_in ds) x.family_lists family_lists ∙ as_many_families text ds
+    ∙ ap length (sym the_families) in
+    let kinds_listed_many : length x.kind_lists ≡ length x.kinds =
+    pairs_length (IfWritten (MeansList text (list_names text ds))) (flat_map kind_lists_in ds) x.kind_lists kind_lists ∙ as_many_kinds_declared text ds
+    ∙ sym kinds_many in
+    let lists_many = pairs_length (MeansNames text) (flat_map lists_in ds) x.lists is.lists in
+    let listed_many = as_many_lists text ds in
+    let families_many : length job_families ≡ length families =
+    sym (length-map job_families without_list) ∙ ap length without in
+    let job_kinds_many = as_many_kinds x.kinds x.kind_lists in
     let depends_many = pairs_length (MeansDepend text kinds) (flat_map depends_in ds) x.depends is.depends in
     let sources_many = pairs_length (MeansSource text kinds) (flat_map sources_in ds) x.sources is.sources in
     let named_many = as_many_sources text ds in
     let itags = itags_counted 0 x.sources in
     let drafted_itags = is.itags in
     let few_itags = is.few_itags in
+    let few_families = own.few_families in
     let few_kinds = own.few_kinds in
+    let few_lists = own.few_lists in
     let few_depends = own.few_depends in
     let few_sources = own.few_sources in
     let means : MeansJob text written (job_with unit.0 m x) = record {
@@ -214,15 +302,24 @@ job_means text written job e =
       iso = iso_is text two.0 written.head unit.0 unit.1;
       allowed = is.allowed;
       own_names = own.own;
-      families = the_families;
-      kinds = subst (λ (l : List Family). Pairs (MeansDeclaredKind text two.0 l ds) kinds x.kinds) (sym the_families) is.kinds_are;
+      lists = is.lists;
+      families = without;
+      family_lists =
+          subst (λ (l : List (Option ℕ)). Pairs (IfWritten (MeansList text (list_names text ds))) (flat_map family_lists_in ds) l)
+          (sym (families_listed (map family n.families) x.family_lists families_listed_many)) family_lists;
+      kinds =
+          kinds_so (MeansDeclaredKind text two.0 families ds) (kind_with text two.0 families ds) kinds x.kinds x.kind_lists is.kinds_are;
+      kind_lists =
+          subst (λ (l : List (Option ℕ)). Pairs (IfWritten (MeansList text (list_names text ds))) (flat_map kind_lists_in ds) l)
+          (sym (kinds_listed x.kinds x.kind_lists kinds_listed_many)) kind_lists;
       known_ons = λ i name at. (let got = pairs_left _ (flat_map (ons_in text) ds) x.given is.given i name at in (got.0, got.2));
       own_ons = is.own_ons;
       depends = is.depends;
       sources = is.sources;
       own_files = is.own_files;
-      few_families = subst (λ (l : List Family). length l ≤ 64) (sym the_families) own.few_families;
-      few_kinds = omega (arith, kinds_many, few_kinds);
+      few_lists = omega (arith, lists_many, listed_many, few_lists);
+      few_families = omega (arith, families_many, few_families);
+      few_kinds = omega (arith, job_kinds_many, kinds_many, few_kinds);
       few_depends = omega (arith, depends_many, few_depends);
       few_sources = omega (arith, sources_many, named_many, few_sources);
       few_itags = omega (arith, itags, drafted_itags, few_itags);
@@ -235,7 +332,12 @@ job_found text written job is =
     let ds = written.declarations in
     let families = all_families text ds in
     let kinds = all_kinds text ds in
-    let kinds_many = pairs_length (MeansDeclaredKind text job.version job.families ds) kinds job.kinds is.kinds in
+    let kinds_many = pairs_length (MeansDeclaredKind text job.version families ds) kinds job.kinds is.kinds in
+    let lists_many = pairs_length (MeansNames text) (flat_map lists_in ds) job.lists is.lists in
+    let listed_many = as_many_lists text ds in
+    let families_many : length job.families ≡ length families = sym (length-map job.families without_list) ∙ ap length is.families in
+    let few_families = is.few_families in
+    let few_lists = is.few_lists in
     let depends_many = pairs_length (MeansDepend text kinds) (flat_map depends_in ds) job.depends is.depends in
     let sources_many = pairs_length (MeansSource text kinds) (flat_map sources_in ds) job.sources is.sources in
     let named_many = as_many_sources text ds in
@@ -246,8 +348,9 @@ job_found text written job is =
     let itags = itags_counted 0 job.sources in
     let own : OwnNames text ds = record {
       own = is.own_names;
-      few_families = subst (λ (l : List Family). length l ≤ 64) is.families is.few_families;
+      few_families = omega (arith, families_many, few_families);
       few_kinds = omega (arith, kinds_many, few_kinds);
+      few_lists = omega (arith, lists_many, listed_many, few_lists);
       few_sources = omega (arith, sources_many, named_many, few_sources);
       few_depends = omega (arith, depends_many, few_depends);
     } in
@@ -256,9 +359,26 @@ job_found text written job is =
     let m = in_version n job.version in
     let know = families_in_version n job.version families (know_families text ds n names.2 own.own) in
     let knows = kinds_in_version n job.version kinds (know_kinds text ds n names.2 own.own) in
-    let aim : Aim text m families kinds know knows ds job.kinds job.depends job.sources = record {
+    let names_are : n.lists ≡ list_names text ds = names.2.lists ∙ lists_named text ds in
+    let parts : Parts = record {
+      lists = job.lists;
+      family_lists = map family_list job.families;
+      kind_lists = map kind_list job.kinds;
+      kinds = job.kinds;
+      depends = job.depends;
+      sources = job.sources;
+    } in
+    let aim : Aim text m families kinds know knows ds parts = record {
       allowed = is.allowed;
-      kinds_are = subst (λ (l : List Family). Pairs (MeansDeclaredKind text job.version l ds) kinds job.kinds) is.families is.kinds;
+      own_lists = subst (λ (l : List (List ℕ)). AllDiffer l) (sym names_are) (lists_differ text ds own.own);
+      lists_are = is.lists;
+      family_lists_are =
+          subst (λ (l : List (List ℕ)). Pairs (IfWritten (MeansList text l)) (flat_map family_lists_in ds) (map family_list job.families)) (sym names_are)
+          is.family_lists;
+      kind_lists_are =
+          subst (λ (l : List (List ℕ)). Pairs (IfWritten (MeansList text l)) (flat_map kind_lists_in ds) (map kind_list job.kinds)) (sym names_are)
+          is.kind_lists;
+      kinds_are = is.kinds;
       known_ons = is.known_ons;
       own_ons = is.own_ons;
       depends_are = is.depends;
@@ -266,13 +386,20 @@ job_found text written job is =
       own_files = is.own_files;
       few_itags = omega (arith, itags, few_itags);
     } in
-    let draft = drafted text m families kinds know knows ds job.kinds job.depends job.sources aim in
-    let the_families : map family n.families ≡ job.families = ap (map family) names.2.families ∙ families_back 0 families ∙ sym is.families in
-    let same : job_with job.iso m draft.draft ≡ job = λ i. record {
+    let draft = drafted text m families kinds know knows ds parts aim in
+    let x = draft.draft in
+    let the_families : map family n.families ≡ map without_list job.families =
+    ap (map family) names.2.families ∙ families_back 0 families ∙ without_lists text ds ∙ sym is.families in
+    let job_families : listed_families (map family n.families) x.family_lists ≡ job.families =
+    (λ i. listed_families (the_families i) (draft.family_lists_are i)) ∙ families_again job.families in
+    let job_kinds : listed_kinds x.kinds x.kind_lists ≡ job.kinds =
+    ap (listed_kinds x.kinds) draft.kind_lists_are ∙ kinds_again x.kinds job.kinds draft.kinds_are draft.kinds_many in
+    let same : job_with job.iso m x ≡ job = λ i. record {
       version = job.version;
       iso = job.iso;
-      families = the_families i;
-      kinds = draft.kinds_are i;
+      lists = draft.lists_are i;
+      families = job_families i;
+      kinds = job_kinds i;
       depends = draft.depends_are i;
       sources = draft.sources_are i;
     } in

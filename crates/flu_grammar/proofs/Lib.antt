@@ -17,6 +17,7 @@ pub mod JobTerms
 pub mod JobTemplates
 pub mod JobActions
 pub mod JobNames
+pub mod JobLists
 pub mod JobSources
 pub mod JobDrafts
 pub mod JobFound

@@ -1,22 +1,23 @@
--- The normal form of the job of a text is short: an expression is printed with a few bytes for each of its tokens, and all else has the
--- bounds that the rules of a job give.
+-- The normal form of the job of a text is short: an expression is printed with a few bytes for each of its tokens, a list of names with a few
+-- for each byte of its texts, and all else has the bounds that the rules of a job give.
 use Rattle.std.proofs.Common.{◌≡◌, ◌<◌, ◌≤◌, ◌+◌, ◌*◌, ◌^◌, ◌-◌, ℕ, suc, ℤ, pos, negsuc, Bool, true, false, cond, Option, Some, None, List, [], ◌∷◌, ◌++◌, map}
-use Rattle.std.proofs.Common.{length, refl, sym, ap, subst, ◌∙◌, arith, length-append}
-use Rattle.std.specs.Prelude.{nat_lt, nat_le, ◌==◌, ◌&&◌, slice_get, codes, option_map, ⊤}
+use Rattle.std.proofs.Common.{length, drop, refl, sym, ap, subst, ◌∙◌, arith, length-append}
+use Rattle.std.specs.Prelude.{nat_lt, nat_le, ◌==◌, ◌&&◌, max, slice_get, slice_range, codes, option_map, ⊤}
 use Rattle.std.specs.Fmt.{decimal, signed_decimal}
 use Rattle.std.specs.List.{list_all, flat_map, All}
 use Rattle.std.specs.Str.{bytes_eq}
 use Rattle.std.specs.Cmp.Lexicographic.{bytes_decides}
 use Rattle.std.proofs.lemmas.Fmt.{length-decimal-le_wide}
-use Rattle.std.proofs.lemmas.List.{length-map}
+use Rattle.std.proofs.lemmas.List.{length-map, length-take}
 use Rattle.std.proofs.lemmas.List.FromFn.{length-range_with_len}
 use Rattle.std.proofs.lemmas.Option.{slice_get-map}
 use Rattle.flu_lemmas.specs.Items.{Pairs}
+use Rattle.flu_lemmas.specs.Spans.{is_boundary}
 use Rattle.flu_lemmas.specs.Totals.{total}
 use Rattle.flu_lemmas.proofs.Elements.{passes_at}
 use Rattle.flu_lemmas.proofs.NoTotal.{total_none}
 use Rattle.flu_lemmas.proofs.Tests.{and_left, and_right, true_lt, true_le}
-use Rattle.flu_lemmas.proofs.Totals.{total-flat_map, total-plus}
+use Rattle.flu_lemmas.proofs.Totals.{total-append, total-flat_map, total-plus}
 use Rattle.flu_names.specs.Names.{is_name}
 use Rattle.flu_model.specs.declared.events.Tag.{Tag}
 use Rattle.flu_model.specs.declared.jobs.At.{At}
@@ -43,8 +44,11 @@ use Rattle.flu_model.specs.Contents.{key_count}
 use Rattle.flu_model.specs.Erasure.{Term, Literal, EventValue, EventKey, EventItem, EventTime, CellRead, CellHeld, Negative, Negation, Operation, term_of}
 use Rattle.flu_model.specs.Erasure.{PlainAct, Adding, Raising, Setting, Clearing, ClearingFamily, Emitting, Flushing, plain_act, PlainAction, plain_action}
 use Rattle.flu_model.specs.Erasure.{PlainKind, plain_kind}
+use Rattle.flu_model.specs.ListRules.{is_list}
+use Rattle.flu_model.specs.Numberings.{Numbering}
 use Rattle.flu_model.specs.Listing.{tag, listed_keys, listed_tags, tags_of_source, itags_of_sources}
 use Rattle.flu_model.specs.Rules.{family_fits, ref_fits, ref_has_sort, is_literal, expr_fits, height, is_good_expr, is_short, flush_template_fits, is_keyed}
+use Rattle.flu_model.specs.Rules.{is_same_text, are_distinct}
 use Rattle.flu_model.specs.Rules.{act_fits, guard_fits, action_fits, kind_fits, keys_fit, listed_kind_fits, tag_ref_fits, is_file_text, source_fits}
 use Rattle.flu_model.specs.Texts.{Unit as TimeUnit}
 use Rattle.flu_calendar.specs.declared.unit.Unit.TheVariants.{Seconds, Milliseconds, Microseconds}
@@ -55,22 +59,23 @@ use Rattle.flu_text.specs.Laws.{EachIsSpan}
 use Rattle.flu_text.specs.declared.words.Word.{Word}
 use Rattle.flu_text.specs.declared.words.Word.TheVariants as w
 use Rattle.flu_text.specs.declared.words.Mark.TheVariants as m
-use Rattle.flu_text.specs.Signs.{Sign, Any, At as AtSign, AreSigns, separated as signs_between}
+use Rattle.flu_text.specs.Signs.{Sign, Any, At as AtSign, Spanned, Named, IsSign, AreSigns, text as text_signs, separated as signs_between}
+use Rattle.flu_text.specs.declared.written.WrittenSpan.{WrittenSpan}
 use Rattle.flu_syntax.specs.Tree.{Tree, Deed, Action, Declaration, Declarations}
 use Rattle.flu_syntax.specs.Tree as d
 use Rattle.flu_syntax.specs.Grammar.{op_word, cell_signs, spelled, deed_signs, guard_signs, action_signs, declaration_signs, head_signs}
 use Rattle.flu_layout.specs.Laid.{line_end, quoted}
 use Rattle.flu_layout.specs.Lists.{separated, keys_text}
-use Rattle.flu_layout.specs.Spelling.{name_of}
+use Rattle.flu_layout.specs.Spelling.{name_of, inside}
 use Rattle.flu_parse.specs.Printing.{op_text, term_text, act_text, guard_text, action_text, iso_text, version_line, keyed_text, sort_text, cell_line, item_text}
 use Rattle.flu_parse.specs.Printing.{value_text, tag_line, kind_name, same_text, depends_line, actions_line, on_line, tag_text, slack_text, source_head}
-use Rattle.flu_parse.specs.Printing.{source_line}
+use Rattle.flu_parse.specs.Printing.{source_line, names_line, name_of_list, by_text}
 use Rattle.flu_grammar.specs.Means.{AllDiffer, IfWritten, Under}
 use Rattle.flu_grammar.specs.Terms.{MeansTerm, means_number, means_value, means_key, means_item, means_time, means_read, means_held, means_inside}
 use Rattle.flu_grammar.specs.Terms.{means_negative, means_negation, means_operation, MeansExpression}
 use Rattle.flu_grammar.specs.Actions.{MeansDeed, means_add, means_raise, means_set, means_clear, means_clear_family, means_emit, means_flush, MeansAction}
-use Rattle.flu_grammar.specs.Declared.{DeclaredKind, under_kind, kinds_in, actions_in}
-use Rattle.flu_grammar.specs.Jobs.{MeansDeclaredKind}
+use Rattle.flu_grammar.specs.Declared.{DeclaredKind, WrittenNames, under_kind, families_in, kinds_in, actions_in, lists_in}
+use Rattle.flu_grammar.specs.Jobs.{MeansNames, MeansDeclaredKind}
 use Rattle.flu_grammar.specs.Laws.{NormalFormIsShort}
 use Rattle.flu_grammar.proofs.JobTexts.{kinds_differ}
 use Rattle.flu_grammar.proofs.Lists.{differ_head, differ_tail, get_map}
@@ -84,6 +89,10 @@ flat_few text m test few (x ∷ xs) all =
     let here = few x (and_left (test x) (list_all test xs) all) in
     let more = flat_few text m test few xs (and_right (test x) (list_all test xs) all) in
     omega (arith, here, more, length-append (text x) (flat_map text xs))
+
+-- a list has a name
+list_named : (l : Numbering) → is_list l ≡ true → is_name l.name ≡ true
+list_named l fits = and_left _ _ (and_left _ _ (and_left _ _ (and_left _ (are_distinct is_same_text l.texts) fits)))
 
 -- texts one behind another
 three_long : (a b c : List ℕ) → length (a ++ b ++ c) ≡ length a + length b + length c
@@ -188,9 +197,10 @@ module _ (families : List Family) (named : list_all (λ (f : Family). is_name f.
   op_few op.Both = omega arith
   op_few op.Either = omega arith
 
-  module _ (text : List ℕ) (under : Under) where
+  -- what is written means it with the families as they are declared, of which no list is said
+  module _ (text : List ℕ) (declared : List Family) (under : Under) where
     -- AN EXPRESSION has few bytes for each of its tokens
-    term_few : {e : Tree} {t : Term} → MeansTerm text families under e t → SmallTerm t → length (term_text families t) ≤ 23 * length (spelled e) + 16
+    term_few : {e : Tree} {t : Term} → MeansTerm text declared under e t → SmallTerm t → length (term_text families t) ≤ 23 * length (spelled e) + 16
     term_few (means_number n) small = omega (arith, small)
     term_few (means_value at h) small = omega arith
     term_few (means_key at h) small = omega arith
@@ -211,7 +221,7 @@ module _ (families : List Family) (named : list_all (λ (f : Family). is_name f.
           six_long (term_text families a) (codes " ") (op_text o) (codes " ") (term_text families b) (codes ")"),
         )
 
-    expression_few : (e : Tree) (t : Term) → MeansExpression text families under e t → SmallTerm t
+    expression_few : (e : Tree) (t : Term) → MeansExpression text declared under e t → SmallTerm t
         → length (term_text families t) ≤ 23 * length (spelled e) + 16
     expression_few e t is small = term_few is.means small
 
@@ -267,7 +277,7 @@ module _ (families : List Family) (named : list_all (λ (f : Family). is_name f.
     cell_act word r e t signs short cell term few =
         omega (arith, short, cell, term, few, four_long word (written_cell families r) (codes " ") (term_text families t))
 
-    act_few : (at : ℕ) {deed : Deed} {act : PlainAct} → MeansDeed text families under deed act → SmallAct act
+    act_few : (at : ℕ) {deed : Deed} {act : PlainAct} → MeansDeed text declared under deed act → SmallAct act
         → length (act_text families act) ≤ 23 * length (deed_signs at deed) + 297
     act_few at (means_add r e c t cell term) small =
         cell_act (codes "add ") c e t _ (omega arith) small.0 (expression_few e t term small.1) (omega (arith, length-append (cell_signs r) (spelled e)))
@@ -287,14 +297,14 @@ module _ (families : List Family) (named : list_all (λ (f : Family). is_name f.
           three_long (family_name (slice_get families number)) (codes " ") (quoted (written_template families ps)),
         )
 
-    guard_few : (written : Option Tree) (guard : Option Term) → IfWritten (MeansExpression text families under) written guard → SmallGuard guard
+    guard_few : (written : Option Tree) (guard : Option Term) → IfWritten (MeansExpression text declared under) written guard → SmallGuard guard
         → length (guard_text families guard) ≤ 23 * length (guard_signs written) + 22
     guard_few None None means small = omega arith
     guard_few None (Some t) means small = absurd means
     guard_few (Some e) None means small = absurd means
     guard_few (Some e) (Some t) means small = omega (arith, expression_few e t means small)
 
-    action_few : (written : Action) (a : JobAction) → MeansAction text families under written (plain_action a)
+    action_few : (written : Action) (a : JobAction) → MeansAction text declared under written (plain_action a)
         → action_fits families under.keyed under.has_value a ≡ true
         → length (action_text families (plain_action a)) ≤ 23 * length (action_signs written) + 319
     action_few written a means fits =
@@ -311,7 +321,7 @@ module _ (families : List Family) (named : list_all (λ (f : Family). is_name f.
           length-append (deed_signs written.at written.deed) (guard_signs written.guard),
         )
 
-    actions_few : (ws : List Action) (js : List JobAction) → Pairs (MeansAction text families under) ws (map plain_action js)
+    actions_few : (ws : List Action) (js : List JobAction) → Pairs (MeansAction text declared under) ws (map plain_action js)
         → list_all (action_fits families under.keyed under.has_value) js ≡ true
         → total (λ a. 2 + length (action_text families a)) (map plain_action js) ≤ 23 * total (λ w. length (action_signs w)) ws + 321 * length js
     actions_few [] [] means fits = omega arith
@@ -336,6 +346,123 @@ module _ (families : List Family) (named : list_all (λ (f : Family). is_name f.
         separated_few (codes "; ") (action_text families) (a ∷ js),
         four_long name (codes ": ") items line_end,
       )
+
+-- ---- tokens
+-- a sign weighs as much as the token of a text has bytes, and 1 otherwise; none weighs less
+abbrev span_weight : WrittenSpan → ℕ
+span_weight span = max 1 (span.to - span.from)
+
+abbrev sign_weight : Sign → ℕ
+sign_weight (Any word) = 1
+sign_weight (AtSign word from) = 1
+sign_weight (Spanned word span) = span_weight span
+sign_weight (Named span) = 1
+
+-- each token takes as many bytes of the text
+sign_few : (text : List ℕ) (s : Sign) (t : Token) → IsSign s t → IsSpan text t → sign_weight s ≤ t.to - t.from
+sign_few text (Any word) t is span = let rises = span.rises in omega (arith, rises)
+sign_few text (AtSign word from) t is span = let rises = span.rises in omega (arith, rises)
+sign_few text (Spanned word span) t is spans =
+    let rises = spans.rises in
+    let from = is.1 in
+    let to = is.2 in
+    omega (arith, rises, from, to)
+sign_few text (Named span) t is spans = let rises = spans.rises in omega (arith, rises)
+
+tokens_few : (text : List ℕ) (from : ℕ) (signs : List Sign) (ts : List Token) (to : ℕ) → AreSigns signs ts → All (IsSpan text) ts → LeadsTo text from ts to
+    → from + total sign_weight signs ≤ to
+tokens_few text from [] [] to are spans leads = let rises = leads.rises in omega (arith, rises)
+tokens_few text from [] (t ∷ ts) to are spans leads = absurd are
+tokens_few text from (s ∷ signs) [] to are spans leads = absurd are
+tokens_few text from (s ∷ signs) (t ∷ ts) to are spans leads =
+    let rises = leads.0.rises in
+    let span = spans 0 t (omega arith) in
+    let up = span.rises in
+    let here = sign_few text s t are.0 span in
+    let more = tokens_few text t.to signs ts to are.1 (λ k x lt. spans (suc k) x (omega (arith, lt))) leads.2 in
+    omega (arith, rises, up, here, more)
+
+span_some : (span : WrittenSpan) → 1 ≤ span_weight span
+span_some span = omega arith
+
+sign_some : (s : Sign) → 1 ≤ sign_weight s
+sign_some (Any word) = omega arith
+sign_some (AtSign word from) = omega arith
+sign_some (Spanned word span) = span_some span
+sign_some (Named span) = omega arith
+
+signs_weigh : (signs : List Sign) → length signs ≤ total sign_weight signs
+signs_weigh [] = omega arith
+signs_weigh (s ∷ signs) = omega (arith, sign_some s, signs_weigh signs)
+
+-- ---- lists of names
+-- what the texts of a declaration's list weigh
+abbrev texts_weight : Declaration → ℕ
+texts_weight (d.Cell name cells sort) = 0
+texts_weight (d.Tag name keyed item has_value) = 0
+texts_weight (d.Names at name texts) = total span_weight texts
+texts_weight (d.Depends a b relation) = 0
+texts_weight (d.On kind actions) = 0
+texts_weight (d.Source name file rate slack tags) = 0
+
+texts_weigh : (mark : Word) (texts : List WrittenSpan) → total span_weight texts ≤ total sign_weight (signs_between mark text_signs texts)
+texts_weigh mark [] = omega arith
+texts_weigh mark (s ∷ texts) = omega (arith, others texts)
+  where
+    others : (ss : List WrittenSpan) → total span_weight ss ≤ total sign_weight (flat_map (λ (y : WrittenSpan). Any mark ∷ text_signs y) ss)
+    others [] = omega arith
+    others (y ∷ ss) = omega (arith, others ss)
+
+-- what is between the quotes of a text is shorter than it
+inside_few : (text : List ℕ) (s : WrittenSpan) → length (inside text s) ≤ span_weight s
+inside_few text s = by (nat_le (s.from + 1) (s.to - 1) && is_boundary text (s.from + 1) && is_boundary text (s.to - 1))
+  where
+    by : (b : Bool) → length (cond b (slice_range text (s.from + 1) (s.to - 1)) []) ≤ span_weight s
+    by false = omega arith
+    by true = omega (arith, length-take (s.to - 1 - (s.from + 1)) (drop (s.from + 1) text))
+
+quoted_few : (bytes : List ℕ) → length (quoted bytes) ≡ length bytes + 2
+quoted_few bytes = omega (arith, length-append bytes (34 ∷ []))
+
+module _ (text : List ℕ) where
+  named_few : (ss : List WrittenSpan) → total (λ (t : List ℕ). 2 + length (quoted t)) (map (inside text) ss) ≤ 23 * total span_weight ss
+  named_few [] = omega arith
+  named_few (s ∷ ss) = omega (arith, named_few ss, inside_few text s, span_some s, quoted_few (inside text s))
+
+  -- the line of a list
+  list_few : (v : WrittenNames) (l : Numbering) → MeansNames text v l → is_list l ≡ true → length (names_line l) ≤ 23 * total span_weight v.texts + 41
+  list_few v l means fits =
+      let items = separated (codes ", ") quoted l.texts in
+      let named : total (λ (t : List ℕ). 2 + length (quoted t)) l.texts ≡ total (λ (t : List ℕ). 2 + length (quoted t)) (map (inside text) v.texts) =
+      ap (total (λ (t : List ℕ). 2 + length (quoted t))) means.texts in
+      omega (
+        arith,
+        name_few l.name (list_named l fits),
+        separated_few (codes ", ") quoted l.texts,
+        named,
+        named_few v.texts,
+        four_long l.name (codes ": ") items line_end,
+      )
+
+  lists_few : (vs : List WrittenNames) (ls : List Numbering) → Pairs (MeansNames text) vs ls → list_all is_list ls ≡ true
+      → length (flat_map names_line ls) ≤ 23 * total (λ (v : WrittenNames). total span_weight v.texts) vs + 41 * length ls
+  lists_few [] [] means fits = omega arith
+  lists_few [] (l ∷ ls) means fits = absurd means
+  lists_few (v ∷ vs) [] means fits = absurd means
+  lists_few (v ∷ vs) (l ∷ ls) means fits =
+      let here = list_few v l means.0 (and_left (is_list l) (list_all is_list ls) fits) in
+      let more = lists_few vs ls means.1 (and_right (is_list l) (list_all is_list ls) fits) in
+      omega (arith, here, more, length-append (names_line l) (flat_map names_line ls))
+
+-- the texts of all lists
+lists_weigh : (ds : Declarations) → total (λ (v : WrittenNames). total span_weight v.texts) (flat_map lists_in ds) ≡ total texts_weight ds
+lists_weigh [] = refl
+lists_weigh (d.Cell name cells sort ∷ ds) = omega (arith, lists_weigh ds)
+lists_weigh (d.Tag name keyed item has_value ∷ ds) = omega (arith, lists_weigh ds)
+lists_weigh (d.Names at name texts ∷ ds) = omega (arith, lists_weigh ds)
+lists_weigh (d.Depends a b relation ∷ ds) = omega (arith, lists_weigh ds)
+lists_weigh (d.On kind actions ∷ ds) = omega (arith, lists_weigh ds)
+lists_weigh (d.Source name file rate slack tags ∷ ds) = omega (arith, lists_weigh ds)
 
 -- ---- the actions of all kinds
 -- how many tokens the actions of a kind of this name have in a declaration
@@ -384,38 +511,45 @@ module _ (text : List ℕ) where
   no_actions : (f : DeclaredKind → ℕ) → ((k : DeclaredKind) → f k ≡ 0) → (ks : List DeclaredKind) → total f ks ≡ 0
   no_actions f none ks = total_none f ks (λ i k at. none k)
 
-  -- so a declaration's tokens are no fewer
+  -- so a declaration's tokens weigh no less than these and the texts of its list
   one_declaration : (ks : List DeclaredKind) → AllDiffer (map declared_name ks) → (y : Declaration)
-      → total (λ (k : DeclaredKind). size_of text k.name y) ks ≤ length (declaration_signs y)
-  one_declaration ks differ (d.Cell name keyed sort) = omega (arith, no_actions (λ k. 0) (λ k. refl) ks)
+      → total (λ (k : DeclaredKind). size_of text k.name y) ks + texts_weight y ≤ total sign_weight (declaration_signs y)
+  one_declaration ks differ (d.Cell name cells sort) = omega (arith, no_actions (λ k. 0) (λ k. refl) ks)
   one_declaration ks differ (d.Tag name keyed item has_value) = omega (arith, no_actions (λ k. 0) (λ k. refl) ks)
+  one_declaration ks differ (d.Names at name texts) =
+      omega (arith, no_actions (λ k. 0) (λ k. refl) ks, texts_weigh (w.Mark m.Comma) texts)
   one_declaration ks differ (d.Depends a b relation) = omega (arith, no_actions (λ k. 0) (λ k. refl) ks)
   one_declaration ks differ (d.Source name file rate slack tags) = omega (arith, no_actions (λ k. 0) (λ k. refl) ks)
   one_declaration ks differ (d.On kind actions) =
-      omega (arith, one_kind (name_of text kind) actions ks differ, action_tokens (w.Mark m.Semicolon) actions)
+      omega (
+        arith,
+        one_kind (name_of text kind) actions ks differ,
+        action_tokens (w.Mark m.Semicolon) actions,
+        signs_weigh (signs_between (w.Mark m.Semicolon) action_signs actions),
+      )
 
   all_declarations : (ks : List DeclaredKind) → AllDiffer (map declared_name ks) → (ds : Declarations)
-      → total (λ (k : DeclaredKind). total (size_of text k.name) ds) ks ≤ length (flat_map declaration_signs ds)
+      → total (λ (k : DeclaredKind). total (size_of text k.name) ds) ks + total texts_weight ds ≤ total sign_weight (flat_map declaration_signs ds)
   all_declarations ks differ [] = omega (arith, no_actions (λ k. 0) (λ k. refl) ks)
   all_declarations ks differ (y ∷ ds) =
       omega (
         arith,
         one_declaration ks differ y,
         all_declarations ks differ ds,
-        length-append (declaration_signs y) (flat_map declaration_signs ds),
+        total-append sign_weight (declaration_signs y) (flat_map declaration_signs ds),
         total-plus (λ (k : DeclaredKind). size_of text k.name y) (λ (k : DeclaredKind). total (size_of text k.name) ds) ks,
       )
 
   -- the lines of all kinds
-  kinds_few : (version : ℕ) (families : List Family) (named : list_all (λ (f : Family). is_name f.name) families ≡ true) (ds : Declarations)
+  kinds_few : (version : ℕ) (families said : List Family) (named : list_all (λ (f : Family). is_name f.name) families ≡ true) (ds : Declarations)
       (declared : List DeclaredKind) (ks : List Kind)
-      → Pairs (MeansDeclaredKind text version families ds) declared (map plain_kind ks) → list_all (kind_fits families) ks ≡ true
+      → Pairs (MeansDeclaredKind text version said ds) declared (map plain_kind ks) → list_all (kind_fits families) ks ≡ true
       → length (flat_map (on_line families) (map plain_kind ks)) ≤ 23 * total
       (λ (k : DeclaredKind). total (size_of text k.name) ds) declared + 10310 * length ks
-  kinds_few version families named ds [] [] means fits = omega arith
-  kinds_few version families named ds [] (k ∷ ks) means fits = absurd means
-  kinds_few version families named ds (x ∷ xs) [] means fits = absurd means
-  kinds_few version families named ds (x ∷ xs) (k ∷ ks) means fits =
+  kinds_few version families said named ds [] [] means fits = omega arith
+  kinds_few version families said named ds [] (k ∷ ks) means fits = absurd means
+  kinds_few version families said named ds (x ∷ xs) [] means fits = absurd means
+  kinds_few version families said named ds (x ∷ xs) (k ∷ ks) means fits =
       let one = and_left (kind_fits families k) (list_all (kind_fits families) ks) fits in
       let front = and_left (is_name k.name && nat_le (length k.actions) 32) (list_all (action_fits families k.keyed k.has_value) k.actions) one in
       let all = and_right (is_name k.name && nat_le (length k.actions) 32) (list_all (action_fits families k.keyed k.has_value) k.actions) one in
@@ -424,27 +558,11 @@ module _ (text : List ℕ) where
       let is = means.0 in
       let so_keyed = subst (λ (b : Bool). list_all (action_fits families b k.has_value) k.actions ≡ true) is.keyed all in
       let so_valued = subst (λ (b : Bool). list_all (action_fits families x.keyed b) k.actions ≡ true) is.has_value so_keyed in
-      let here = actions_few families named text (under_kind version x) (flat_map (actions_in text x.name) ds) k.actions is.actions so_valued in
+      let here = actions_few families named text said (under_kind version x) (flat_map (actions_in text x.name) ds) k.actions is.actions so_valued in
       let size = total-flat_map (λ (a : Action). length (action_signs a)) (actions_in text x.name) ds in
       let line = line_few families named k.name (map plain_action k.actions) name in
-      let more = kinds_few version families named ds xs ks means.1 (and_right (kind_fits families k) (list_all (kind_fits families) ks) fits) in
+      let more = kinds_few version families said named ds xs ks means.1 (and_right (kind_fits families k) (list_all (kind_fits families) ks) fits) in
       omega (arith, here, size, line, count, more, length-append (on_line families (plain_kind k)) (flat_map (on_line families) (map plain_kind ks)))
-
--- ---- tokens
-signs_counted : (signs : List Sign) (tokens : List Token) → AreSigns signs tokens → length signs ≡ length tokens
-signs_counted [] [] are = refl
-signs_counted [] (t ∷ ts) are = absurd are
-signs_counted (s ∷ ss) [] are = absurd are
-signs_counted (s ∷ ss) (t ∷ ts) are = ap suc (signs_counted ss ts are.1)
-
--- each token takes a byte of the text
-tokens_few : (text : List ℕ) (from : ℕ) (ts : List Token) (to : ℕ) → All (IsSpan text) ts → LeadsTo text from ts to → from + length ts ≤ to
-tokens_few text from [] to spans leads = let rises = leads.rises in omega (arith, rises)
-tokens_few text from (t ∷ ts) to spans leads =
-    let rises = leads.0.rises in
-    let span = (spans 0 t (omega arith)).rises in
-    let more = tokens_few text t.to ts to (λ k x lt. spans (suc k) x (omega (arith, lt))) leads.2 in
-    omega (arith, rises, span, more)
 
 -- ---- the other lines
 module _ (p : Program) where
@@ -493,11 +611,26 @@ module _ (p : Program) where
   same_few true = omega arith
   same_few false = omega arith
 
-  cell_line_few : (f : Family) → is_name f.name ≡ true → length (cell_line f) ≤ 49
-  cell_line_few f e =
-      omega (arith, name_few f.name e, keyed_few f.keyed, sort_few f.sort, four_long f.name (keyed_text f.keyed) (sort_text f.sort) line_end)
+  by_few : (o : Option ℕ) → length (by_text p.lists o) ≤ 36
+  by_few None = omega arith
+  by_few (Some i) = omega (arith, named (slice_get p.lists i) refl)
+    where
+      named : (o : Option Numbering) → slice_get p.lists i ≡ o → length (name_of_list o) ≤ 32
+      named None e = omega arith
+      named (Some l) e = name_few l.name (list_named l (passes_at is_list p.lists i l p.lists_are e))
 
-  tag_line_few : (k : Kind) → kind_fits p.families k ≡ true → length (tag_line (plain_kind k)) ≤ 53
+  cell_line_few : (f : Family) → is_name f.name ≡ true → length (cell_line p.lists f) ≤ 85
+  cell_line_few f e =
+      omega (
+        arith,
+        name_few f.name e,
+        keyed_few f.keyed,
+        by_few f.list,
+        sort_few f.sort,
+        five_long f.name (keyed_text f.keyed) (by_text p.lists f.list) (sort_text f.sort) line_end,
+      )
+
+  tag_line_few : (k : Kind) → kind_fits p.families k ≡ true → length (tag_line p.lists (plain_kind k)) ≤ 89
   tag_line_few k fits =
       let name = name_few k.name (and_left (is_name k.name) (nat_le (length k.actions) 32)
       (and_left (is_name k.name && nat_le (length k.actions) 32) (list_all (action_fits p.families k.keyed k.has_value) k.actions) fits)) in
@@ -506,8 +639,9 @@ module _ (p : Program) where
         name,
         keyed_few k.keyed,
         item_few k.has_item,
+        by_few k.list,
         value_few k.has_value,
-        five_long k.name (keyed_text k.keyed) (item_text k.has_item) (value_text k.has_value) line_end,
+        six_long k.name (keyed_text k.keyed) (item_text k.has_item) (by_text p.lists k.list) (value_text k.has_value) line_end,
       )
 
   depends_line_few : (y : Depend) → length (depends_line (map plain_kind p.kinds) y) ≤ 79
@@ -621,12 +755,12 @@ module _ (p : Program) where
         length-map (tags_of_source s) pair,
       )
 
-  tag_lines_few : (ks : List Kind) → list_all (kind_fits p.families) ks ≡ true → length (flat_map tag_line (map plain_kind ks)) ≤ 53 * length ks
+  tag_lines_few : (ks : List Kind) → list_all (kind_fits p.families) ks ≡ true → length (flat_map (tag_line p.lists) (map plain_kind ks)) ≤ 89 * length ks
   tag_lines_few [] fits = omega arith
   tag_lines_few (k ∷ ks) fits =
       let here = tag_line_few k (and_left (kind_fits p.families k) (list_all (kind_fits p.families) ks) fits) in
       let more = tag_lines_few ks (and_right (kind_fits p.families k) (list_all (kind_fits p.families) ks) fits) in
-      omega (arith, here, more, length-append (tag_line (plain_kind k)) (flat_map tag_line (map plain_kind ks)))
+      omega (arith, here, more, length-append (tag_line p.lists (plain_kind k)) (flat_map (tag_line p.lists) (map plain_kind ks)))
 
   depends_lines_few : (ys : List Depend) → length (flat_map (depends_line (map plain_kind p.kinds)) ys) ≤ 79 * length ys
   depends_lines_few [] = omega arith
@@ -644,16 +778,19 @@ normal_form_is_short spans p bytes is =
     let ds = is.written.declarations in
     let kinds = map plain_kind p.kinds in
     let declared = flat_map (kinds_in bytes) ds in
-    let tokens = tokens_few bytes 0 is.tokens (length bytes) (spans bytes is.tokens is.text.utf8 is.cut) is.cut in
-    let signs = signs_counted _ is.tokens is.grammar.spelled in
+    let said = flat_map (families_in bytes) ds in
+    let tokens = tokens_few bytes 0 (head_signs is.written.head ++ flat_map declaration_signs ds) is.tokens (length bytes) is.grammar.spelled
+    (spans bytes is.tokens is.text.utf8 is.cut) is.cut in
     let weights = all_declarations bytes declared (kinds_differ bytes ds is.means.own_names) ds in
-    let actions = kinds_few bytes p.version p.families p.families_fit ds declared p.kinds is.means.kinds p.kinds_fit in
-    let cells = flat_few cell_line 49 (λ (f : Family). is_name f.name) (cell_line_few p) p.families p.families_fit in
+    let actions = kinds_few bytes p.version p.families said p.families_fit ds declared p.kinds is.means.kinds p.kinds_fit in
+    let lists = lists_few bytes (flat_map lists_in ds) p.lists is.means.lists p.lists_are in
+    let cells = flat_few (cell_line p.lists) 85 (λ (f : Family). is_name f.name) (cell_line_few p) p.families p.families_fit in
     let tags = tag_lines_few p p.kinds p.kinds_fit in
     let depends = depends_lines_few p p.depends in
     let sources = sources_few p 0 p.sources p.sources_fit in
     let short = is.text.short in
     let a = p.few_families in
+    let g = p.few_lists in
     let b = p.few_kinds in
     let c = p.few_depends in
     let e = p.few_sources in
@@ -661,9 +798,10 @@ normal_form_is_short spans p bytes is =
     omega (
       arith,
       tokens,
-      signs,
       weights,
       actions,
+      lists,
+      lists_weigh ds,
       cells,
       tags,
       depends,
@@ -674,8 +812,9 @@ normal_form_is_short spans p bytes is =
       c,
       e,
       f,
+      g,
       version_few p,
-      length-append (head_signs is.written.head) (flat_map declaration_signs ds),
-      six_long (version_line p.version p.iso) (flat_map cell_line p.families) (flat_map tag_line kinds) (flat_map (depends_line kinds) p.depends)
-          (flat_map (on_line p.families) kinds) (flat_map (source_line kinds) p.sources),
+      total-append sign_weight (head_signs is.written.head) (flat_map declaration_signs ds),
+      seven_long (version_line p.version p.iso) (flat_map names_line p.lists) (flat_map (cell_line p.lists) p.families) (flat_map (tag_line p.lists) kinds)
+          (flat_map (depends_line kinds) p.depends) (flat_map (on_line p.families) kinds) (flat_map (source_line kinds) p.sources),
     )

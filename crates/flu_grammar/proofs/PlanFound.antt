@@ -18,6 +18,7 @@ use Rattle.flu_model.specs.declared.jobs.Keys.TheVariants as keys
 use Rattle.flu_model.specs.declared.jobs.Program.{Program}
 use Rattle.flu_model.specs.declared.plans.Pred.{Pred}
 use Rattle.flu_model.specs.Contents.{key_count}
+use Rattle.flu_model.specs.Numberings.{Numbering}
 use Rattle.flu_model.specs.Rules.{is_same_text, are_distinct}
 use Rattle.flu_model.specs.PlanRules.{are_small_keys}
 use Rattle.flu_text.specs.declared.written.WrittenSpan.{WrittenSpan}
@@ -65,19 +66,29 @@ named_found name xs s i d here =
 
 -- ---- predicates
 
+-- the names of families, kinds and sources stand before those of lists
+names_differ : (p : Program) → AllDiffer
+    (map (λ (x : Family). x.name) p.families ++ map (λ (k : Kind). k.name) p.kinds ++ map (λ (s : Source). s.name) p.sources)
+names_differ p =
+    let families = map (λ (x : Family). x.name) p.families in
+    let kinds = map (λ (k : Kind). k.name) p.kinds in
+    let sources = map (λ (s : Source). s.name) p.sources in
+    let lists = map (λ (l : Numbering). l.name) p.lists in
+    differ_front (families ++ kinds ++ sources) lists (differ_from (families ++ kinds ++ sources ++ lists) p.own_names)
+
 pub kinds_differ : (p : Program) → AllDiffer (map (λ (k : Kind). k.name) p.kinds)
 kinds_differ p =
     let families = map (λ (x : Family). x.name) p.families in
     let kinds = map (λ (k : Kind). k.name) p.kinds in
     let sources = map (λ (s : Source). s.name) p.sources in
-    differ_back families kinds (differ_front (families ++ kinds) sources (differ_from (families ++ kinds ++ sources) p.own_names))
+    differ_back families kinds (differ_front (families ++ kinds) sources (names_differ p))
 
 pub sources_differ : (p : Program) → AllDiffer (map (λ (s : Source). s.name) p.sources)
 sources_differ p =
     let families = map (λ (x : Family). x.name) p.families in
     let kinds = map (λ (k : Kind). k.name) p.kinds in
     let sources = map (λ (s : Source). s.name) p.sources in
-    differ_back (families ++ kinds) sources (differ_from (families ++ kinds ++ sources) p.own_names)
+    differ_back (families ++ kinds) sources (names_differ p)
 
 kind_found : (p : Program) (text : List ℕ) (s : Option WrittenSpan) (v : Option ℕ) → IfWritten (MeansKind p text) s v → kind_of p text s ≡ Ok v
 kind_found p text None None h = refl

@@ -1,7 +1,7 @@
--- The normal form of the job of a text is UTF-8: each name, file and plain piece of a template stands in the text between two of its characters, and
--- all else that is printed is ASCII.
+-- The normal form of the job of a text is UTF-8: each name, file, text of a list and plain piece of a template stands in the text between two of its
+-- characters, and all else that is printed is ASCII.
 use Rattle.std.proofs.Common.{◌≡◌, ◌<◌, ◌≤◌, ◌+◌, ◌-◌, ◌%◌, ◌/◌, ℕ, zero, suc, ℤ, pos, negsuc, Bool, true, false, cond, Option, Some, None, List, []}
-use Rattle.std.proofs.Common.{◌∷◌, ◌++◌, length, refl, sym, ap, subst, ◌∙◌, arith}
+use Rattle.std.proofs.Common.{◌∷◌, ◌++◌, map, length, refl, sym, ap, subst, ◌∙◌, arith}
 use Rattle.std.specs.Prelude.{nat_lt, nat_le, ◌==◌, ◌&&◌, ◌||◌, slice_get, slice_index, slice_range, codes}
 use Rattle.std.specs.Fmt.{decimal, signed_decimal, digits, digits_onto, digit_glyph}
 use Rattle.std.specs.List.{flat_map, list_all, AllByRecursion}
@@ -28,26 +28,28 @@ use Rattle.flu_model.specs.declared.jobs.Sort.TheVariants as sort
 use Rattle.flu_model.specs.declared.jobs.Source.{Source}
 use Rattle.flu_model.specs.declared.jobs.TagRef.{TagRef}
 use Rattle.flu_model.specs.Erasure.{Term, PlainAct, PlainAction, PlainKind}
+use Rattle.flu_model.specs.Numberings.{Numbering}
 use Rattle.flu_model.specs.Texts.{Unit as TimeUnit}
 use Rattle.flu_calendar.specs.declared.unit.Unit.TheVariants.{Seconds, Milliseconds, Microseconds}
 use Rattle.flu_model.specs.Templates.{family_name, written_key, written_cell, written_piece, written_template}
 use Rattle.flu_text.specs.declared.written.WrittenSpan.{WrittenSpan}
-use Rattle.flu_syntax.specs.Tree.{Tree, Deed, Action, Declarations, Cell, Tag, Depends, On, Source as SourceLine}
+use Rattle.flu_syntax.specs.Tree.{Tree, Deed, Action, Declarations, Cell, Tag, Names, Depends, On, Source as SourceLine}
 use Rattle.flu_layout.specs.Laid.{line_end, quoted}
 use Rattle.flu_layout.specs.Lists.{separated, keys_text}
-use Rattle.flu_layout.specs.Spelling.{name_of}
+use Rattle.flu_layout.specs.Spelling.{name_of, inside}
 use Rattle.flu_parse.specs.declared.pieces.WrittenPiece.{WrittenPiece}
 use Rattle.flu_parse.specs.declared.pieces.WrittenPiece.TheVariants as w
 use Rattle.flu_parse.specs.Printing.{op_text, term_text, act_text, guard_text, action_text, iso_text, keyed_text, sort_text, cell_line, item_text}
 use Rattle.flu_parse.specs.Printing.{value_text, tag_line, kind_name, same_text, depends_line, actions_line, on_line, tag_text, slack_text, source_line}
+use Rattle.flu_parse.specs.Printing.{names_line, name_of_list, by_text}
 use Rattle.flu_grammar.specs.Means.{IfWritten, Under}
 use Rattle.flu_grammar.specs.Terms.{MeansTerm, means_number, means_value, means_key, means_item, means_time, means_read, means_held, means_inside}
 use Rattle.flu_grammar.specs.Terms.{means_negative, means_negation, means_operation, MeansExpression}
 use Rattle.flu_grammar.specs.Templates.{MeansPiece, MeansTemplate}
 use Rattle.flu_grammar.specs.Actions.{MeansDeed, means_add, means_raise, means_set, means_clear, means_clear_family, means_emit, means_flush, MeansAction}
-use Rattle.flu_grammar.specs.Declared.{DeclaredKind, under_kind, families_in, kinds_in, actions_in, sources_in}
+use Rattle.flu_grammar.specs.Declared.{DeclaredKind, WrittenNames, under_kind, families_in, kinds_in, actions_in, sources_in, lists_in}
 use Rattle.flu_grammar.specs.Sources.{MeansSource}
-use Rattle.flu_grammar.specs.Jobs.{MeansDeclaredKind}
+use Rattle.flu_grammar.specs.Jobs.{MeansNames, without_list, MeansDeclaredKind}
 use Rattle.flu_grammar.specs.Laws.{NormalFormIsUtf8}
 
 record Utf8 (bytes : List ℕ) : Type 0 where
@@ -132,10 +134,22 @@ marked R mark text between_two each (v ∷ vs) [] pairs = absurd pairs
 marked R mark text between_two each (v ∷ vs) (x ∷ xs) pairs =
     each v x pairs.0 also items R (λ y. mark ++ text y) (λ u y is. between_two also each u y is) vs xs pairs.1
 
+quotes : {bytes : List ℕ} → Utf8 bytes → Utf8 (quoted bytes)
+quotes x = ascii (codes "\"") refl also (x also ascii (codes "\"") refl)
+
+blank : Utf8 (codes " ")
+blank = ascii (codes " ") refl
+
+end : Utf8 line_end
+end = ascii line_end refl
+
 -- ---- names
 
 abbrev named_family : Family → Type 0
 named_family f = Utf8 f.name
+
+abbrev named_list : Numbering → Type 0
+named_list l = Utf8 l.name
 
 abbrev named_kind : PlainKind → Type 0
 named_kind k = Utf8 k.name
@@ -152,19 +166,44 @@ module _ (text : List ℕ) (utf8 : IsUtf8 text) where
 
   families : (ds : Declarations) → AllByRecursion named_family (flat_map (families_in text) ds)
   families [] = tt
-  families (Cell n keyed s ∷ ds) = (between text n.from n.to utf8, families ds)
+  families (Cell n cells s ∷ ds) = (between text n.from n.to utf8, families ds)
   families (Tag n keyed item has_value ∷ ds) = families ds
+  families (Names at n texts ∷ ds) = families ds
   families (Depends a b relation ∷ ds) = families ds
   families (On kind actions ∷ ds) = families ds
   families (SourceLine n file rate slack tags ∷ ds) = families ds
 
   declared : (ds : Declarations) → AllByRecursion (λ (k : DeclaredKind). Utf8 k.name) (flat_map (kinds_in text) ds)
   declared [] = tt
-  declared (Cell n keyed s ∷ ds) = declared ds
+  declared (Cell n cells s ∷ ds) = declared ds
   declared (Tag n keyed item has_value ∷ ds) = (between text n.from n.to utf8, declared ds)
+  declared (Names at n texts ∷ ds) = declared ds
   declared (Depends a b relation ∷ ds) = declared ds
   declared (On kind actions ∷ ds) = declared ds
   declared (SourceLine n file rate slack tags ∷ ds) = declared ds
+
+  -- families have the names that they have without their lists
+  families_named : (fs : List Family) → AllByRecursion named_family (map without_list fs) → AllByRecursion named_family fs
+  families_named [] named = tt
+  families_named (f ∷ fs) named = (named.0, families_named fs named.1)
+
+  -- lists and their texts
+  listed : (vs : List WrittenNames) (ls : List Numbering) → Pairs (MeansNames text) vs ls → AllByRecursion named_list ls
+  listed [] [] pairs = tt
+  listed [] (l ∷ ls) pairs = absurd pairs
+  listed (v ∷ vs) [] pairs = absurd pairs
+  listed (v ∷ vs) (l ∷ ls) pairs = (name v.name l.name pairs.0.name, listed vs ls pairs.1)
+
+  between_quotes : (ss : List WrittenSpan) → Pairs (λ (s : WrittenSpan) (t : List ℕ). t ≡ inside text s) ss (map (inside text) ss)
+  between_quotes [] = tt
+  between_quotes (s ∷ ss) = (refl, between_quotes ss)
+
+  names_utf8 : (v : WrittenNames) (l : Numbering) → MeansNames text v l → Utf8 (names_line l)
+  names_utf8 v l means =
+      let texts = marked (λ (s : WrittenSpan) (t : List ℕ). t ≡ inside text s) (codes ", ") quoted (ascii (codes ", ") refl)
+      (λ s t is. quotes (subst Utf8 (sym is) (between text (s.from + 1) (s.to - 1) utf8))) v.texts l.texts
+      (subst (λ (ts : List (List ℕ)). Pairs (λ (s : WrittenSpan) (t : List ℕ). t ≡ inside text s) v.texts ts) (sym means.texts) (between_quotes v.texts)) in
+      ascii (codes "names ") refl also name v.name l.name means.name also ascii (codes ": ") refl also texts also end
 
   kinds : (version : ℕ) (fs : List Family) (ds : Declarations) (ks : List DeclaredKind) (js : List PlainKind)
       → AllByRecursion (λ (k : DeclaredKind). Utf8 k.name) ks
@@ -197,15 +236,6 @@ operator op.Differs = ascii (codes "!=") refl
 operator op.Both = ascii (codes "and") refl
 operator op.Either = ascii (codes "or") refl
 
-quotes : {bytes : List ℕ} → Utf8 bytes → Utf8 (quoted bytes)
-quotes x = ascii (codes "\"") refl also (x also ascii (codes "\"") refl)
-
-blank : Utf8 (codes " ")
-blank = ascii (codes " ") refl
-
-end : Utf8 line_end
-end = ascii line_end refl
-
 module _ (text : List ℕ) (utf8 : IsUtf8 text) (fs : List Family) (named : AllByRecursion named_family fs) where
   family : (i : ℕ) → Utf8 (family_name (slice_get fs i))
   family i = by (slice_get fs i) refl
@@ -217,8 +247,9 @@ module _ (text : List ℕ) (utf8 : IsUtf8 text) (fs : List Family) (named : AllB
   cell : (c : CellRef) → Utf8 (written_cell fs c)
   cell c = family c.family also key c.at
 
-  module _ (under : Under) where
-    term : {e : Tree} {t : Term} → MeansTerm text fs under e t → Utf8 (term_text fs t)
+  -- what is written means it with the families as they are declared, of which no list is said
+  module _ (said : List Family) (under : Under) where
+    term : {e : Tree} {t : Term} → MeansTerm text said under e t → Utf8 (term_text fs t)
     term (means_number n) = signed n.value
     term (means_value at h) = ascii (codes "value") refl
     term (means_key at h) = ascii (codes "key") refl
@@ -232,7 +263,7 @@ module _ (text : List ℕ) (utf8 : IsUtf8 text) (fs : List Family) (named : AllB
     term (means_operation o at left right a b fits first second) =
         ascii (codes "(") refl also term first also blank also operator o also blank also term second also ascii (codes ")") refl
 
-    part : (flushed : Option ℕ) (v : WrittenPiece) (p : Piece) → MeansPiece text fs under flushed v p → Utf8 (written_piece fs p)
+    part : (flushed : Option ℕ) (v : WrittenPiece) (p : Piece) → MeansPiece text said under flushed v p → Utf8 (written_piece fs p)
     part flushed (w.Plain s) (piece.Plain t) means = name text utf8 s t means
     part flushed _ piece.Value means = ascii (codes "{value}") refl
     part flushed _ piece.Key means = ascii (codes "{key}") refl
@@ -243,11 +274,11 @@ module _ (text : List ℕ) (utf8 : IsUtf8 text) (fs : List Family) (named : AllB
     part flushed _ (piece.Read c) means = ascii (codes "{") refl also cell c also ascii (codes "}") refl
     part flushed _ (piece.Plain t) means = absurd means
 
-    template : (flushed : Option ℕ) (s : WrittenSpan) (ps : List Piece) → MeansTemplate text fs under flushed s ps → Utf8 (written_template fs ps)
-    template flushed s ps means = items (MeansPiece text fs under flushed) (written_piece fs) (part flushed) means.parts ps means.means
+    template : (flushed : Option ℕ) (s : WrittenSpan) (ps : List Piece) → MeansTemplate text said under flushed s ps → Utf8 (written_template fs ps)
+    template flushed s ps means = items (MeansPiece text said under flushed) (written_piece fs) (part flushed) means.parts ps means.means
 
     -- ---- actions
-    deed : {d : Deed} {act : PlainAct} → MeansDeed text fs under d act → Utf8 (act_text fs act)
+    deed : {d : Deed} {act : PlainAct} → MeansDeed text said under d act → Utf8 (act_text fs act)
     deed (means_add r e c t is means) = ascii (codes "add ") refl also cell c also blank also term means.means
     deed (means_raise r e c t is means) = ascii (codes "raise ") refl also cell c also blank also term means.means
     deed (means_set r e c t is means) = ascii (codes "set ") refl also cell c also blank also term means.means
@@ -256,32 +287,33 @@ module _ (text : List ℕ) (utf8 : IsUtf8 text) (fs : List Family) (named : AllB
     deed (means_emit s ps means) = ascii (codes "emit ") refl also quotes (template None s ps means)
     deed (means_flush n s number ps is means) = ascii (codes "flush ") refl also family number also blank also quotes (template (Some number) s ps means)
 
-    guard : (written : Option Tree) (o : Option Term) → IfWritten (MeansExpression text fs under) written o → Utf8 (guard_text fs o)
+    guard : (written : Option Tree) (o : Option Term) → IfWritten (MeansExpression text said under) written o → Utf8 (guard_text fs o)
     guard written None means = none
     guard None (Some t) means = absurd means
     guard (Some e) (Some t) means = ascii (codes " when ") refl also term means.means
 
-    action : (written : Action) (a : PlainAction) → MeansAction text fs under written a → Utf8 (action_text fs a)
+    action : (written : Action) (a : PlainAction) → MeansAction text said under written a → Utf8 (action_text fs a)
     action written a means = deed means.act also guard written.guard a.guard means.guard
 
-    actions : (name : List ℕ) → Utf8 name → (ws : List Action) (js : List PlainAction) → Pairs (MeansAction text fs under) ws js
+    actions : (name : List ℕ) → Utf8 name → (ws : List Action) (js : List PlainAction) → Pairs (MeansAction text said under) ws js
         → Utf8 (actions_line fs name js)
     actions name is ws [] pairs = none
     actions name is [] (a ∷ js) pairs = absurd pairs
     actions name is (v ∷ ws) (a ∷ js) pairs =
         ascii (codes "on ") refl also is also ascii (codes ": ") refl
-        also marked (MeansAction text fs under) (codes "; ") (action_text fs) (ascii (codes "; ") refl) action (v ∷ ws) (a ∷ js) pairs also end
+        also marked (MeansAction text said under) (codes "; ") (action_text fs) (ascii (codes "; ") refl) action (v ∷ ws) (a ∷ js) pairs also end
 
-  line : (version : ℕ) (ds : Declarations) (k : DeclaredKind) (j : PlainKind) → Utf8 j.name → MeansDeclaredKind text version fs ds k j → Utf8 (on_line fs j)
-  line version ds k j is means = actions (under_kind version k) j.name is (flat_map (actions_in text k.name) ds) j.actions means.actions
+  line : (said : List Family) (version : ℕ) (ds : Declarations) (k : DeclaredKind) (j : PlainKind) → Utf8 j.name
+      → MeansDeclaredKind text version said ds k j → Utf8 (on_line fs j)
+  line said version ds k j is means = actions said (under_kind version k) j.name is (flat_map (actions_in text k.name) ds) j.actions means.actions
 
-  lines : (version : ℕ) (ds : Declarations) (ks : List DeclaredKind) (js : List PlainKind) → AllByRecursion named_kind js
-      → Pairs (MeansDeclaredKind text version fs ds) ks js
+  lines : (said : List Family) (version : ℕ) (ds : Declarations) (ks : List DeclaredKind) (js : List PlainKind) → AllByRecursion named_kind js
+      → Pairs (MeansDeclaredKind text version said ds) ks js
       → Utf8 (flat_map (on_line fs) js)
-  lines version ds [] [] is pairs = none
-  lines version ds [] (j ∷ js) is pairs = absurd pairs
-  lines version ds (k ∷ ks) [] is pairs = absurd pairs
-  lines version ds (k ∷ ks) (j ∷ js) is pairs = line version ds k j is.0 pairs.0 also lines version ds ks js is.1 pairs.1
+  lines said version ds [] [] is pairs = none
+  lines said version ds [] (j ∷ js) is pairs = absurd pairs
+  lines said version ds (k ∷ ks) [] is pairs = absurd pairs
+  lines said version ds (k ∷ ks) (j ∷ js) is pairs = line said version ds k j is.0 pairs.0 also lines said version ds ks js is.1 pairs.1
 
 -- ---- the other lines
 
@@ -310,14 +342,25 @@ same_word : (b : Bool) → Utf8 (same_text b)
 same_word true = ascii (codes " same") refl
 same_word false = none
 
-cells : (fs : List Family) → AllByRecursion named_family fs → Utf8 (flat_map cell_line fs)
-cells [] named = none
-cells (f ∷ fs) named = ascii (codes "cell ") refl also named.0 also keyed_word f.keyed also sort_name f.sort also end also cells fs named.1
+module _ (lists : List Numbering) (named : AllByRecursion named_list lists) where
+  list_words : (o : Option ℕ) → Utf8 (by_text lists o)
+  list_words None = none
+  list_words (Some i) = ascii (codes " by ") refl also by (slice_get lists i) refl
+    where
+      by : (o : Option Numbering) → slice_get lists i ≡ o → Utf8 (name_of_list o)
+      by None e = none
+      by (Some l) e = at_place named_list lists named i l e
 
-tags : (ks : List PlainKind) → AllByRecursion named_kind ks → Utf8 (flat_map tag_line ks)
-tags [] named = none
-tags (k ∷ ks) named = ascii (codes "tag ") refl also named.0 also keyed_word k.keyed also item_word k.has_item also value_word k.has_value also end also tags ks
-    named.1
+  cells : (fs : List Family) → AllByRecursion named_family fs → Utf8 (flat_map (cell_line lists) fs)
+  cells [] are = none
+  cells (f ∷ fs) are =
+      ascii (codes "cell ") refl also are.0 also keyed_word f.keyed also list_words f.list also sort_name f.sort also end also cells fs are.1
+
+  tags : (ks : List PlainKind) → AllByRecursion named_kind ks → Utf8 (flat_map (tag_line lists) ks)
+  tags [] are = none
+  tags (k ∷ ks) are =
+      ascii (codes "tag ") refl also are.0 also keyed_word k.keyed also item_word k.has_item also list_words k.list also value_word k.has_value also end
+      also tags ks are.1
 
 listed_keys : (ks : Keys) → Utf8 (keys_text ks)
 listed_keys keys.Alone = none
@@ -367,14 +410,19 @@ normal_form_is_utf8 bytes job is =
     let utf8 = is.text.utf8 in
     let ds = is.written.declarations in
     let means = is.means in
-    let fs : AllByRecursion named_family job.families = subst (AllByRecursion named_family) (sym means.families) (families bytes utf8 ds) in
-    let ks = kinds bytes utf8 job.version job.families ds (flat_map (kinds_in bytes) ds) job.kinds (declared bytes utf8 ds) means.kinds in
+    let said = flat_map (families_in bytes) ds in
+    let fs : AllByRecursion named_family job.families =
+    families_named bytes utf8 job.families (subst (AllByRecursion named_family) (sym means.families) (families bytes utf8 ds)) in
+    let ls = listed bytes utf8 (flat_map lists_in ds) job.lists means.lists in
+    let names = items (MeansNames bytes) names_line (names_utf8 bytes utf8) (flat_map lists_in ds) job.lists means.lists in
+    let ks = kinds bytes utf8 job.version said ds (flat_map (kinds_in bytes) ds) job.kinds (declared bytes utf8 ds) means.kinds in
     let named = ascii (codes "version 3") refl also unit_ascii job.iso also ascii line_end refl in
     let third = word (job.version == 3) (codes "version 3" ++ iso_text job.iso ++ line_end) [] named none in
     let version = word (job.version == 2) (codes "version 2" ++ line_end) _ (ascii (codes "version 2" ++ line_end) refl) third in
-    let ons = lines bytes utf8 job.families fs job.version ds (flat_map (kinds_in bytes) ds) job.kinds ks means.kinds in
+    let ons = lines bytes utf8 job.families fs said job.version ds (flat_map (kinds_in bytes) ds) job.kinds ks means.kinds in
     let sources = items (MeansSource bytes (flat_map (kinds_in bytes) ds)) (source_line job.kinds)
     (λ written s source_means. source job.kinds ks s (name bytes utf8 written.name s.name source_means.name)
     (subst Utf8 (sym source_means.file) (between bytes (written.file.from + 1) (written.file.to - 1) utf8)))
     (flat_map sources_in ds) job.sources means.sources in
-    (version also cells job.families fs also tags job.kinds ks also depends job.kinds ks job.depends also ons also sources).is
+    (version also names also cells job.lists ls job.families fs also tags job.lists ls job.kinds ks also depends job.kinds ks job.depends also ons
+    also sources).is

@@ -4,10 +4,12 @@ use Rattle.std.specs.Prelude.{◌∷◌, ◌++◌, length, sum_by, Option, Some,
 use Rattle.std.specs.List.{flat_map}
 use Rattle.std.specs.Str.{IsUtf8}
 use Rattle.std.specs.Str.Lossy.{utf8_valid_len}
-use Rattle.flu_model.specs.declared.limits.What.TheVariants.{Bytes, Nesting, Families, Kinds, Sources, Depends as DependsLimit, Key, Itags, Rate, Slack}
+use Rattle.flu_model.specs.declared.limits.What.TheVariants.{Bytes, Nesting, Families, Kinds, Lists, Names as NamesLimit, Sources, Depends as DependsLimit}
+use Rattle.flu_model.specs.declared.limits.What.TheVariants.{Key, Itags, Rate, Slack}
 use Rattle.flu_model.specs.declared.jobs.Sort.{Sort}
 use Rattle.flu_model.specs.declared.jobs.TagRef.{TagRef}
 use Rattle.flu_model.specs.Contents.{key_count}
+use Rattle.flu_model.specs.ListRules.{is_listed_text}
 use Rattle.flu_model.specs.Rules.{is_version}
 use Rattle.flu_model.specs.Texts.{Unit as TimeUnit}
 use Rattle.flu_rules.specs.Keys.{share_tag}
@@ -17,12 +19,16 @@ use Rattle.flu_text.specs.declared.written.WrittenNumber.{WrittenNumber}
 use Rattle.flu_text.specs.declared.written.WrittenKeys.{WrittenKeys}
 use Rattle.flu_text.specs.declared.written.WrittenKeys.TheVariants as ks
 use Rattle.flu_text.specs.Grammar.{AreTokens, IsFirstBadPlace}
+use Rattle.flu_syntax.specs.declared.tree.WrittenBy.{WrittenBy}
+use Rattle.flu_syntax.specs.declared.tree.WrittenCells.{WrittenCells}
+use Rattle.flu_syntax.specs.declared.tree.WrittenCells.TheVariants.{By}
+use Rattle.flu_syntax.specs.declared.tree.WrittenItem.{WrittenItem}
 use Rattle.flu_syntax.specs.declared.tree.WrittenTag.{WrittenTag}
 use Rattle.flu_syntax.specs.declared.tree.WrittenRelation.{WrittenRelation}
 use Rattle.flu_syntax.specs.declared.tree.WrittenRelation.TheVariants as r
 use Rattle.flu_syntax.specs.declared.tree.WrittenUnit.{WrittenUnit}
 use Rattle.flu_syntax.specs.declared.tree.WrittenHead.{WrittenHead}
-use Rattle.flu_syntax.specs.Tree.{Action, Declaration, Declarations, Cell, Tag, Depends, On, Source, Job as WrittenJob}
+use Rattle.flu_syntax.specs.Tree.{Action, Declaration, Declarations, Cell, Tag, Names, Depends, On, Source, Job as WrittenJob}
 use Rattle.flu_syntax.specs.Grammar.{IsJob}
 use Rattle.flu_layout.specs.Spelling.{name_of, inside, written_value}
 use Rattle.flu_parse.specs.declared.faults.JobFault.{JobFault}
@@ -31,7 +37,7 @@ use Rattle.flu_parse.specs.Listings.{written_keys, tag_count}
 use Rattle.flu_parse.specs.Printing.{unit_name}
 use Rattle.flu_parse.specs.Reading.{job_in}
 use Rattle.flu_grammar.specs.Texts.{IsShortText}
-use Rattle.flu_grammar.specs.Declared.{DeclaredKind, under_kind, WrittenSource, families_in, kinds_in, depends_in, sources_in}
+use Rattle.flu_grammar.specs.Declared.{DeclaredKind, under_kind, WrittenSource, lists_in, list_names, families_in, kinds_in, depends_in, sources_in}
 use Rattle.flu_grammar.specs.Sources.{MeansKind, MeansTag}
 use Rattle.flu_grammar.specs.Faults.{NoneIsNamed, IsNotContinued, OpensTooMany, IsDeclaredTwice, IsOnTwice, IsFileTwice}
 use Rattle.flu_grammar.specs.Jobs.{MeansVersion}
@@ -85,16 +91,42 @@ pub data BreaksTag (text : List ℕ) (kinds : List DeclaredKind) (itags : ℕ) (
   tag_key : (n : WrittenNumber) → IsWrittenKey t.keys n → key_count ≤ written_value n.value
       → BreaksTag text kinds itags earlier t (j.OverLimit Key (written_value n.value))
 
+-- ---- lists of names
+
+-- the list that a declaration names
+pub data BreaksList (text : List ℕ) (version : ℕ) (all : Declarations) (by : WrittenBy) : JobFault → Type 0 where
+  list_of_older : version ≢ 3 → BreaksList text version all by (j.WrongShape by.at)
+  list_unknown : NoneIsNamed (λ (name : List ℕ). name) (list_names text all) (name_of text by.list)
+      → BreaksList text version all by (j.UnknownName by.list.from)
+
+-- a text of a list, behind others
+pub data BreaksName (text : List ℕ) (earlier : List WrittenSpan) (s : WrittenSpan) : JobFault → Type 0 where
+  no_name : ¬ IsTrue (is_listed_text (inside text s)) → BreaksName text earlier s (j.WrongShape s.from)
+  -- at most 65,536
+  too_many_names : key_count ≤ length earlier → BreaksName text earlier s (j.OverLimit NamesLimit 65537)
+  name_twice : (i : ℕ) (other : WrittenSpan) → slice_get earlier i ≡ Some other → inside text other ≡ inside text s
+      → BreaksName text earlier s (j.TwiceNamed s.from)
+
 -- ---- declarations
 
 -- a declaration of a job of this version, behind others
 pub data BreaksDeclaration (text : List ℕ) (version : ℕ) (all before : Declarations) : Declaration → JobFault → Type 0 where
   -- in version 3 no cell is called `item`
-  called_item : (name : WrittenSpan) (keyed : Bool) (sort : Sort) → version ≡ 3 → name_of text name ≡ codes "item"
-      → BreaksDeclaration text version all before (Cell name keyed sort) (j.WrongShape name.from)
+  called_item : (name : WrittenSpan) (cells : WrittenCells) (sort : Sort) → version ≡ 3 → name_of text name ≡ codes "item"
+      → BreaksDeclaration text version all before (Cell name cells sort) (j.WrongShape name.from)
   -- only in version 3 kinds have items
-  items_of_older : (name : WrittenSpan) (keyed : Bool) (at : ℕ) (has_value : Bool) → version ≢ 3
-      → BreaksDeclaration text version all before (Tag name keyed (Some at) has_value) (j.WrongShape at)
+  items_of_older : (name : WrittenSpan) (keyed : Bool) (item : WrittenItem) (has_value : Bool) → version ≢ 3
+      → BreaksDeclaration text version all before (Tag name keyed (Some item) has_value) (j.WrongShape item.at)
+  -- a list that names keys or items is declared, which only version 3 has
+  in_keys : (name : WrittenSpan) (by : WrittenBy) (sort : Sort) (fault : JobFault) → BreaksList text version all by fault
+      → BreaksDeclaration text version all before (Cell name (By by) sort) fault
+  in_items : (name : WrittenSpan) (keyed : Bool) (item : WrittenItem) (by : WrittenBy) (has_value : Bool) (fault : JobFault) → item.by ≡ Some by
+      → BreaksList text version all by fault → BreaksDeclaration text version all before (Tag name keyed (Some item) has_value) fault
+  -- only version 3 has lists of names
+  names_of_older : (at : ℕ) (name : WrittenSpan) (texts : List WrittenSpan) → version ≢ 3
+      → BreaksDeclaration text version all before (Names at name texts) (j.WrongShape at)
+  in_names : (at : ℕ) (name : WrittenSpan) (earlier later : List WrittenSpan) (s : WrittenSpan) (fault : JobFault) → BreaksName text earlier s fault
+      → BreaksDeclaration text version all before (Names at name (earlier ++ s ∷ later)) fault
   first_unknown : (a b : WrittenSpan) (relation : WrittenRelation) → NoneIsNamed declared_name (flat_map (kinds_in text) all) (name_of text a)
       → BreaksDeclaration text version all before (Depends a b relation) (j.UnknownName a.from)
   second_unknown : (a b : WrittenSpan) (relation : WrittenRelation) → NoneIsNamed declared_name (flat_map (kinds_in text) all) (name_of text b)
@@ -126,9 +158,10 @@ pub data BreaksDeclaration (text : List ℕ) (version : ℕ) (all before : Decla
 
 pub data BreaksJob (text : List ℕ) (job : WrittenJob) : JobFault → Type 0 where
   declared_twice : (at : ℕ) → IsDeclaredTwice text job.declarations at → BreaksJob text job (j.TwiceNamed at)
-  -- at most 64 families, kinds and sources each, and 4,096 `depends`
+  -- at most 64 families, kinds, lists and sources each, and 4,096 `depends`
   too_many_families : 64 < length (flat_map (families_in text) job.declarations) → BreaksJob text job (j.OverLimit Families 65)
   too_many_kinds : 64 < length (flat_map (kinds_in text) job.declarations) → BreaksJob text job (j.OverLimit Kinds 65)
+  too_many_lists : 64 < length (flat_map lists_in job.declarations) → BreaksJob text job (j.OverLimit Lists 65)
   too_many_sources : 64 < length (flat_map sources_in job.declarations) → BreaksJob text job (j.OverLimit Sources 65)
   too_many_depends : 4096 < length (flat_map depends_in job.declarations) → BreaksJob text job (j.OverLimit DependsLimit 4097)
   no_version : (head : WrittenHead) → job.head ≡ Some head → ¬ IsTrue (is_version (written_value head.version.value))

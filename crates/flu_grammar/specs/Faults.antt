@@ -14,7 +14,7 @@ use Rattle.flu_model.specs.declared.jobs.Program.{Program}
 use Rattle.flu_model.specs.declared.plans.Node.{Node}
 use Rattle.flu_model.specs.Erasure.{Job}
 use Rattle.flu_text.specs.declared.written.WrittenSpan.{WrittenSpan}
-use Rattle.flu_syntax.specs.Tree.{Action, Declaration, Declarations, Cell, Tag, Depends, On, Source as SourceLine}
+use Rattle.flu_syntax.specs.Tree.{Action, Declaration, Declarations, Cell, Tag, Names, Depends, On, Source as SourceLine}
 use Rattle.flu_layout.specs.Spelling.{name_of, inside}
 use Rattle.flu_parse.specs.declared.faults.JobFault.{JobFault}
 use Rattle.flu_parse.specs.declared.faults.JobFault.TheVariants as j
@@ -120,8 +120,9 @@ ChildIsUnknown =
 
 -- the written name that a declaration gives
 abbrev pub spans_in : Declaration → List WrittenSpan
-spans_in (Cell name keyed sort) = name ∷ []
+spans_in (Cell name cells sort) = name ∷ []
 spans_in (Tag name keyed item has_value) = name ∷ []
+spans_in (Names at name texts) = name ∷ []
 spans_in (Depends a b relation) = []
 spans_in (On kind actions) = []
 spans_in (SourceLine name file rate slack tags) = name ∷ []

@@ -75,15 +75,16 @@ pub fn job_texts_keep_rules()
 }
 
 /// The normal form of the job that a text means has at most 26,214,400 bytes: each expression is printed with at most 23 bytes for each of
-/// its tokens and 16 more, and all else has the bounds that the rules of a job give.
+/// its tokens and 16 more, each list of names with at most 23 for each byte of its texts and 41 more, and all else has the bounds that the
+/// rules of a job give.
 pub fn normal_forms_are_short()
     ensures { NormalFormIsShort }
 {
     tokens_stand();
 }
 
-/// The normal form of the job that a text means is UTF-8: names, files and plain pieces of templates are in the text between two of its
-/// characters, and all else that is printed is ASCII.
+/// The normal form of the job that a text means is UTF-8: names, files, texts of lists and plain pieces of templates are in the text between
+/// two of its characters, and all else that is printed is ASCII.
 pub fn normal_forms_are_utf8()
     ensures { NormalFormIsUtf8 }
 {}

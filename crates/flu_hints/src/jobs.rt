@@ -51,6 +51,33 @@ fn itag_count(keys: &WrittenKeys) -> i64 {
     }
 }
 
+/// The n-th list of names.
+pub fn list_place(job: &WrittenJob, count: u64) -> Option<usize> {
+    let mut met = 0u64;
+    for declaration in job.declarations.items() {
+        if let WrittenDeclaration::Names { at, .. } = declaration {
+            met = met.saturating_add(1);
+            if met == count {
+                return Some(*at);
+            }
+        }
+    }
+    None
+}
+
+/// The n-th name of the first list that has so many.
+pub fn listed_name_place(job: &WrittenJob, count: u64) -> Option<usize> {
+    let place = usize::try_from(count).ok()?.checked_sub(1)?;
+    for declaration in job.declarations.items() {
+        if let WrittenDeclaration::Names { texts, .. } = declaration {
+            if let Some(text) = texts.items().get(place) {
+                return Some(text.from);
+            }
+        }
+    }
+    None
+}
+
 /// The first action that is one too many of its kind.
 pub fn actions_place(job: &WrittenJob) -> Option<usize> {
     for declaration in job.declarations.items() {

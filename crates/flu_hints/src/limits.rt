@@ -1,6 +1,8 @@
 //! The place at which a text exceeds a limit.
 
-use crate::jobs::{actions_place, height_place, itags_place, nesting_place};
+use crate::jobs::{
+    actions_place, height_place, itags_place, list_place, listed_name_place, nesting_place,
+};
 use crate::plans::{depth_place, predicates_place};
 use flu_model::What;
 use flu_syntax::{WrittenJob, read_syntax};
@@ -32,6 +34,8 @@ pub fn limit_place(alloc: Global, what: What, count: u64, text: &[u8]) -> Option
         What::Predicates => predicates_place(found, count),
         What::Rate => place_behind(found, Reserved::Rate, count),
         What::Slack => place_behind(found, Reserved::Slack, count),
+        What::Lists => list_place(&job_in(alloc, text, found)?, count),
+        What::Names => listed_name_place(&job_in(alloc, text, found)?, count),
         What::Key => key_place(text, found, count),
     }
 }

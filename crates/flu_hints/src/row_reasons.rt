@@ -2,7 +2,7 @@
 
 use crate::places::push_line;
 use flu_calendar::{read_time, times_end};
-use flu_model::{Keys, Program, Source, TagRef, Unit};
+use flu_model::{Keys, NameList, Program, Source, TagRef, Unit};
 use flu_streams::Why;
 use std::alloc::{AllocError, Global};
 
@@ -11,6 +11,9 @@ const GREATEST_SLACK: u64 = 60_000;
 
 /// The bytes of a date and a time of day, as 2026-03-02 08:05:00.
 const SECOND_LEN: usize = 19;
+
+/// How many names of a list are shown.
+const SHOWN_NAMES: usize = 8;
 
 /// One more than the events and heartbeats that may be held.
 const TOO_MANY_TO_HOLD: u64 = 16_777_217;
@@ -30,6 +33,10 @@ pub fn push_reason(
         Why::Unclosed => push_line(told, "the last line of a source is: end"),
         Why::AfterEnd => push_line(told, "only blank lines may follow the line: end"),
         Why::UnknownTag => push_tags(alloc, told, program, source),
+        Why::UnknownItem => match row.and_then(|row| list_of_row(program, row)) {
+            Some(list) => push_names(alloc, told, list),
+            None => Ok(()),
+        },
         Why::BadRow => match row.and_then(|row| bad_row_reason(program, row)) {
             Some(reason) => push_line(told, reason),
             None => Ok(()),
@@ -101,6 +108,34 @@ fn push_tag(
         Keys::Range(low, high) => format!(in alloc; "[{low}..{high}]")?,
     };
     listed.push_str(keys.as_str())
+}
+
+// The list that names the items of a row's kind.
+fn list_of_row<'p>(program: &'p Program, row: &str) -> Option<&'p NameList> {
+    let tag = row.split(',').nth(1)?;
+    let name = match tag.split_once('[') {
+        Some((name, _)) => name,
+        None => tag,
+    };
+    let kind = program.kinds.items().iter().find(|kind| kind.name.as_str() == name)?;
+    program.lists.items().get(kind.list? as usize)
+}
+
+// Appends the first names of a list, as rows give items.
+fn push_names(alloc: Global, told: &mut String, list: &NameList) -> Result<(), AllocError> {
+    let name = list.name();
+    let mut names = format!(in alloc; "an item is one of the names of the list {name}:")?;
+    for number in 0..SHOWN_NAMES {
+        let Some(text) = list.text(number) else {
+            return push_line(told, names.as_str());
+        };
+        names.push_str(if number == 0 { " " } else { ", " })?;
+        names.push_str(text)?;
+    }
+    if list.len() > SHOWN_NAMES {
+        names.push_str(", ..")?;
+    }
+    push_line(told, names.as_str())
 }
 
 // What makes a row none, by its first field that has no form. Nothing where a quote may change what its fields are, or where each field

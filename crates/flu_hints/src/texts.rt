@@ -5,7 +5,7 @@ use crate::places::{line_begin, push_line, push_place};
 use flu_model::What;
 use flu_parse::JobFault;
 use flu_plan::PlanFault;
-use flu_text::{Reserved, Word, tokens};
+use flu_text::{Contextual, Mark, Reserved, Token, Word, tokens};
 use std::alloc::{AllocError, Global};
 use std::str;
 
@@ -134,7 +134,10 @@ fn limit_advice(what: What) -> Option<&'static str> {
         What::Height => Some("an expression is at most 32 operators deep"),
         What::Slack => Some("a slack is at most 60000, in the unit of the times"),
         What::Key => Some("a key is at most 65535"),
-        What::Families | What::Kinds | What::Sources => Some("at most 64 of these may be declared"),
+        What::Families | What::Kinds | What::Sources | What::Lists => {
+            Some("at most 64 of these may be declared")
+        }
+        What::Names => Some("a list has at most 65536 names"),
         What::Depends => Some("at most 4096 dependencies may be declared"),
         What::Rate | What::Nodes | What::Predicates | What::Depth => None,
     }
@@ -160,11 +163,12 @@ fn push_first_name(
         return Ok(());
     };
     let mut is_declared = false;
-    for token in found.as_slice() {
-        if is_declared && spelled(text, token) == Some(wanted) {
+    for (place, token) in found.iter().enumerate() {
+        let is_declared_here = is_declared || names_list(found.as_slice(), place);
+        if is_declared_here && spelled(text, token) == Some(wanted) {
             let (number, _) = line_begin(text.as_bytes(), token.from);
             let advice = format!(in alloc;
-                "{wanted} is named first on line {number}; cells, tags and sources share one set of names"
+                "{wanted} is named first on line {number}; cells, tags, lists and sources share one set of names"
             )?;
             return push_line(told, advice.as_str());
         }
@@ -197,6 +201,17 @@ fn word_advice(alloc: Global, language: Language, text: &[u8], at: usize) -> Opt
         before = Some(token.word);
     }
     None
+}
+
+// Whether the token at this place is the name of a list: it stands between `names` and a colon.
+fn names_list(found: &[Token], place: usize) -> bool {
+    let Some(before) = place.checked_sub(1).and_then(|place| found.get(place)) else {
+        return false;
+    };
+    let Some(behind) = found.get(place.saturating_add(1)) else {
+        return false;
+    };
+    before.word == Word::Name(Contextual::Names) && behind.word == Word::Mark(Mark::Colon)
 }
 
 // Whether a name is declared by the word before it.

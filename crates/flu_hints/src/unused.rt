@@ -6,7 +6,7 @@ use std::alloc::AllocError;
 use std::{fs, rt};
 
 /// What a person may want to know of a job though it is one: that it has no source or no output, kinds that no source lists, cells that
-/// are never read, and files of its sources that are not there. Empty if there is nothing of the kind.
+/// are never read, lists that name nothing, and files of its sources that are not there. Empty if there is nothing of the kind.
 pub fn job_hint<R: rt::Files + AllocGlobal>(
     rt: &R,
     program: &Program,
@@ -15,6 +15,7 @@ pub fn job_hint<R: rt::Files + AllocGlobal>(
     push_emptiness(&mut told, program)?;
     push_unlisted(rt, &mut told, program)?;
     push_unread(rt, &mut told, program)?;
+    push_idle_lists(rt, &mut told, program)?;
     push_absent(rt, &mut told, program)?;
     Ok(told)
 }
@@ -124,6 +125,31 @@ fn expr_reads(expr: &Expr, family: u32) -> bool {
         Expr::Neg(inner) | Expr::Not(inner) => expr_reads(inner, family),
         Expr::Two(_, left, right) => expr_reads(left, family) || expr_reads(right, family),
     }
+}
+
+// Appends the lists that name neither keys nor items.
+fn push_idle_lists<R: rt::Files + AllocGlobal>(
+    rt: &R,
+    told: &mut String,
+    program: &Program,
+) -> Result<(), AllocError> {
+    let mut number = 0u32;
+    for list in program.lists.items() {
+        if !is_used(program, number) {
+            let name = list.name();
+            let line = format!(in rt.alloc();
+                "the list {name} is never used: no cell is keyed by it, and no tag has items by it"
+            )?;
+            push_line(told, line.as_str())?;
+        }
+        number = number.saturating_add(1);
+    }
+    Ok(())
+}
+
+fn is_used(program: &Program, list: u32) -> bool {
+    program.families.items().iter().any(|family| family.list == Some(list))
+        || program.kinds.items().iter().any(|kind| kind.list == Some(list))
 }
 
 // Appends the files of sources that cannot be found, each with the system's reason.

@@ -17,7 +17,7 @@ use Rattle.flu_model.specs.Contents.{Contents, cell, added, key_count}
 use Rattle.flu_model.specs.Expressions.{item_of, key_of, value_of_expr}
 use Rattle.flu_model.specs.Rules.{has_sort, ref_fits, act_fits, action_fits}
 use Rattle.flu_model.specs.Sorts.{is_cell_of, MayHold}
-use Rattle.flu_model.specs.Texts.{Unit}
+use Rattle.flu_model.specs.Texts.{Showing}
 use Rattle.flu_model.specs.Updates.{effect_of_action, passes_guard}
 use Rattle.flu_laws.specs.Changes.{applied, reach, hits, amount_of_act, amount_of_action, amount_added, level_of_act, level_of_action, level_reached, higher}
 use Rattle.flu_laws.proofs.Algebra.{added-zero, added-holds}
@@ -28,7 +28,7 @@ reach_holds : (l : Option ℤ) → HoldsSort MaxSort (applied (reach l) None)
 reach_holds None = tt
 reach_holds (Some v) = tt
 
-module _ (iso : Option Unit) (families : List Family) (keyed has_value : Bool) (x : Event) (key : ℕ) (c : Cell) (in_range : nat_lt key key_count ≡ true) where
+module _ (show : Showing) (families : List Family) (keyed has_value : Bool) (x : Event) (key : ℕ) (c : Cell) (in_range : nat_lt key key_count ≡ true) where
   -- ---- no event reaches a cell that is none of the families'
   unhit : is_cell_of families c ≡ false → (r : CellRef) → ref_fits families keyed r ≡ true → hits x key c r ≡ false
   unhit nowhere r fits =
@@ -59,7 +59,7 @@ module _ (iso : Option Unit) (families : List Family) (keyed has_value : Bool) (
   act_reaches_nothing nowhere (Flush f qs) s fits = refl
 
   adds_nothing : is_cell_of families c ≡ false → (all : List Action) (s : Contents) → list_all (action_fits families keyed has_value) all ≡ true
-      → amount_added iso families all s x key c ≡ pos 0
+      → amount_added show families all s x key c ≡ pos 0
   adds_nothing nowhere [] s fits = refl
   adds_nothing nowhere (a ∷ all) s fits =
       let one : amount_of_action a s x key c ≡ pos 0 =
@@ -67,12 +67,12 @@ module _ (iso : Option Unit) (families : List Family) (keyed has_value : Bool) (
         | true ↦ act_adds_nothing nowhere a.act s (and_left _ _ (and_left _ _ fits))
         | false ↦ refl
       ] in
-      let rest : amount_added iso families all (effect_of_action iso families a s x key).cells x key c ≡ pos 0 =
-      adds_nothing nowhere all (effect_of_action iso families a s x key).cells (and_right _ _ fits) in
+      let rest : amount_added show families all (effect_of_action show families a s x key).cells x key c ≡ pos 0 =
+      adds_nothing nowhere all (effect_of_action show families a s x key).cells (and_right _ _ fits) in
       λ i. one i +ℤ rest i
 
   reaches_nothing : is_cell_of families c ≡ false → (all : List Action) (s : Contents) → list_all (action_fits families keyed has_value) all ≡ true
-      → level_reached iso families all s x key c ≡ None
+      → level_reached show families all s x key c ≡ None
   reaches_nothing nowhere [] s fits = refl
   reaches_nothing nowhere (a ∷ all) s fits =
       let one : level_of_action a s x key c ≡ None =
@@ -80,24 +80,24 @@ module _ (iso : Option Unit) (families : List Family) (keyed has_value : Bool) (
         | true ↦ act_reaches_nothing nowhere a.act s (and_left _ _ (and_left _ _ fits))
         | false ↦ refl
       ] in
-      let rest : level_reached iso families all (effect_of_action iso families a s x key).cells x key c ≡ None =
-      reaches_nothing nowhere all (effect_of_action iso families a s x key).cells (and_right _ _ fits) in
+      let rest : level_reached show families all (effect_of_action show families a s x key).cells x key c ≡ None =
+      reaches_nothing nowhere all (effect_of_action show families a s x key).cells (and_right _ _ fits) in
       λ i. higher (one i) (rest i)
 
   -- ---- so a neutral cell then holds what it may
   pub amount_may : (all : List Action) (s : Contents) → list_all (action_fits families keyed has_value) all ≡ true
-      → has_sort (slice_get families c.family) SumSort ≡ true → MayHold families c (added None (amount_added iso families all s x key c))
+      → has_sort (slice_get families c.family) SumSort ≡ true → MayHold families c (added None (amount_added show families all s x key c))
   amount_may all s fits sort =
-      let n : ℤ = amount_added iso families all s x key c in
+      let n : ℤ = amount_added show families all s x key c in
       elim (is_cell_of families c) as (λ b. is_cell_of families c ≡ b → MayHold families c (added None n)) [
         | true ↦ λ there. may_hold families c SumSort (added None n) sort there (added-holds None n)
         | false ↦ λ nowhere. subst (MayHold families c) (sym (ap (added None) (adds_nothing nowhere all s fits) ∙ added-zero None tt)) tt
       ] refl
 
   pub level_may : (all : List Action) (s : Contents) → list_all (action_fits families keyed has_value) all ≡ true
-      → has_sort (slice_get families c.family) MaxSort ≡ true → MayHold families c (applied (reach (level_reached iso families all s x key c)) None)
+      → has_sort (slice_get families c.family) MaxSort ≡ true → MayHold families c (applied (reach (level_reached show families all s x key c)) None)
   level_may all s fits sort =
-      let l : Option ℤ = level_reached iso families all s x key c in
+      let l : Option ℤ = level_reached show families all s x key c in
       elim (is_cell_of families c) as (λ b. is_cell_of families c ≡ b → MayHold families c (applied (reach l) None)) [
         | true ↦ λ there. may_hold families c MaxSort (applied (reach l) None) sort there (reach_holds l)
         | false ↦ λ nowhere. subst (λ o. MayHold families c (applied (reach o) None)) (sym (reaches_nothing nowhere all s fits)) tt

@@ -13,7 +13,7 @@ use Rattle.flu_model.specs.declared.jobs.Act.TheVariants.{Add, Raise, Set, Clear
 use Rattle.flu_model.specs.declared.jobs.Action.{Action}
 use Rattle.flu_model.specs.Contents.{Contents, cell, is_same_cell, with_worth, added, raised, joined_worth}
 use Rattle.flu_model.specs.Expressions.{item_of, cell_of, value_of_expr}
-use Rattle.flu_model.specs.Texts.{Unit}
+use Rattle.flu_model.specs.Texts.{Showing}
 use Rattle.flu_model.specs.Updates.{changes_to, effect_of_act, effect_of_action, effect_of_actions, passes_guard}
 use Rattle.flu_model.specs.Modes.{act_overwrites, act_adds, act_raises}
 use Rattle.flu_laws.specs.Changes.{hits, amount_of_act, amount_of_action, amount_added, level_of_act, level_of_action, level_reached, higher}
@@ -53,10 +53,10 @@ there s d c f e =
 elsewhere : (s : Contents) (d c : Cell) (w : Option Worth) → is_same_cell d c ≡ false → with_worth s d w c ≡ s c
 elsewhere s d c w e = ap (λ b. cond b w (s c)) (same_cell-sym c d ∙ e)
 
-module _ (iso : Option Unit) (families : List Family) (x : Event) (key : ℕ) (c : Cell) where
+module _ (show : Showing) (families : List Family) (x : Event) (key : ℕ) (c : Cell) where
   -- ---- acts
   act_keeps : (a : Act) (s : Contents) → act_overwrites key c a ≡ false → act_adds key c a ≡ false → act_raises key c a ≡ false
-      → (effect_of_act iso families a s x key).cells c ≡ s c
+      → (effect_of_act show families a s x key).cells c ≡ s c
   act_keeps (Add r e) s own add raise = elsewhere s (cell_of r key (item_of x)) c _ (unmeant r key (item_of x) c add)
   act_keeps (Raise r e) s own add raise = elsewhere s (cell_of r key (item_of x)) c _ (unmeant r key (item_of x) c raise)
   act_keeps (Set r e) s own add raise = elsewhere s (cell_of r key (item_of x)) c _ (unmeant r key (item_of x) c own)
@@ -66,7 +66,7 @@ module _ (iso : Option Unit) (families : List Family) (x : Event) (key : ℕ) (c
   act_keeps (Flush f qs) s own add raise = ap (λ b. cond b None (s c)) own
 
   act_gains : (a : Act) (s : Contents) → act_overwrites key c a ≡ false → act_raises key c a ≡ false → HoldsSort SumSort (s c)
-      → (effect_of_act iso families a s x key).cells c ≡ added (s c) (amount_of_act a s x key c)
+      → (effect_of_act show families a s x key).cells c ≡ added (s c) (amount_of_act a s x key c)
   act_gains (Add r e) s own raise holds =
       let d : Cell = cell_of r key (item_of x) in
       let v : ℤ = value_of_expr e s x key in
@@ -82,7 +82,7 @@ module _ (iso : Option Unit) (families : List Family) (x : Event) (key : ℕ) (c
   act_gains (Flush f qs) s own raise holds = act_keeps (Flush f qs) s own refl refl ∙ sym (added-zero (s c) holds)
 
   act_reaches : (a : Act) (s : Contents) → act_overwrites key c a ≡ false → act_adds key c a ≡ false
-      → (effect_of_act iso families a s x key).cells c ≡ raised_to (s c) (level_of_act a s x key c)
+      → (effect_of_act show families a s x key).cells c ≡ raised_to (s c) (level_of_act a s x key c)
   act_reaches (Add r e) s own add = act_keeps (Add r e) s own add refl
   act_reaches (Raise r e) s own add =
       let d : Cell = cell_of r key (item_of x) in
@@ -100,45 +100,45 @@ module _ (iso : Option Unit) (families : List Family) (x : Event) (key : ℕ) (c
   -- ---- lists of actions
   pub keeps : (all : List Action) (s : Contents) → list_any (λ (a : Action). act_overwrites key c a.act) all ≡ false
       → list_any (λ (a : Action). act_adds key c a.act) all ≡ false → list_any (λ (a : Action). act_raises key c a.act) all ≡ false
-      → (effect_of_actions iso families all s x key).cells c ≡ s c
+      → (effect_of_actions show families all s x key).cells c ≡ s c
   keeps [] s own add raise = refl
   keeps (a ∷ all) s own add raise =
-      keeps all (effect_of_action iso families a s x key).cells (or_false_right (act_overwrites key c a.act) _ own)
+      keeps all (effect_of_action show families a s x key).cells (or_false_right (act_overwrites key c a.act) _ own)
       (or_false_right (act_adds key c a.act) _ add)
       (or_false_right (act_raises key c a.act) _ raise)
-      ∙ (elim (passes_guard a.guard s x key) as (λ b. (cond b (effect_of_act iso families a.act s x key) (changes_to s)).cells c ≡ s c) [
+      ∙ (elim (passes_guard a.guard s x key) as (λ b. (cond b (effect_of_act show families a.act s x key) (changes_to s)).cells c ≡ s c) [
         | true ↦ act_keeps a.act s (or_false_left _ _ own) (or_false_left _ _ add) (or_false_left _ _ raise)
         | false ↦ refl
       ])
 
   pub gains : (all : List Action) (s : Contents) → list_any (λ (a : Action). act_overwrites key c a.act) all ≡ false
       → list_any (λ (a : Action). act_raises key c a.act) all ≡ false → HoldsSort SumSort (s c)
-      → (effect_of_actions iso families all s x key).cells c ≡ added (s c) (amount_added iso families all s x key c)
+      → (effect_of_actions show families all s x key).cells c ≡ added (s c) (amount_added show families all s x key c)
   gains [] s own raise holds = sym (added-zero (s c) holds)
   gains (a ∷ all) s own raise holds =
-      let first : (effect_of_action iso families a s x key).cells c ≡ added (s c) (amount_of_action a s x key c) =
-      elim (passes_guard a.guard s x key) as (λ b. (cond b (effect_of_act iso families a.act s x key) (changes_to s)).cells c ≡ added (s c)
+      let first : (effect_of_action show families a s x key).cells c ≡ added (s c) (amount_of_action a s x key c) =
+      elim (passes_guard a.guard s x key) as (λ b. (cond b (effect_of_act show families a.act s x key) (changes_to s)).cells c ≡ added (s c)
       (cond b (amount_of_act a.act s x key c) (pos 0))) [
         | true ↦ act_gains a.act s (or_false_left _ _ own) (or_false_left _ _ raise) holds
         | false ↦ sym (added-zero (s c) holds)
       ] in
-      gains all (effect_of_action iso families a s x key).cells (or_false_right (act_overwrites key c a.act) _ own)
+      gains all (effect_of_action show families a s x key).cells (or_false_right (act_overwrites key c a.act) _ own)
       (or_false_right (act_raises key c a.act) _ raise) (subst (HoldsSort SumSort) (sym first) (added-holds (s c) _))
-      ∙ ap (λ w. added w (amount_added iso families all (effect_of_action iso families a s x key).cells x key c)) first
-      ∙ added-added (s c) (amount_of_action a s x key c) (amount_added iso families all (effect_of_action iso families a s x key).cells x key c)
+      ∙ ap (λ w. added w (amount_added show families all (effect_of_action show families a s x key).cells x key c)) first
+      ∙ added-added (s c) (amount_of_action a s x key c) (amount_added show families all (effect_of_action show families a s x key).cells x key c)
 
   pub reaches : (all : List Action) (s : Contents) → list_any (λ (a : Action). act_overwrites key c a.act) all ≡ false
       → list_any (λ (a : Action). act_adds key c a.act) all ≡ false
-      → (effect_of_actions iso families all s x key).cells c ≡ raised_to (s c) (level_reached iso families all s x key c)
+      → (effect_of_actions show families all s x key).cells c ≡ raised_to (s c) (level_reached show families all s x key c)
   reaches [] s own add = refl
   reaches (a ∷ all) s own add =
-      let first : (effect_of_action iso families a s x key).cells c ≡ raised_to (s c) (level_of_action a s x key c) =
-      elim (passes_guard a.guard s x key) as (λ b. (cond b (effect_of_act iso families a.act s x key) (changes_to s)).cells c ≡ raised_to (s c)
+      let first : (effect_of_action show families a s x key).cells c ≡ raised_to (s c) (level_of_action a s x key c) =
+      elim (passes_guard a.guard s x key) as (λ b. (cond b (effect_of_act show families a.act s x key) (changes_to s)).cells c ≡ raised_to (s c)
       (cond b (level_of_act a.act s x key c) None)) [
         | true ↦ act_reaches a.act s (or_false_left _ _ own) (or_false_left _ _ add)
         | false ↦ refl
       ] in
-      reaches all (effect_of_action iso families a s x key).cells (or_false_right (act_overwrites key c a.act) _ own)
+      reaches all (effect_of_action show families a s x key).cells (or_false_right (act_overwrites key c a.act) _ own)
       (or_false_right (act_adds key c a.act) _ add)
-      ∙ ap (λ w. raised_to w (level_reached iso families all (effect_of_action iso families a s x key).cells x key c)) first
-      ∙ raised_to-higher (s c) (level_of_action a s x key c) (level_reached iso families all (effect_of_action iso families a s x key).cells x key c)
+      ∙ ap (λ w. raised_to w (level_reached show families all (effect_of_action show families a s x key).cells x key c)) first
+      ∙ raised_to-higher (s c) (level_of_action a s x key c) (level_reached show families all (effect_of_action show families a s x key).cells x key c)

@@ -13,8 +13,8 @@ use Rattle.flu_model.specs.declared.modes.Mode.{Mode}
 use Rattle.flu_model.specs.declared.modes.Mode.TheVariants.{None as NoMode, Add as AddMode, Raise as RaiseMode, Read as ReadMode, Own}
 use Rattle.flu_model.specs.Contents.{Contents}
 use Rattle.flu_model.specs.Itags.{tag_of_itag}
-use Rattle.flu_model.specs.Texts.{Unit}
-use Rattle.flu_model.specs.Updates.{actions_of}
+use Rattle.flu_model.specs.Texts.{Showing}
+use Rattle.flu_model.specs.Updates.{actions_of, showing_of}
 use Rattle.flu_model.specs.Modes.{mode_of, modes_conflict}
 use Rattle.flu_laws.specs.Changes.{applied, reach, amount_added, level_reached, change_by}
 use Rattle.flu_laws.specs.Spans.{Moment, change_at, changed_by, GoesWith, UpdatesInPlace}
@@ -30,25 +30,26 @@ applied-reach-swap a b w =
     ∙ raised_to-higher w b a ∙ ap (raised_to w) (higher-comm b a) ∙ sym (raised_to-higher w a b)
     ∙ ap (λ u. raised_to u b) (applied-reach a w) ∙ applied-reach b (applied (reach a) w)
 
-swap_by : (iso : Option Unit) (families : List Family) (m n : Mode) (all others : List Action) (s t : Contents) (x y : Event) (i j : ℕ) (c : Cell)
+swap_by : (show shown : Showing) (families : List Family) (m n : Mode) (all others : List Action) (s t : Contents) (x y : Event) (i j : ℕ) (c : Cell)
     (w : Option Worth) → modes_conflict m n ≡ false
-    → applied (change_by iso families m all s x i c) (applied (change_by iso families n others t y j c) w) ≡ applied (change_by iso families n others t y j c)
-    (applied (change_by iso families m all s x i c) w)
-swap_by iso families NoMode n all others s t x y i j c w ok = refl
-swap_by iso families ReadMode n all others s t x y i j c w ok = refl
-swap_by iso families m NoMode all others s t x y i j c w ok = refl
-swap_by iso families m ReadMode all others s t x y i j c w ok = refl
-swap_by iso families AddMode AddMode all others s t x y i j c w ok =
-    added-swap w (amount_added iso families others t y j c) (amount_added iso families all s x i c)
-swap_by iso families AddMode RaiseMode all others s t x y i j c w ok = cc
-swap_by iso families AddMode Own all others s t x y i j c w ok = cc
-swap_by iso families RaiseMode AddMode all others s t x y i j c w ok = cc
-swap_by iso families RaiseMode RaiseMode all others s t x y i j c w ok =
-    applied-reach-swap (level_reached iso families all s x i c) (level_reached iso families others t y j c) w
-swap_by iso families RaiseMode Own all others s t x y i j c w ok = cc
-swap_by iso families Own AddMode all others s t x y i j c w ok = cc
-swap_by iso families Own RaiseMode all others s t x y i j c w ok = cc
-swap_by iso families Own Own all others s t x y i j c w ok = cc
+    → applied (change_by show families m all s x i c) (applied (change_by shown families n others t y j c) w)
+    ≡ applied (change_by shown families n others t y j c)
+    (applied (change_by show families m all s x i c) w)
+swap_by show shown families NoMode n all others s t x y i j c w ok = refl
+swap_by show shown families ReadMode n all others s t x y i j c w ok = refl
+swap_by show shown families m NoMode all others s t x y i j c w ok = refl
+swap_by show shown families m ReadMode all others s t x y i j c w ok = refl
+swap_by show shown families AddMode AddMode all others s t x y i j c w ok =
+    added-swap w (amount_added shown families others t y j c) (amount_added show families all s x i c)
+swap_by show shown families AddMode RaiseMode all others s t x y i j c w ok = cc
+swap_by show shown families AddMode Own all others s t x y i j c w ok = cc
+swap_by show shown families RaiseMode AddMode all others s t x y i j c w ok = cc
+swap_by show shown families RaiseMode RaiseMode all others s t x y i j c w ok =
+    applied-reach-swap (level_reached show families all s x i c) (level_reached shown families others t y j c) w
+swap_by show shown families RaiseMode Own all others s t x y i j c w ok = cc
+swap_by show shown families Own AddMode all others s t x y i j c w ok = cc
+swap_by show shown families Own RaiseMode all others s t x y i j c w ok = cc
+swap_by show shown families Own Own all others s t x y i j c w ok = cc
 
 -- a change that goes with all later ones may come last
 last_of : (p : Program) (c : Cell) (m : Moment) (w : Option Worth) (after : List Moment) → AllByRecursion (GoesWith p c m.event) after
@@ -59,7 +60,7 @@ last_of p c m w (q ∷ after) go =
     ∙ ap (λ u. changed_by p c u after) (
     let g : Tag = tag_of_itag p m.event.itag in
     let h : Tag = tag_of_itag p q.event.itag in
-    swap_by p.iso p.families (mode_of p g c) (mode_of p h c) (actions_of (slice_get p.kinds g.kind))
+    swap_by (showing_of p g.kind) (showing_of p h.kind) p.families (mode_of p g c) (mode_of p h c) (actions_of (slice_get p.kinds g.kind))
     (actions_of (slice_get p.kinds h.kind)) m.before q.before m.event q.event g.key h.key c w go.0
     )
 

@@ -14,7 +14,7 @@ use Rattle.flu_model.specs.declared.jobs.Act.TheVariants.{Add, Raise, Set, Clear
 use Rattle.flu_model.specs.declared.jobs.Action.{Action}
 use Rattle.flu_model.specs.Contents.{Contents, cell, is_same_cell, with_worth, without_family, key_count}
 use Rattle.flu_model.specs.Expressions.{item_of, cell_of, value_of_expr}
-use Rattle.flu_model.specs.Texts.{Unit}
+use Rattle.flu_model.specs.Texts.{Showing}
 use Rattle.flu_model.specs.Updates.{changes_to, effect_of_act, effect_of_action, effect_of_actions, passes_guard}
 use Rattle.flu_model.specs.Sorts.{MayHold, IsStateOf}
 use Rattle.flu_model.specs.Rules.{has_sort, act_fits, action_fits}
@@ -32,7 +32,7 @@ with_kept families s d w sorted holds c =
       | false ↦ λ e. sorted c
     ] refl
 
-module _ (iso : Option Unit) (families : List Family) (keyed has_value : Bool) (x : Event) (key : ℕ) (in_range : nat_lt key key_count ≡ true) where
+module _ (show : Showing) (families : List Family) (keyed has_value : Bool) (x : Event) (key : ℕ) (in_range : nat_lt key key_count ≡ true) where
   without_kept : (f : ℕ) (s : Contents) → IsStateOf families s → IsStateOf families (without_family s f)
   without_kept f s sorted =
       λ c. elim (c.family == f) as (λ b. MayHold families c (cond b None (s c))) [
@@ -41,7 +41,7 @@ module _ (iso : Option Unit) (families : List Family) (keyed has_value : Bool) (
       ]
 
   act_keeps : (a : Act) (s : Contents) → act_fits families keyed has_value a ≡ true → IsStateOf families s
-      → IsStateOf families (effect_of_act iso families a s x key).cells
+      → IsStateOf families (effect_of_act show families a s x key).cells
   act_keeps (Add r e) s fits sorted =
       let c : Cell = cell_of r key (item_of x) in
       let there = cell_is_there families keyed r key x in_range (and_left _ _ (and_left _ _ fits)) in
@@ -64,11 +64,11 @@ module _ (iso : Option Unit) (families : List Family) (keyed has_value : Bool) (
   act_keeps (Flush f qs) s fits sorted = without_kept f s sorted
 
   pub actions_keep : (all : List Action) (s : Contents) → list_all (action_fits families keyed has_value) all ≡ true → IsStateOf families s
-      → IsStateOf families (effect_of_actions iso families all s x key).cells
+      → IsStateOf families (effect_of_actions show families all s x key).cells
   actions_keep [] s fits sorted = sorted
   actions_keep (a ∷ all) s fits sorted =
-      actions_keep all (effect_of_action iso families a s x key).cells (and_right _ _ fits)
-      (elim (passes_guard a.guard s x key) as (λ b. IsStateOf families (cond b (effect_of_act iso families a.act s x key) (changes_to s)).cells) [
+      actions_keep all (effect_of_action show families a s x key).cells (and_right _ _ fits)
+      (elim (passes_guard a.guard s x key) as (λ b. IsStateOf families (cond b (effect_of_act show families a.act s x key) (changes_to s)).cells) [
         | true ↦ act_keeps a.act s (and_left _ _ (and_left _ _ fits)) sorted
         | false ↦ sorted
       ])

@@ -12,7 +12,7 @@ use Rattle.flu_model.specs.Contents.{Contents, joined_worth}
 use Rattle.flu_model.specs.Itags.{count_of_itags, tag_of_itag, source_of_itag, is_dependent, itags}
 use Rattle.flu_model.specs.Listing.{tag}
 use Rattle.std.proofs.lemmas.List.Elements.{Contains-get_or}
-use Rattle.flu_model.specs.Updates.{actions_of}
+use Rattle.flu_model.specs.Updates.{actions_of, showing_of}
 use Rattle.flu_model.specs.Modes.{mode_of, modes_conflict, IsAccepted, IsInUniverse}
 use Rattle.flu_laws.specs.Consistency.{IsNeutralAtNeeds, UpdatesLeft, UpdatesRight, Commutes, JoinsSplits}
 use Rattle.flu_laws.proofs.Programs.{found_fits}
@@ -30,13 +30,15 @@ pub left_law : (p : Program) → UpdatesLeft p
 left_law p s t x left right in_range n =
     let g : Tag = tag_of_itag p x.itag in
     let found = found_fits p.families p.kinds g.kind p.kinds_fit in
-    updates_left p.version p.iso p.families found.0 found.1.0 x g.key (actions_of (slice_get p.kinds g.kind)) found.1.1 s t left right (neutral p x t n)
+    updates_left p.version (showing_of p g.kind) p.families found.0 found.1.0 x g.key (actions_of (slice_get p.kinds g.kind)) found.1.1 s t
+    left right (neutral p x t n)
 
 pub right_law : (p : Program) → UpdatesRight p
 right_law p s t x left right in_range n =
     let g : Tag = tag_of_itag p x.itag in
     let found = found_fits p.families p.kinds g.kind p.kinds_fit in
-    updates_right p.version p.iso p.families found.0 found.1.0 x g.key (actions_of (slice_get p.kinds g.kind)) found.1.1 s t left right (neutral p x s n)
+    updates_right p.version (showing_of p g.kind) p.families found.0 found.1.0 x g.key (actions_of (slice_get p.kinds g.kind)) found.1.1 s t
+    left right (neutral p x s n)
 
 in_universe : (p : Program) (x : Event) → x.itag.0 < count_of_itags p → IsInUniverse p (tag_of_itag p x.itag)
 in_universe p x lt = (source_of_itag p x.itag, Contains-get_or (itags p) x.itag.0 (tag 0 0, 0) lt)
@@ -56,11 +58,14 @@ commuting_law p accepted s x y sorted in_x in_y independent =
     let one = found_fits p.families p.kinds g.kind p.kinds_fit in
     let two = found_fits p.families p.kinds h.kind p.kinds_fit in
     let apart : (c : Cell) → modes_conflict (mode_of p g c) (mode_of p h c) ≡ false = no_conflict p x y accepted in_x in_y independent in (
-      cells_commute p.version p.iso p.families one.0 one.1.0 two.0 two.1.0 x y g.key h.key (actions_of (slice_get p.kinds g.kind))
+      cells_commute p.version (showing_of p g.kind) (showing_of p h.kind) p.families one.0 one.1.0 two.0 two.1.0 x y g.key h.key
+          (actions_of (slice_get p.kinds g.kind))
           (actions_of (slice_get p.kinds h.kind)) one.1.1 two.1.1 apart s sorted,
-      texts_second p.version p.iso p.families one.0 one.1.0 two.0 two.1.0 x y g.key h.key (actions_of (slice_get p.kinds g.kind))
+      texts_second p.version (showing_of p g.kind) (showing_of p h.kind) p.families one.0 one.1.0 two.0 two.1.0 x y g.key h.key
+          (actions_of (slice_get p.kinds g.kind))
           (actions_of (slice_get p.kinds h.kind)) one.1.1 two.1.1 apart s sorted,
-      texts_first p.version p.iso p.families one.0 one.1.0 two.0 two.1.0 x y g.key h.key (actions_of (slice_get p.kinds g.kind))
+      texts_first p.version (showing_of p g.kind) (showing_of p h.kind) p.families one.0 one.1.0 two.0 two.1.0 x y g.key h.key
+          (actions_of (slice_get p.kinds g.kind))
           (actions_of (slice_get p.kinds h.kind)) one.1.1 two.1.1 apart s sorted,
     )
 

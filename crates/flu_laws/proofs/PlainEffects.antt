@@ -21,8 +21,9 @@ use Rattle.flu_model.specs.Erasure.{term_of, PlainAct, Adding, Raising, Setting,
 use Rattle.flu_model.specs.Erasure.{plain_action, PlainKind, plain_kind, Job, job_of, IsSameJob}
 use Rattle.flu_model.specs.Expressions.{cell_of, item_of, clamped, as_number, is_true, result_of, value_of_expr}
 use Rattle.flu_model.specs.Listing.{tag, itags_of_sources}
-use Rattle.flu_model.specs.Texts.{Unit, pieces_text}
+use Rattle.flu_model.specs.Texts.{Showing, pieces_text}
 use Rattle.flu_model.specs.Updates.{Effect, changes_to, effect_of_act, passes_guard, effect_of_action, effect_of_actions, actions_of, effect_of}
+use Rattle.flu_model.specs.Updates.{list_of_kind, showing_of, with_keys}
 
 -- ---- the update depends on the actions as plain data
 value_of_term : Term → Contents → Event → ℕ → ℤ
@@ -50,30 +51,34 @@ value-term (Neg' p e) s x key = ap (λ z. clamped (neg_ℤ z)) (value-term e s x
 value-term (Not' p e) s x key = ap (λ z. as_number (not (is_true z))) (value-term e s x key)
 value-term (Two' op p a q b) s x key = λ i. result_of op (value-term a s x key i) (value-term b s x key i)
 
-effect_of_plain_act : Option Unit → List Family → PlainAct → Contents → Event → ℕ → Effect
-effect_of_plain_act iso families (Adding r e) s x key =
+effect_of_plain_act : Showing → List Family → PlainAct → Contents → Event → ℕ → Effect
+effect_of_plain_act show families (Adding r e) s x key =
     changes_to (with_worth s (cell_of r key (item_of x)) (added (s (cell_of r key (item_of x))) (value_of_term e s x key)))
-effect_of_plain_act iso families (Raising r e) s x key =
+effect_of_plain_act show families (Raising r e) s x key =
     changes_to (with_worth s (cell_of r key (item_of x)) (raised (s (cell_of r key (item_of x))) (value_of_term e s x key)))
-effect_of_plain_act iso families (Setting r e) s x key = changes_to (with_worth s (cell_of r key (item_of x)) (Some (Last (value_of_term e s x key))))
-effect_of_plain_act iso families (Clearing r) s x key = changes_to (with_worth s (cell_of r key (item_of x)) None)
-effect_of_plain_act iso families (ClearingFamily f) s x key = changes_to (without_family s f)
-effect_of_plain_act iso families (Emitting ps) s x key = record { cells = s; texts = pieces_text iso families ps s x key None ∷ [] }
-effect_of_plain_act iso families (Flushing f ps) s x key =
-    record { cells = without_family s f; texts = map (λ k. pieces_text iso families ps s x k (s (cell f k))) (held_keys s f) }
+effect_of_plain_act show families (Setting r e) s x key = changes_to (with_worth s (cell_of r key (item_of x)) (Some (Last (value_of_term e s x key))))
+effect_of_plain_act show families (Clearing r) s x key = changes_to (with_worth s (cell_of r key (item_of x)) None)
+effect_of_plain_act show families (ClearingFamily f) s x key = changes_to (without_family s f)
+effect_of_plain_act show families (Emitting ps) s x key = record { cells = s; texts = pieces_text show families ps s x key None ∷ [] }
+effect_of_plain_act show families (Flushing f ps) s x key =
+    record {
+      cells = without_family s f;
+      texts = map (λ k. pieces_text (with_keys show (slice_get families f)) families ps s x k (s (cell f k)))
+          (held_keys s f);
+    }
 
-act-plain : (iso : Option Unit) (families : List Family) (act : Act) (s : Contents) (x : Event) (key : ℕ)
-    → effect_of_act iso families act s x key ≡ effect_of_plain_act iso families (plain_act act) s x key
+act-plain : (show : Showing) (families : List Family) (act : Act) (s : Contents) (x : Event) (key : ℕ)
+    → effect_of_act show families act s x key ≡ effect_of_plain_act show families (plain_act act) s x key
 unfolding effect_of_plain_act
-act-plain iso families (Add r e) s x key =
+act-plain show families (Add r e) s x key =
     ap (λ z. changes_to (with_worth s (cell_of r key (item_of x)) (added (s (cell_of r key (item_of x))) z))) (value-term e s x key)
-act-plain iso families (Raise r e) s x key =
+act-plain show families (Raise r e) s x key =
     ap (λ z. changes_to (with_worth s (cell_of r key (item_of x)) (raised (s (cell_of r key (item_of x))) z))) (value-term e s x key)
-act-plain iso families (Set r e) s x key = ap (λ z. changes_to (with_worth s (cell_of r key (item_of x)) (Some (Last z)))) (value-term e s x key)
-act-plain iso families (Clear r) s x key = refl
-act-plain iso families (ClearFamily f) s x key = refl
-act-plain iso families (Emit ps) s x key = refl
-act-plain iso families (Flush f ps) s x key = refl
+act-plain show families (Set r e) s x key = ap (λ z. changes_to (with_worth s (cell_of r key (item_of x)) (Some (Last z)))) (value-term e s x key)
+act-plain show families (Clear r) s x key = refl
+act-plain show families (ClearFamily f) s x key = refl
+act-plain show families (Emit ps) s x key = refl
+act-plain show families (Flush f ps) s x key = refl
 
 passes_plain_guard : Option Term → Contents → Event → ℕ → Bool
 passes_plain_guard None s x key = true
@@ -85,32 +90,33 @@ unfolding passes_plain_guard
 guard-plain None s x key = refl
 guard-plain (Some e) s x key = ap is_true (value-term e s x key)
 
-effect_of_plain_action : Option Unit → List Family → PlainAction → Contents → Event → ℕ → Effect
-effect_of_plain_action iso families a s x key =
-    if passes_plain_guard a.guard s x key then effect_of_plain_act iso families a.act s x key else changes_to s
+effect_of_plain_action : Showing → List Family → PlainAction → Contents → Event → ℕ → Effect
+effect_of_plain_action show families a s x key =
+    if passes_plain_guard a.guard s x key then effect_of_plain_act show families a.act s x key else changes_to s
 
-action-plain : (iso : Option Unit) (families : List Family) (a : Action) (s : Contents) (x : Event) (key : ℕ)
-    → effect_of_action iso families a s x key ≡ effect_of_plain_action iso families (plain_action a) s x key
+action-plain : (show : Showing) (families : List Family) (a : Action) (s : Contents) (x : Event) (key : ℕ)
+    → effect_of_action show families a s x key ≡ effect_of_plain_action show families (plain_action a) s x key
 unfolding effect_of_plain_action
-action-plain iso families a s x key = λ i. if guard-plain a.guard s x key i then act-plain iso families a.act s x key i else changes_to s
+action-plain show families a s x key = λ i. if guard-plain a.guard s x key i then act-plain show families a.act s x key i else changes_to s
 
 -- one effect, and then another
 abbrev both : Effect → Effect → Effect
 both first others = record { cells = others.cells; texts = first.texts ++ others.texts }
 
-effect_of_plain_actions : Option Unit → List Family → List PlainAction → Contents → Event → ℕ → Effect
-effect_of_plain_actions iso families [] s x key = changes_to s
-effect_of_plain_actions iso families (a ∷ rest) s x key =
-    both (effect_of_plain_action iso families a s x key) (effect_of_plain_actions iso families rest (effect_of_plain_action iso families a s x key).cells x key)
+effect_of_plain_actions : Showing → List Family → List PlainAction → Contents → Event → ℕ → Effect
+effect_of_plain_actions show families [] s x key = changes_to s
+effect_of_plain_actions show families (a ∷ rest) s x key =
+    both (effect_of_plain_action show families a s x key)
+    (effect_of_plain_actions show families rest (effect_of_plain_action show families a s x key).cells x key)
 
-actions-plain : (iso : Option Unit) (families : List Family) (all : List Action) (s : Contents) (x : Event) (key : ℕ)
-    → effect_of_actions iso families all s x key ≡ effect_of_plain_actions iso families (map plain_action all) s x key
+actions-plain : (show : Showing) (families : List Family) (all : List Action) (s : Contents) (x : Event) (key : ℕ)
+    → effect_of_actions show families all s x key ≡ effect_of_plain_actions show families (map plain_action all) s x key
 unfolding effect_of_plain_actions
-actions-plain iso families [] s x key = refl
-actions-plain iso families (a ∷ rest) s x key =
-    ap (λ (first : Effect). both first (effect_of_actions iso families rest first.cells x key)) (action-plain iso families a s x key)
-    ∙ ap (λ (others : Effect). both (effect_of_plain_action iso families (plain_action a) s x key) others)
-    (actions-plain iso families rest (effect_of_plain_action iso families (plain_action a) s x key).cells x key)
+actions-plain show families [] s x key = refl
+actions-plain show families (a ∷ rest) s x key =
+    ap (λ (first : Effect). both first (effect_of_actions show families rest first.cells x key)) (action-plain show families a s x key)
+    ∙ ap (λ (others : Effect). both (effect_of_plain_action show families (plain_action a) s x key) others)
+    (actions-plain show families rest (effect_of_plain_action show families (plain_action a) s x key).cells x key)
 
 plain_actions_of : Option PlainKind → List PlainAction
 plain_actions_of None = []
@@ -125,16 +131,38 @@ kind-plain (Some k) = refl
 abbrev tag_at : List Source → Itag → Tag
 tag_at sources i = (slice_index_or (itags_of_sources 0 sources) i.0 (tag 0 0, 0)).0
 
+list_of_plain_kind : Option PlainKind → Option ℕ
+list_of_plain_kind None = None
+list_of_plain_kind (Some k) = k.list
+
+list-plain : (kind : Option Kind) → list_of_kind kind ≡ list_of_plain_kind (option_map plain_kind kind)
+unfolding list_of_plain_kind
+list-plain None = refl
+list-plain (Some k) = refl
+
+-- how times and numbers are shown at an event of this kind
+showing_at : Job → ℕ → Showing
+showing_at j kind = record { iso = j.iso; lists = j.lists; items = list_of_plain_kind (slice_get j.kinds kind); keys = None }
+
+showing-plain : (p : Program) (kind : ℕ) → showing_of p kind ≡ showing_at (job_of p) kind
+unfolding showing_at
+showing-plain p kind =
+    ap (λ items. record { iso = p.iso; lists = p.lists; items = items; keys = None })
+    (list-plain (slice_get p.kinds kind) ∙ ap list_of_plain_kind (sym (slice_get-map plain_kind p.kinds kind)))
+
 plain_effect : Job → Contents → Event → Effect
 plain_effect j s x =
-    effect_of_plain_actions j.iso j.families (plain_actions_of (slice_get j.kinds (tag_at j.sources x.itag).kind)) s x (tag_at j.sources x.itag).key
+    effect_of_plain_actions (showing_at j (tag_at j.sources x.itag).kind) j.families (plain_actions_of (slice_get j.kinds (tag_at j.sources x.itag).kind))
+    s x (tag_at j.sources x.itag).key
 
 effect-plain : (p : Program) (s : Contents) (x : Event) → effect_of p s x ≡ plain_effect (job_of p) s x
 unfolding plain_effect
 effect-plain p s x =
     let t = tag_at p.sources x.itag in
-    actions-plain p.iso p.families (actions_of (slice_get p.kinds t.kind)) s x t.key
-    ∙ ap (λ all. effect_of_plain_actions p.iso p.families all s x t.key)
+    let shown = showing_at (job_of p) t.kind in
+    ap (λ show. effect_of_actions show p.families (actions_of (slice_get p.kinds t.kind)) s x t.key) (showing-plain p t.kind)
+    ∙ actions-plain shown p.families (actions_of (slice_get p.kinds t.kind)) s x t.key
+    ∙ ap (λ all. effect_of_plain_actions shown p.families all s x t.key)
     (kind-plain (slice_get p.kinds t.kind) ∙ ap plain_actions_of (sym (slice_get-map plain_kind p.kinds t.kind)))
 
 pub same_effect : (p q : Program) (s : Contents) (x : Event) → IsSameJob p q → effect_of p s x ≡ effect_of q s x

@@ -22,7 +22,7 @@ use Rattle.flu_model.specs.declared.jobs.Piece.TheVariants.{Plain, Value as Valu
 use Rattle.flu_model.specs.declared.jobs.Piece.TheVariants.{Read as ReadField, CellValue, FamilyCell}
 use Rattle.flu_model.specs.Contents.{Contents, cell, is_same_cell, number_in}
 use Rattle.flu_model.specs.Expressions.{item_of, key_of, cell_of, value_of_expr, clamped, as_number, is_true, result_of}
-use Rattle.flu_model.specs.Texts.{Unit, neutral_of, worth_text, key_in, piece_text, pieces_text}
+use Rattle.flu_model.specs.Texts.{Showing, neutral_of, worth_text, key_in, piece_text, pieces_text}
 use Rattle.flu_model.specs.Updates.{passes_guard}
 use Rattle.flu_model.specs.Modes.{is_at, means, expr_reads, guard_reads, piece_reads, act_reads, act_overwrites}
 
@@ -74,22 +74,22 @@ guard-agree None s t x key same = refl
 guard-agree (Some e) s t x key same = ap is_true (value-agree e s t x key same)
 
 -- ---- the cells that a template reads, for a tag with this key
-pub piece-agree : (iso : Option Unit) (families : List Family) (q : Piece) (s t : Contents) (x : Event) (key : ℕ) (held : Option Worth)
-    → Agree (λ c. piece_reads key c q) s t → piece_text iso families q s x key held ≡ piece_text iso families q t x key held
-piece-agree iso families (Plain u) s t x key held same = refl
-piece-agree iso families ValueField s t x key held same = refl
-piece-agree iso families KeyField s t x key held same = refl
-piece-agree iso families ItemField s t x key held same = refl
-piece-agree iso families TimeField s t x key held same = refl
-piece-agree iso families (ReadField r) s t x key held same = ap (worth_text (neutral_of (slice_get families r.family)))
+pub piece-agree : (show : Showing) (families : List Family) (q : Piece) (s t : Contents) (x : Event) (key : ℕ) (held : Option Worth)
+    → Agree (λ c. piece_reads key c q) s t → piece_text show families q s x key held ≡ piece_text show families q t x key held
+piece-agree show families (Plain u) s t x key held same = refl
+piece-agree show families ValueField s t x key held same = refl
+piece-agree show families KeyField s t x key held same = refl
+piece-agree show families ItemField s t x key held same = refl
+piece-agree show families TimeField s t x key held same = refl
+piece-agree show families (ReadField r) s t x key held same = ap (worth_text (neutral_of (slice_get families r.family)))
     (same (cell_of r key (item_of x)) (own_means r key (item_of x)))
-piece-agree iso families CellValue s t x key held same = refl
-piece-agree iso families (FamilyCell f) s t x key held same =
+piece-agree show families CellValue s t x key held same = refl
+piece-agree show families (FamilyCell f) s t x key held same =
     ap (worth_text (neutral_of (slice_get families f))) (same (cell f (key_in (slice_get families f) key)) (same_number f))
 
-pub pieces-agree : (iso : Option Unit) (families : List Family) (qs : List Piece) (s t : Contents) (x : Event) (key : ℕ) (held : Option Worth)
-    → Agree (λ c. list_any (piece_reads key c) qs) s t → pieces_text iso families qs s x key held ≡ pieces_text iso families qs t x key held
-pieces-agree iso families [] s t x key held same = refl
-pieces-agree iso families (q ∷ qs) s t x key held same =
-    λ i. piece-agree iso families q s t x key held (λ c h. same c (or_left _ _ h)) i ++ pieces-agree iso families qs s t x key held
+pub pieces-agree : (show : Showing) (families : List Family) (qs : List Piece) (s t : Contents) (x : Event) (key : ℕ) (held : Option Worth)
+    → Agree (λ c. list_any (piece_reads key c) qs) s t → pieces_text show families qs s x key held ≡ pieces_text show families qs t x key held
+pieces-agree show families [] s t x key held same = refl
+pieces-agree show families (q ∷ qs) s t x key held same =
+    λ i. piece-agree show families q s t x key held (λ c h. same c (or_left _ _ h)) i ++ pieces-agree show families qs s t x key held
     (λ c h. same c (or_right (piece_reads key c q) _ h)) i

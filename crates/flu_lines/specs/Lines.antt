@@ -47,6 +47,8 @@ what_word whats.Nodes = codes "nodes"
 what_word whats.Predicates = codes "predicates"
 what_word whats.Depth = codes "depth"
 what_word whats.Slack = codes "slack"
+what_word whats.Lists = codes "lists"
+what_word whats.Names = codes "names"
 
 -- that there is more than the language allows
 abbrev pub limit_text : What → ℕ → List ℕ
@@ -86,6 +88,7 @@ invalid_text p nodes (Clash a i b j) = codes "clash of " ++ owned_text p nodes i
 abbrev pub why_text : Why → List ℕ
 why_text whys.BadRow = codes "bad row"
 why_text whys.UnknownTag = codes "unknown tag"
+why_text whys.UnknownItem = codes "unknown item"
 why_text (whys.Disordered last got) = codes "disordered, last " ++ decimal last ++ codes ", got " ++ decimal got
 why_text whys.Unclosed = codes "unclosed"
 why_text whys.AfterEnd = codes "after end"

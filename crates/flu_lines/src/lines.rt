@@ -182,6 +182,8 @@ fn what_word(what: What) -> &'static [u8]
         What::Predicates => b"predicates",
         What::Depth => b"depth",
         What::Slack => b"slack",
+        What::Lists => b"lists",
+        What::Names => b"names",
     }
 }
 
@@ -203,6 +205,7 @@ fn write_source_fault<E: Sink>(err: &mut E, name: &str, row: u64, why: Why) -> R
     match why {
         Why::BadRow => write_row(err, name, row, b"bad row"),
         Why::UnknownTag => write_row(err, name, row, b"unknown tag"),
+        Why::UnknownItem => write_row(err, name, row, b"unknown item"),
         Why::Disordered { last, got } => write_disordered(err, name, row, last, got),
         Why::Unclosed => write_row(err, name, row, b"unclosed"),
         Why::AfterEnd => write_row(err, name, row, b"after end"),

@@ -1,1 +1,2 @@
 pub mod ItagLemmas
+pub mod NameLemmas

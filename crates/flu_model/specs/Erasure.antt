@@ -14,6 +14,7 @@ use Rattle.flu_model.specs.declared.jobs.Family.{Family}
 use Rattle.flu_model.specs.declared.jobs.Depend.{Depend}
 use Rattle.flu_model.specs.declared.jobs.Source.{Source}
 use Rattle.flu_model.specs.declared.jobs.Program.{Program}
+use Rattle.flu_model.specs.Numberings.{Numbering}
 
 -- an expression as it is written
 pub data Term : Type 0 where
@@ -70,23 +71,40 @@ pub record PlainKind : Type 0 where
   pub name : List ℕ
   pub keyed : Bool
   pub has_item : Bool
+  pub list : Option ℕ
   pub has_value : Bool
   pub actions : List PlainAction
 
 abbrev pub plain_kind : Kind → PlainKind
-plain_kind k = record { name = k.name; keyed = k.keyed; has_item = k.has_item; has_value = k.has_value; actions = map plain_action k.actions }
+plain_kind k = record {
+  name = k.name;
+  keyed = k.keyed;
+  has_item = k.has_item;
+  list = k.list;
+  has_value = k.has_value;
+  actions = map plain_action k.actions;
+}
 
 -- a job as it is written
 pub record Job : Type 0 where
   pub version : ℕ
   pub iso : Option Unit
+  pub lists : List Numbering
   pub families : List Family
   pub kinds : List PlainKind
   pub depends : List Depend
   pub sources : List Source
 
 abbrev pub job_of : Program → Job
-job_of p = record { version = p.version; iso = p.iso; families = p.families; kinds = map plain_kind p.kinds; depends = p.depends; sources = p.sources }
+job_of p = record {
+  version = p.version;
+  iso = p.iso;
+  lists = p.lists;
+  families = p.families;
+  kinds = map plain_kind p.kinds;
+  depends = p.depends;
+  sources = p.sources;
+}
 
 -- two programs are the same job
 abbrev pub IsSameJob : Program → Program → Type 0

@@ -1,11 +1,13 @@
 pub mod Contents
 pub mod Expressions
+pub mod Numberings
 pub mod Texts
 pub mod Templates
 pub mod Listing
 pub mod Itags
 pub mod Rules
 pub mod Versions
+pub mod ListRules
 pub mod Updates
 pub mod Modes
 pub mod Sorts

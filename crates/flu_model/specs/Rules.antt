@@ -25,6 +25,7 @@ use Rattle.flu_model.specs.declared.jobs.Source.{Source}
 use Rattle.flu_model.specs.declared.events.Tag.{Tag}
 use Rattle.flu_model.specs.Contents.{key_count}
 use Rattle.flu_model.specs.Listing.{tags_of_source}
+use Rattle.flu_model.specs.Numberings.{Numbering}
 use Rattle.flu_model.specs.Templates.{written_template}
 use Rattle.flu_names.specs.Names.{is_name, is_text_byte}
 
@@ -239,10 +240,11 @@ are_depends kinds depends = list_all (depend_fits kinds) depends
 abbrev pub are_sources : List Kind → List Source → Bool
 are_sources kinds sources = list_all (source_fits kinds) sources
 
--- families, kinds and sources share one set of names
-abbrev pub have_own_names : List Family → List Kind → List Source → Bool
-have_own_names families kinds sources =
-    are_distinct is_same_text (map (λ (f : Family). f.name) families ++ map (λ (k : Kind). k.name) kinds ++ map (λ (s : Source). s.name) sources)
+-- families, kinds, sources and lists share one set of names
+abbrev pub have_own_names : List Numbering → List Family → List Kind → List Source → Bool
+have_own_names lists families kinds sources =
+    are_distinct is_same_text
+    (map (λ (f : Family). f.name) families ++ map (λ (k : Kind). k.name) kinds ++ map (λ (s : Source). s.name) sources ++ map (λ (l : Numbering). l.name) lists)
 
 abbrev pub have_own_files : List Source → Bool
 have_own_files sources = are_distinct is_same_text (map (λ (s : Source). s.file) sources)

@@ -4,8 +4,10 @@ ghost use Rattle.std.specs.Prelude.{◌≤◌, length, IsTrue};
 ghost use Rattle.flu_model.specs.Listing.{itags_of_sources};
 ghost use Rattle.flu_model.specs.Versions.{fit_version, iso_fits};
 ghost use Rattle.flu_model.specs.Rules.{is_version, are_families, are_kinds, are_depends, are_sources, have_own_names, have_own_files};
+ghost use Rattle.flu_model.specs.ListRules.{are_lists, fit_lists};
 
 use crate::lists::List;
+use crate::numbering::NameList;
 use crate::words::{Name, Text};
 use flu_calendar::Unit;
 
@@ -17,11 +19,13 @@ pub enum Sort {
     Last,
 }
 
-/// A family of cells of one sort; a keyed one has a cell for each key from 0 to 65,535.
+/// A family of cells of one sort; a keyed one has a cell for each key from 0 to 65,535, and the list of this number, from 0 as declared,
+/// may name its keys.
 #[derive(Drop)]
 pub struct Family {
     pub name: Name,
     pub keyed: bool,
+    pub list: Option<u32>,
     pub sort: Sort,
 }
 
@@ -116,12 +120,13 @@ pub struct Action {
 }
 
 /// A kind of tags; a keyed one has a tag for each key. Where it has items, each of its events has one, a number from 0 to 65,535 that
-/// chooses a cell.
+/// chooses a cell; where a list names them, the one of this number, from 0 as declared, rows give the item by its name.
 #[derive(Drop)]
 pub struct Kind {
     pub name: Name,
     pub keyed: bool,
     pub has_item: bool,
+    pub list: Option<u32>,
     pub has_value: bool,
     pub actions: List<Action>,
 }
@@ -167,22 +172,26 @@ pub struct Source {
 pub struct Program {
     pub version: u32,
     pub iso: Option<Unit>,
+    pub lists: List<NameList>,
     pub families: List<Family>,
     pub kinds: List<Kind>,
     pub depends: List<Depend>,
     pub sources: List<Source>,
     pub ghost known_version: { IsTrue (is_version version) },
     pub ghost known_iso: { IsTrue (iso_fits version iso) },
+    pub ghost few_lists: { length lists ≤ 64 },
     pub ghost few_families: { length families ≤ 64 },
     pub ghost few_kinds: { length kinds ≤ 64 },
     pub ghost few_depends: { length depends ≤ 4096 },
     pub ghost few_sources: { length sources ≤ 64 },
     pub ghost few_itags: { length (itags_of_sources 0 sources) ≤ 256 },
+    pub ghost lists_are: { IsTrue (are_lists lists) },
     pub ghost families_fit: { IsTrue (are_families families) },
     pub ghost kinds_fit: { IsTrue (are_kinds families kinds) },
     pub ghost version_fits: { IsTrue (fit_version version families kinds) },
+    pub ghost lists_fit: { IsTrue (fit_lists version lists families kinds) },
     pub ghost depends_fit: { IsTrue (are_depends kinds depends) },
     pub ghost sources_fit: { IsTrue (are_sources kinds sources) },
-    pub ghost own_names: { IsTrue (have_own_names families kinds sources) },
+    pub ghost own_names: { IsTrue (have_own_names lists families kinds sources) },
     pub ghost own_files: { IsTrue (have_own_files sources) },
 }

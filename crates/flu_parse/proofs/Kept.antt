@@ -5,7 +5,9 @@ pub mod Names
 pub mod Terms
 pub mod Sizes
 pub mod Written
+pub mod Lists
 pub mod Templates
 pub mod Actions
 pub mod Listings
+pub mod Drafts
 pub mod Jobs

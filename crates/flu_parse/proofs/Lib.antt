@@ -1,5 +1,6 @@
 pub mod FaultLemmas
 pub mod NamingLemmas
+pub mod ListLemmas
 pub mod TermLemmas
 pub mod ScanLemmas
 pub mod ResolveLemmas
@@ -7,5 +8,6 @@ pub mod Steps
 pub mod ReadingLemmas
 pub mod Distinct
 pub mod Looks
+pub mod Listed
 pub mod Kept
 pub mod Printed

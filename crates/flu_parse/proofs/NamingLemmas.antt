@@ -1,11 +1,11 @@
 -- Names that are looked up, and one name more.
 use Rattle.std.proofs.Common.{◌≡◌, ℕ, Bool, true, false, List, [], ◌∷◌, ◌++◌, map, Option, Some, None, refl, sym, ap, ◌∙◌}
-use Rattle.std.specs.Prelude.{is_some, if◌then◌else◌}
+use Rattle.std.specs.Prelude.{◌||◌, is_some, if◌then◌else◌}
 use Rattle.std.specs.List.{list_any}
 use Rattle.std.specs.Str.{bytes_eq}
 use Rattle.std.specs.Map.{lookup}
 use Rattle.indexmap.specs.IndexMap.{insert_entry}
-use Rattle.flu_lemmas.proofs.Booleans.{none_of_three}
+use Rattle.flu_lemmas.proofs.Booleans.{none_of_three, or_false_left, or_false_right}
 use Rattle.flu_parse.specs.Naming.{Naming, look_up, is_declared}
 
 -- an entry by the bytes of its key
@@ -41,9 +41,17 @@ module _ {K X : Type 0} (bytes : K → List ℕ) (k : K) (v : X) where
           ap (λ b. map (shown bytes) (if b then (e.0, v) ∷ es else e ∷ insert_entry (λ a b. bytes_eq (bytes a) (bytes b)) es k v)) t
           ∙ ap (λ l. (bytes e.0, e.1) ∷ l) (rest (sym (ap (λ b. if b then Some e.1 else look_up (bytes k) (map (shown bytes) es)) t) ∙ absent))
 
--- a name that nothing has, among families, kinds and sources
+-- none of four
+four_apart : (a b c d : Bool) → (a || b || c || d) ≡ false → (a ≡ false) × (b ≡ false) × (c ≡ false) × (d ≡ false)
+four_apart a b c d e =
+    let front = or_false_left (a || b || c) d e in
+    let three = none_of_three a b c front in
+    (three.0, three.1, three.2, or_false_right (a || b || c) d e)
+
+-- a name that nothing has, among families, kinds, sources and lists
 pub undeclared : (n : Naming) (name : List ℕ) → is_declared n name ≡ false
-    → (look_up name n.families ≡ None) × (look_up name n.kinds ≡ None) × (list_any (bytes_eq name) n.sources ≡ false)
+    → (look_up name n.families ≡ None) × (look_up name n.kinds ≡ None) × (list_any (bytes_eq name) n.sources ≡ false) × (list_any (bytes_eq name) n.lists ≡ false)
 undeclared n name e =
-    let none = none_of_three (is_some (look_up name n.families)) (is_some (look_up name n.kinds)) (list_any (bytes_eq name) n.sources) e in
-    (none_if_not_some (look_up name n.families) none.0, none_if_not_some (look_up name n.kinds) none.1, none.2)
+    let none = four_apart (is_some (look_up name n.families)) (is_some (look_up name n.kinds)) (list_any (bytes_eq name) n.sources)
+    (list_any (bytes_eq name) n.lists) e in
+    (none_if_not_some (look_up name n.families) none.0, none_if_not_some (look_up name n.kinds) none.1, none.2, none.3)

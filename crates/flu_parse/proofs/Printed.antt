@@ -1,4 +1,5 @@
 -- The normal form of a job is laid out by the rules of the language (Laid..), and its words are read as the job that was printed.
+pub mod ListFits
 pub mod Words
 pub mod Rules
 pub mod LaidCells

@@ -7,7 +7,7 @@ use Rattle.flu_model.specs.Erasure.{plain_kind, plain_action}
 use Rattle.flu_parse.specs.Resolving.{with_actions}
 
 abbrev pub active : Kind → List Action → Kind
-active k actions = record { name = k.name; keyed = k.keyed; has_item = k.has_item; has_value = k.has_value; actions = actions }
+active k actions = record { name = k.name; keyed = k.keyed; has_item = k.has_item; list = k.list; has_value = k.has_value; actions = actions }
 
 pub set_kind : (kinds : List Kind) (i : ℕ) (k : Kind) (actions : List Action) → i < length kinds → k ≡ get_or kinds i k
     → map plain_kind (slice_set kinds i (active k actions)) ≡ with_actions (map plain_kind kinds) i (map plain_action actions)

@@ -6,6 +6,7 @@ pub mod Templates
 pub mod Scans
 pub mod Actions
 pub mod Listings
+pub mod Lists
 pub mod Resolving
 pub mod Reading
 pub mod Printing

@@ -1,11 +1,15 @@
--- The names of a job: families, kinds and sources, each in the order of their declarations, in one set of names.
-use Rattle.std.specs.Prelude.{ℕ, ◌+◌, Bool, not, ◌==◌, ◌&&◌, ◌||◌, List, [], ◌∷◌, ◌++◌, map, length, Option, Some, None, is_some, if◌then◌else◌, Ok, Err}
+-- The names of a job: families, kinds, sources and lists, each in the order of their declarations, in one set of names.
+use Rattle.std.specs.Prelude.{ℕ, ◌+◌, Bool, true, false, not, ◌==◌, ◌&&◌, ◌||◌, List, [], ◌∷◌, ◌++◌, map, length, Option, Some, None, is_some, if◌then◌else◌, Ok, Err}
 use Rattle.std.specs.List.{list_any}
 use Rattle.std.specs.Str.{bytes_eq}
 use Rattle.flu_model.specs.declared.jobs.Sort.{Sort}
 use Rattle.flu_model.specs.declared.jobs.Family.{Family}
-use Rattle.flu_model.specs.declared.limits.What.TheVariants.{Families, Kinds, Sources, Depends}
+use Rattle.flu_model.specs.declared.limits.What.TheVariants.{Families, Kinds, Sources, Lists, Depends}
 use Rattle.flu_text.specs.declared.written.WrittenSpan.{WrittenSpan}
+use Rattle.flu_syntax.specs.declared.tree.WrittenBy.{WrittenBy}
+use Rattle.flu_syntax.specs.declared.tree.WrittenCells.{WrittenCells}
+use Rattle.flu_syntax.specs.declared.tree.WrittenCells.TheVariants as cells
+use Rattle.flu_syntax.specs.declared.tree.WrittenItem.{WrittenItem}
 use Rattle.flu_syntax.specs.Tree.{Declaration}
 use Rattle.flu_syntax.specs.Tree as w
 use Rattle.flu_layout.specs.Spelling.{name_of}
@@ -21,6 +25,7 @@ pub record Naming : Type 0 where
   pub families : List (List ℕ × FamilyHead)
   pub kinds : List (List ℕ × KindHead)
   pub sources : List (List ℕ)
+  pub lists : List (List ℕ)
   pub depends : ℕ
   pub version : ℕ
 
@@ -30,6 +35,7 @@ naming n = record {
   families = map (λ e. (e.0.now, e.1)) n.families.entries;
   kinds = map (λ e. (e.0.now, e.1)) n.kinds.entries;
   sources = map (λ k. k.now) n.sources.keys;
+  lists = n.lists;
   depends = n.depends;
   version = n.version;
 }
@@ -45,8 +51,9 @@ is_version_3 n = n.version == 3
 abbrev pub takes_items : Naming → KindHead → Bool
 takes_items n under = is_version_3 n && under.has_item
 
+-- a family as far as its head says: no list names its keys
 abbrev pub family : List ℕ × FamilyHead → Family
-family h = record { name = h.0; keyed = h.1.keyed; sort = h.1.sort }
+family h = record { name = h.0; keyed = h.1.keyed; list = None; sort = h.1.sort }
 
 -- the families, in the order of their declarations
 abbrev pub families_of : Naming → List Family
@@ -58,7 +65,8 @@ look_up name [] = None
 look_up name (h ∷ hs) = if bytes_eq name h.0 then Some h.1 else look_up name hs
 
 abbrev pub is_declared : Naming → List ℕ → Bool
-is_declared n name = is_some (look_up name n.families) || is_some (look_up name n.kinds) || list_any (bytes_eq name) n.sources
+is_declared n name =
+    is_some (look_up name n.families) || is_some (look_up name n.kinds) || list_any (bytes_eq name) n.sources || list_any (bytes_eq name) n.lists
 
 -- a name that no earlier declaration has
 abbrev pub fresh_name : List ℕ → Naming → WrittenSpan → Found (List ℕ)
@@ -66,7 +74,7 @@ fresh_name text n s = do
   unless (not (is_declared n (name_of text s))) (f.TwiceNamed s.from)
   Ok (name_of text s)
 
--- one more family, kind or source: that its name is taken comes before a limit
+-- one more family, kind, source or list: that its name is taken comes before a limit
 unfoldable pub with_family : List ℕ → Naming → WrittenSpan → Bool → Sort → Found Naming
 with_family text n s keyed sort = do
   name ← fresh_name text n s
@@ -85,10 +93,34 @@ with_source text n s = do
   room Sources 64 (length n.sources)
   Ok (record n { sources = n.sources ++ name ∷ [] })
 
+unfoldable pub with_list : List ℕ → Naming → WrittenSpan → Found Naming
+with_list text n s = do
+  name ← fresh_name text n s
+  room Lists 64 (length n.lists)
+  Ok (record n { lists = n.lists ++ name ∷ [] })
+
+-- whether a family is keyed
+abbrev pub has_keys : WrittenCells → Bool
+has_keys cells.Alone = false
+has_keys cells.Keyed = true
+has_keys (cells.By by) = true
+
+-- the list that is written for the keys of a family, if one is
+abbrev pub keys_by : WrittenCells → Option WrittenBy
+keys_by cells.Alone = None
+keys_by cells.Keyed = None
+keys_by (cells.By by) = Some by
+
+-- and the one for the items of a kind
+abbrev pub items_by : Option WrittenItem → Option WrittenBy
+items_by None = None
+items_by (Some item) = item.by
+
 -- the names with one more declaration
 unfoldable pub declare : List ℕ → Naming → Declaration → Found Naming
-declare text n (w.Cell s keyed sort) = with_family text n s keyed sort
+declare text n (w.Cell s cells sort) = with_family text n s (has_keys cells) sort
 declare text n (w.Tag s keyed item has_value) = with_kind text n s keyed (is_some item) has_value
+declare text n (w.Names at s texts) = with_list text n s
 declare text n (w.Depends a b relation) = do
   room Depends 4096 n.depends
   Ok (record n { depends = n.depends + 1 })
@@ -96,7 +128,7 @@ declare text n (w.On kind actions) = Ok n
 declare text n (w.Source s file rate slack tags) = with_source text n s
 
 abbrev pub no_names : Naming
-no_names = record { families = []; kinds = []; sources = []; depends = 0; version = 1 }
+no_names = record { families = []; kinds = []; sources = []; lists = []; depends = 0; version = 1 }
 
 -- the names of a job, or the first name that is declared twice or is one too many
 abbrev pub naming_of : List ℕ → List Declaration → Found Naming

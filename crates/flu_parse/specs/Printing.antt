@@ -1,5 +1,5 @@
--- The normal form of a job text: the version if it is not 1, cells, tags, `depends`, the actions of the kinds that have some, and sources,
--- each on a line of its own.
+-- The normal form of a job text: the version if it is not 1, lists of names, cells, tags, `depends`, the actions of the kinds that have some,
+-- and sources, each on a line of its own.
 use Rattle.std.specs.Prelude.{ℕ, nat_lt, ◌==◌, if◌then◌else◌, Bool, true, false, Option, Some, None, List, [], ◌∷◌, ◌++◌, slice_get, codes}
 use Rattle.std.specs.Fmt.{decimal, signed_decimal}
 use Rattle.std.specs.List.{flat_map}
@@ -11,6 +11,7 @@ use Rattle.flu_model.specs.declared.jobs.Op.TheVariants as op
 use Rattle.flu_model.specs.declared.jobs.Depend.{Depend}
 use Rattle.flu_model.specs.declared.jobs.TagRef.{TagRef}
 use Rattle.flu_model.specs.declared.jobs.Source.{Source}
+use Rattle.flu_model.specs.Numberings.{Numbering}
 use Rattle.flu_model.specs.Texts.{Unit}
 use Rattle.flu_calendar.specs.declared.unit.Unit.TheVariants.{Seconds, Milliseconds, Microseconds}
 use Rattle.flu_model.specs.Erasure.{Term, Literal, EventValue, EventKey, EventItem, EventTime, CellRead, CellHeld, Negative, Negation, Operation}
@@ -83,6 +84,22 @@ abbrev pub version_line : ℕ → Option Unit → List ℕ
 version_line version iso =
     if version == 2 then codes "version 2" ++ line_end else if version == 3 then codes "version 3" ++ iso_text iso ++ line_end else []
 
+abbrev pub names_line : Numbering → List ℕ
+names_line l = codes "names " ++ l.name ++ codes ": " ++ separated (codes ", ") quoted l.texts ++ line_end
+
+abbrev pub name_of_list : Option Numbering → List ℕ
+name_of_list None = []
+name_of_list (Some l) = l.name
+
+abbrev pub list_name : List Numbering → Option ℕ → List ℕ
+list_name lists None = []
+list_name lists (Some number) = name_of_list (slice_get lists number)
+
+-- the list that names keys or items, if one does
+abbrev pub by_text : List Numbering → Option ℕ → List ℕ
+by_text lists None = []
+by_text lists (Some number) = codes " by " ++ list_name lists (Some number)
+
 abbrev pub keyed_text : Bool → List ℕ
 keyed_text true = codes " keyed"
 keyed_text false = []
@@ -92,8 +109,8 @@ sort_text sort.Sum = codes " sum"
 sort_text sort.Max = codes " max"
 sort_text sort.Last = codes " last"
 
-abbrev pub cell_line : Family → List ℕ
-cell_line f = codes "cell " ++ f.name ++ keyed_text f.keyed ++ sort_text f.sort ++ line_end
+abbrev pub cell_line : List Numbering → Family → List ℕ
+cell_line lists f = codes "cell " ++ f.name ++ keyed_text f.keyed ++ by_text lists f.list ++ sort_text f.sort ++ line_end
 
 abbrev pub item_text : Bool → List ℕ
 item_text true = codes " item"
@@ -103,8 +120,9 @@ abbrev pub value_text : Bool → List ℕ
 value_text true = codes " int"
 value_text false = codes " none"
 
-abbrev pub tag_line : PlainKind → List ℕ
-tag_line k = codes "tag " ++ k.name ++ keyed_text k.keyed ++ item_text k.has_item ++ value_text k.has_value ++ line_end
+abbrev pub tag_line : List Numbering → PlainKind → List ℕ
+tag_line lists k =
+    codes "tag " ++ k.name ++ keyed_text k.keyed ++ item_text k.has_item ++ by_text lists k.list ++ value_text k.has_value ++ line_end
 
 abbrev pub kind_name : Option PlainKind → List ℕ
 kind_name None = []
@@ -143,8 +161,9 @@ source_line kinds s = source_head s ++ separated (codes ", ") (tag_text kinds) s
 abbrev pub normal_form : Job → List ℕ
 normal_form job =
     version_line job.version job.iso
-    ++ flat_map cell_line job.families
-    ++ flat_map tag_line job.kinds
+    ++ flat_map names_line job.lists
+    ++ flat_map (cell_line job.lists) job.families
+    ++ flat_map (tag_line job.lists) job.kinds
     ++ flat_map (depends_line job.kinds) job.depends
     ++ flat_map (on_line job.families) job.kinds
     ++ flat_map (source_line job.kinds) job.sources

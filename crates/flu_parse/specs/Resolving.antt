@@ -4,6 +4,7 @@ use Rattle.std.specs.List.{list_any}
 use Rattle.std.specs.Str.{bytes_eq}
 use Rattle.flu_model.specs.declared.jobs.Depend.{Depend}
 use Rattle.flu_model.specs.declared.jobs.Source.{Source}
+use Rattle.flu_model.specs.Numberings.{Numbering}
 use Rattle.flu_model.specs.Rules.{is_version}
 use Rattle.flu_model.specs.Texts.{Unit as TimeUnit}
 use Rattle.flu_calendar.specs.declared.unit.Unit.TheVariants.{Seconds, Milliseconds, Microseconds}
@@ -11,6 +12,8 @@ use Rattle.flu_model.specs.Erasure.{PlainAction, PlainKind, Job, plain_kind}
 use Rattle.flu_text.specs.declared.written.WrittenSpan.{WrittenSpan}
 use Rattle.flu_text.specs.declared.written.WrittenNumber.{WrittenNumber}
 use Rattle.flu_syntax.specs.declared.tree.WrittenTag.{WrittenTag}
+use Rattle.flu_syntax.specs.declared.tree.WrittenCells.{WrittenCells}
+use Rattle.flu_syntax.specs.declared.tree.WrittenItem.{WrittenItem}
 use Rattle.flu_syntax.specs.declared.tree.WrittenRelation.{WrittenRelation}
 use Rattle.flu_syntax.specs.declared.tree.WrittenRelation.TheVariants as r
 use Rattle.flu_syntax.specs.declared.tree.WrittenUnit.{WrittenUnit}
@@ -24,12 +27,17 @@ use Rattle.flu_parse.specs.declared.drafts.Draft.{Draft}
 use Rattle.flu_parse.specs.declared.drafts.JobParts.{JobParts}
 use Rattle.flu_parse.specs.declared.drafts.TagList.{TagList}
 use Rattle.flu_parse.specs.Faults.{Found, ◌>>=◌, ◌>>◌, unless, each}
-use Rattle.flu_parse.specs.Naming.{Naming, in_version, is_version_3, families_of, naming_of, kind_of}
+use Rattle.flu_parse.specs.Naming.{Naming, in_version, is_version_3, families_of, keys_by, items_by, naming_of, kind_of}
 use Rattle.flu_parse.specs.Actions.{resolved_actions}
+use Rattle.flu_parse.specs.Lists.{texts_of, list_of, listed_families, listed_kinds}
 use Rattle.flu_parse.specs.Listings.{Listed, tags_of, rate_of, slack_of, file_of}
 
--- the job as far as its declarations were processed, with the numbers of the kinds whose `on` was met
+-- the job as far as its declarations were processed, with the numbers of the kinds whose `on` was met, and for the families and the kinds
+-- that were met the lists that name their keys and their items
 pub record Drafted : Type 0 where
+  pub lists : List Numbering
+  pub family_lists : List (Option ℕ)
+  pub kind_lists : List (Option ℕ)
   pub kinds : List PlainKind
   pub given : List ℕ
   pub depends : List Depend
@@ -37,7 +45,16 @@ pub record Drafted : Type 0 where
   pub itags : ℕ
 
 abbrev pub drafted : Draft → Drafted
-drafted d = record { kinds = map plain_kind d.kinds.items; given = d.given.items; depends = d.depends.items; sources = d.sources.items; itags = d.itags }
+drafted d = record {
+  lists = d.lists.items;
+  family_lists = d.family_lists.items;
+  kind_lists = d.kind_lists.items;
+  kinds = map plain_kind d.kinds.items;
+  given = d.given.items;
+  depends = d.depends.items;
+  sources = d.sources.items;
+  itags = d.itags;
+}
 
 abbrev pub tags_listed : TagList → Listed
 tags_listed l = record { tags = l.tags.items; itags = l.itags }
@@ -88,28 +105,53 @@ abbrev pub cell_name_fits : List ℕ → Naming → WrittenSpan → Bool
 cell_name_fits text n name = not (is_version_3 n && bytes_eq (name_of text name) (codes "item"))
 
 -- a kind has items only in version 3
-abbrev pub item_word_fits : Naming → Option ℕ → Found (Unit {0})
+abbrev pub item_word_fits : Naming → Option WrittenItem → Found (Unit {0})
 item_word_fits n None = Ok tt
-item_word_fits n (Some at) = unless (is_version_3 n) (f.WrongShape at)
+item_word_fits n (Some item) = unless (is_version_3 n) (f.WrongShape item.at)
+
+unfoldable pub with_cell : List ℕ → Naming → Drafted → WrittenSpan → WrittenCells → Found Drafted
+with_cell text n d name cells = do
+  unless (cell_name_fits text n name) (f.WrongShape name.from)
+  list ← list_of text n (keys_by cells)
+  Ok (record d { family_lists = d.family_lists ++ list ∷ [] })
+
+unfoldable pub with_tag : List ℕ → Naming → Drafted → Option WrittenItem → Found Drafted
+with_tag text n d item = do
+  item_word_fits n item
+  list ← list_of text n (items_by item)
+  Ok (record d { kind_lists = d.kind_lists ++ list ∷ [] })
+
+-- only version 3 has lists
+unfoldable pub with_names : List ℕ → Naming → Drafted → ℕ → WrittenSpan → List WrittenSpan → Found Drafted
+with_names text n d at name texts = do
+  unless (is_version_3 n) (f.WrongShape at)
+  named ← texts_of text texts
+  Ok (record d { lists = d.lists ++ record { name = name_of text name; texts = named } ∷ [] })
 
 -- one more declaration
 unfoldable pub with_declaration : List ℕ → Naming → Drafted → Declaration → Found Drafted
-with_declaration text n d (w.Cell name keyed sort) = do
-  unless (cell_name_fits text n name) (f.WrongShape name.from)
-  Ok d
-with_declaration text n d (w.Tag name keyed item has_value) = do
-  item_word_fits n item
-  Ok d
+with_declaration text n d (w.Cell name cells sort) = with_cell text n d name cells
+with_declaration text n d (w.Tag name keyed item has_value) = with_tag text n d item
+with_declaration text n d (w.Names at name texts) = with_names text n d at name texts
 with_declaration text n d (w.Depends a b relation) = with_depend text n d a b relation
 with_declaration text n d (w.On name actions) = with_on text n d name actions
 with_declaration text n d (w.Source name file rate slack tags) = with_source text n d name file rate slack tags
 
--- a kind without `on` has no actions
+-- a kind without `on` has no actions; its head says nothing of a list
 abbrev pub idle_kind : List ℕ × KindHead → PlainKind
-idle_kind h = record { name = h.0; keyed = h.1.keyed; has_item = h.1.has_item; has_value = h.1.has_value; actions = [] }
+idle_kind h = record { name = h.0; keyed = h.1.keyed; has_item = h.1.has_item; list = None; has_value = h.1.has_value; actions = [] }
 
 abbrev pub first_draft : Naming → Drafted
-first_draft n = record { kinds = map idle_kind n.kinds; given = []; depends = []; sources = []; itags = 0 }
+first_draft n = record {
+  lists = [];
+  family_lists = [];
+  kind_lists = [];
+  kinds = map idle_kind n.kinds;
+  given = [];
+  depends = [];
+  sources = [];
+  itags = 0;
+}
 
 abbrev pub draft_of : List ℕ → Naming → List Declaration → Found Drafted
 draft_of text n ds = each (with_declaration text n) (first_draft n) ds
@@ -148,8 +190,9 @@ abbrev pub job_with : Option TimeUnit → Naming → Drafted → Job
 job_with iso n d = record {
   version = n.version;
   iso = iso;
-  families = families_of n;
-  kinds = d.kinds;
+  lists = d.lists;
+  families = listed_families (families_of n) d.family_lists;
+  kinds = listed_kinds d.kinds d.kind_lists;
   depends = d.depends;
   sources = d.sources;
 }
@@ -169,6 +212,7 @@ abbrev pub job_of_parts : JobParts → Job
 job_of_parts p = record {
   version = p.version;
   iso = p.iso;
+  lists = p.lists;
   families = p.families;
   kinds = map plain_kind p.kinds;
   depends = p.depends;

@@ -1,11 +1,14 @@
 //! A job that is being read.
 
-use flu_model::{Depend, Family, Kind, List, Source, TagRef, Unit};
+use flu_model::{Depend, Family, Kind, List, NameList, Source, TagRef, Unit};
 
-/// The job as far as its declarations were processed, with the numbers of the kinds whose `on` was met, and how many itags
-/// its sources have.
+/// The job as far as its declarations were processed, with the numbers of the kinds whose `on` was met, how many itags its sources
+/// have, and for the families and the kinds that were met the lists that name their keys and their items.
 #[derive(Drop)]
 pub struct Draft {
+    pub lists: Vec<NameList>,
+    pub family_lists: Vec<Option<u32>>,
+    pub kind_lists: Vec<Option<u32>>,
     pub kinds: Vec<Kind>,
     pub given: Vec<u32>,
     pub depends: Vec<Depend>,
@@ -25,6 +28,7 @@ pub struct TagList {
 pub struct JobParts {
     pub version: u32,
     pub iso: Option<Unit>,
+    pub lists: List<NameList>,
     pub families: List<Family>,
     pub kinds: List<Kind>,
     pub depends: List<Depend>,

@@ -1,5 +1,6 @@
 //! The names of a job, in the order of their declarations.
 
+use crate::list_names::ListNames;
 use flu_model::Sort;
 use indexmap::{IndexMap, IndexSet};
 
@@ -26,6 +27,7 @@ pub struct Names<'t> {
     pub families: IndexMap<&'t str, FamilyHead>,
     pub kinds: IndexMap<&'t str, KindHead>,
     pub sources: IndexSet<&'t str>,
+    pub lists: ListNames<'t>,
     pub depends: usize,
     pub version: u32,
 }

@@ -1,22 +1,23 @@
 //! Which names are declared, and as what.
 
-ghost use Rattle.std.specs.Prelude.{◌≡◌, ◌∷◌, ◌++◌, [], map, false, IfOk, OnOk, OnErr};
+ghost use Rattle.std.specs.Prelude.{◌≡◌, ◌<◌, ◌∷◌, ◌++◌, [], map, length, false, IfOk, OnOk, OnErr};
 ghost use Rattle.std.specs.List.{list_any};
 ghost use Rattle.std.specs.Str.{bytes_eq};
 ghost use Rattle.flu_syntax.specs.Tree.{declaration_of};
 ghost use Rattle.flu_parse.specs.Faults.{Gives};
-ghost use Rattle.flu_parse.specs.Naming.{naming, no_names, look_up, is_declared, fresh_name, with_family, with_kind, with_source, declare, naming_of};
-ghost use Rattle.flu_parse.specs.Naming.{is_version_3, takes_items, families_of, family_of, kind_of};
+ghost use Rattle.flu_parse.specs.Naming.{naming, no_names, look_up, is_declared, fresh_name, with_family, with_kind, with_source, with_list, declare, naming_of};
+ghost use Rattle.flu_parse.specs.Naming.{is_version_3, takes_items, families_of, family_of, kind_of, has_keys};
 
 use crate::faults::JobFault;
+use crate::list_names::ListNames;
 use crate::names::{FamilyHead, KindHead, Names};
 use flu_layout::name_of;
 use flu_model::{Family, Name, Sort, What};
-use flu_syntax::{WrittenDeclaration, WrittenSpan};
+use flu_syntax::{WrittenCells, WrittenDeclaration, WrittenSpan};
 use indexmap::{IndexMap, IndexSet};
 use std::alloc::{AllocError, Global};
 
-/// The most families, kinds and sources of a job.
+/// The most families, kinds, sources and lists of a job.
 const MOST_PARTS: usize = 64;
 
 /// The most dependencies of a job.
@@ -29,6 +30,7 @@ fn no_names<'t>(alloc: Global) -> Names<'t>
         families: IndexMap::new(alloc),
         kinds: IndexMap::new(alloc),
         sources: IndexSet::new(alloc),
+        lists: ListNames::new(alloc),
         depends: 0,
         version: 1,
     }
@@ -71,7 +73,10 @@ fn is_source(names: &Names, name: &str) -> bool
 fn is_declared(names: &Names, name: &str) -> bool
     ensures { result ≡ is_declared (naming names.now) name.now }
 {
-    find_family(names, name).is_some() || find_kind(names, name).is_some() || is_source(names, name)
+    find_family(names, name).is_some()
+        || find_kind(names, name).is_some()
+        || is_source(names, name)
+        || names.lists.contains(name)
 }
 
 // The name, which no earlier declaration has.
@@ -120,6 +125,26 @@ fn add_source<'t>(names: &mut Names<'t>, name: &'t str) -> Result<(), JobFault>
     }
 }
 
+fn add_list<'t>(names: &mut Names<'t>, name: &'t str) -> Result<(), JobFault>
+    requires free { is_declared (naming names.old) name.now ≡ false }
+    requires few { length (naming names.old).lists < 64 }
+    ensures ok { OnOk result (naming names.new ≡ record (naming names.old) { lists = (naming names.old).lists ++ name.now ∷ [] }) }
+    ensures err { OnErr result (result ≡ Err JobFault.NoMemory) }
+{
+    names.lists.add(name)?;
+    Ok(())
+}
+
+/// Whether a family is keyed.
+fn has_keys(cells: &WrittenCells) -> bool
+    ensures { result ≡ has_keys cells.now }
+{
+    match cells {
+        WrittenCells::Alone => false,
+        WrittenCells::Keyed | WrittenCells::By(_) => true,
+    }
+}
+
 // The names with one more declaration.
 #[tactic(auto, unfolding(crate::specs::Naming::declare))]
 fn declare<'t>(
@@ -130,8 +155,8 @@ fn declare<'t>(
     ensures { Gives (λ done. naming names.new) result (declare text.now (naming names.old) (declaration_of declaration.now)) }
 {
     match declaration {
-        WrittenDeclaration::Cell { name, keyed, sort } => {
-            declare_family(names, text, *name, *keyed, *sort)
+        WrittenDeclaration::Cell { name, cells, sort } => {
+            declare_family(names, text, *name, has_keys(cells), *sort)
         }
         WrittenDeclaration::Tag {
             name,
@@ -139,6 +164,7 @@ fn declare<'t>(
             item,
             has_value,
         } => declare_kind(names, text, *name, *keyed, item.is_some(), *has_value),
+        WrittenDeclaration::Names { name, .. } => declare_list(names, text, *name),
         WrittenDeclaration::Depends { .. } => {
             if names.depends >= MOST_DEPENDS {
                 return Err(JobFault::OverLimit {
@@ -234,6 +260,20 @@ fn declare_source<'t>(
     add_source(names, name)
 }
 
+#[tactic(auto, unfolding(crate::specs::Naming::with_list))]
+fn declare_list<'t>(names: &mut Names<'t>, text: &'t str, span: WrittenSpan) -> Result<(), JobFault>
+    ensures { Gives (λ done. naming names.new) result (with_list text.now (naming names.old) span) }
+{
+    let name = fresh_name(names, text, span)?;
+    if names.lists.len() >= MOST_PARTS {
+        return Err(JobFault::OverLimit {
+            what: What::Lists,
+            count: 65,
+        });
+    }
+    add_list(names, name)
+}
+
 /// The names that are declared, or the first that is declared twice or is one too many.
 pub fn naming_of<'t>(
     alloc: Global,
@@ -266,7 +306,7 @@ pub fn kind_of(names: &Names, text: &str, span: WrittenSpan) -> Result<KindHead,
     find_kind(names, name_of(text, span)).ok_or(JobFault::UnknownName { at: span.from })
 }
 
-/// The families, in the order of their declarations.
+/// The families, in the order of their declarations, none with a list.
 pub fn families_of(alloc: Global, names: &Names) -> Result<Vec<Family>, AllocError>
     ensures { IfOk result (λ families. families.items ≡ families_of (naming names.now)) }
 {
@@ -276,6 +316,7 @@ pub fn families_of(alloc: Global, names: &Names) -> Result<Vec<Family>, AllocErr
         families.push(Family {
             name,
             keyed: head.keyed,
+            list: None,
             sort: head.sort,
         })?;
     }

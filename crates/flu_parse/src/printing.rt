@@ -1,18 +1,20 @@
 //! The normal form of a job text.
 
-ghost use Rattle.std.specs.Prelude.{◌≡◌, ◌≤◌, ◌++◌, length, OnOk, IfOk, map, slice_get, codes};
+ghost use Rattle.std.specs.Prelude.{◌≡◌, ◌≤◌, ◌++◌, [], length, OnOk, IfOk, map, slice_get, option_map, unwrap_or, codes};
 ghost use Rattle.std.specs.List.{flat_map};
 ghost use Rattle.std.specs.String.{string_bytes};
 ghost use Rattle.flu_model.specs.Erasure.{job_of, plain_kind};
+ghost use Rattle.flu_model.specs.Numberings.{text_at};
+ghost use Rattle.flu_layout.specs.Laid.{quoted};
 ghost use Rattle.flu_layout.specs.Lists.{separated};
-ghost use Rattle.flu_parse.specs.Printing.{iso_text, version_line, sort_text, keyed_text, cell_line, item_text, value_text, tag_line, kind_name, same_text, depends_line};
+ghost use Rattle.flu_parse.specs.Printing.{iso_text, version_line, names_line, name_of_list, list_name, by_text, sort_text, keyed_text, cell_line, item_text, value_text, tag_line, kind_name, same_text, depends_line};
 ghost use Rattle.flu_parse.specs.Printing.{on_line, tag_text, slack_text, source_head, source_line, normal_form};
 ghost use Rattle.flu_parse.specs.Reading.{job_in};
 
 use crate::laws::printed_is_read;
 use crate::printing_actions::add_actions;
 use flu_layout::add_keys;
-use flu_model::{Depend, Family, Kind, Program, Sort, Source, TagRef, Text, Unit};
+use flu_model::{Depend, Family, Kind, NameList, Program, Sort, Source, TagRef, Text, Unit};
 use std::alloc::{AllocError, Global};
 
 fn iso_text(iso: Option<Unit>) -> &'static str
@@ -38,6 +40,67 @@ fn add_version(text: &mut String, version: u32, iso: Option<Unit>) -> Result<(),
     Ok(())
 }
 
+// Adds the text of a number between quotes, if the list has one.
+fn add_quoted(text: &mut String, list: &NameList, number: usize) -> Result<(), AllocError>
+    ensures { OnOk result (string_bytes text.new ≡ string_bytes text.old ++ unwrap_or (option_map quoted (text_at list.now number)) []) }
+{
+    match list.text(number) {
+        Some(name) => write!(text, "\"{name}\""),
+        None => Ok(()),
+    }
+}
+
+fn add_texts(text: &mut String, list: &NameList) -> Result<(), AllocError>
+    ensures { OnOk result (string_bytes text.new ≡ string_bytes text.old ++ separated (codes ", ") quoted list.now.texts) }
+{
+    add_quoted(text, list, 0)?;
+    for number in 1..list.len() {
+        text.push_str(", ")?;
+        add_quoted(text, list, number)?;
+    }
+    Ok(())
+}
+
+fn add_names(text: &mut String, list: &NameList) -> Result<(), AllocError>
+    ensures { OnOk result (string_bytes text.new ≡ string_bytes text.old ++ names_line list.now) }
+{
+    let name = list.name();
+    write!(text, "names {name}: ")?;
+    add_texts(text, list)?;
+    text.push_str("\n")
+}
+
+fn add_lists(text: &mut String, lists: &[NameList]) -> Result<(), AllocError>
+    ensures { OnOk result (string_bytes text.new ≡ string_bytes text.old ++ flat_map names_line lists.now) }
+{
+    for list in lists {
+        add_names(text, list)?;
+    }
+    Ok(())
+}
+
+fn list_name(lists: &[NameList], number: u32) -> &str
+    ensures { result.now ≡ name_of_list (slice_get lists.now number) }
+{
+    match lists.get(number as usize) {
+        Some(list) => list.name(),
+        None => "",
+    }
+}
+
+// Adds the list that names keys or items, if one does.
+fn add_by(text: &mut String, lists: &[NameList], list: Option<u32>) -> Result<(), AllocError>
+    ensures { OnOk result (string_bytes text.new ≡ string_bytes text.old ++ by_text lists.now list) }
+{
+    match list {
+        None => Ok(()),
+        Some(number) => {
+            let name = list_name(lists, number);
+            write!(text, " by {name}")
+        }
+    }
+}
+
 fn keyed_text(keyed: bool) -> &'static str
     ensures { result.now ≡ keyed_text keyed }
 {
@@ -54,14 +117,22 @@ fn sort_text(sort: Sort) -> &'static str
     }
 }
 
-fn add_cells(text: &mut String, families: &[Family]) -> Result<(), AllocError>
-    ensures { OnOk result (string_bytes text.new ≡ string_bytes text.old ++ flat_map cell_line families.now) }
+fn add_cell(text: &mut String, lists: &[NameList], family: &Family) -> Result<(), AllocError>
+    ensures { OnOk result (string_bytes text.new ≡ string_bytes text.old ++ cell_line lists.now family.now) }
+{
+    let name = family.name.as_str();
+    let keyed = keyed_text(family.keyed);
+    write!(text, "cell {name}{keyed}")?;
+    add_by(text, lists, family.list)?;
+    let sort = sort_text(family.sort);
+    write!(text, "{sort}\n")
+}
+
+fn add_cells(text: &mut String, lists: &[NameList], families: &[Family]) -> Result<(), AllocError>
+    ensures { OnOk result (string_bytes text.new ≡ string_bytes text.old ++ flat_map (cell_line lists.now) families.now) }
 {
     for family in families {
-        let name = family.name.as_str();
-        let keyed = keyed_text(family.keyed);
-        let sort = sort_text(family.sort);
-        write!(text, "cell {name}{keyed}{sort}\n")?;
+        add_cell(text, lists, family)?;
     }
     Ok(())
 }
@@ -78,15 +149,23 @@ fn value_text(has_value: bool) -> &'static str
     if has_value { " int" } else { " none" }
 }
 
-fn add_tags(text: &mut String, kinds: &[Kind]) -> Result<(), AllocError>
-    ensures { OnOk result (string_bytes text.new ≡ string_bytes text.old ++ flat_map tag_line (map plain_kind kinds.now)) }
+fn add_kind(text: &mut String, lists: &[NameList], kind: &Kind) -> Result<(), AllocError>
+    ensures { OnOk result (string_bytes text.new ≡ string_bytes text.old ++ tag_line lists.now (plain_kind kind.now)) }
+{
+    let name = kind.name.as_str();
+    let keyed = keyed_text(kind.keyed);
+    let item = item_text(kind.has_item);
+    write!(text, "tag {name}{keyed}{item}")?;
+    add_by(text, lists, kind.list)?;
+    let value = value_text(kind.has_value);
+    write!(text, "{value}\n")
+}
+
+fn add_tags(text: &mut String, lists: &[NameList], kinds: &[Kind]) -> Result<(), AllocError>
+    ensures { OnOk result (string_bytes text.new ≡ string_bytes text.old ++ flat_map (tag_line lists.now) (map plain_kind kinds.now)) }
 {
     for kind in kinds {
-        let name = kind.name.as_str();
-        let keyed = keyed_text(kind.keyed);
-        let item = item_text(kind.has_item);
-        let value = value_text(kind.has_value);
-        write!(text, "tag {name}{keyed}{item}{value}\n")?;
+        add_kind(text, lists, kind)?;
     }
     Ok(())
 }
@@ -201,20 +280,22 @@ fn add_sources(text: &mut String, kinds: &[Kind], sources: &[Source]) -> Result<
 fn printed(alloc: Global, p: &Program) -> Result<String, AllocError>
     ensures { IfOk result (λ text. string_bytes text ≡ normal_form (job_of p.now)) }
 {
+    let lists = p.lists.items();
     let families = p.families.items();
     let kinds = p.kinds.items();
     let mut text = String::new(alloc);
     add_version(&mut text, p.version, p.iso)?;
-    add_cells(&mut text, families)?;
-    add_tags(&mut text, kinds)?;
+    add_lists(&mut text, lists)?;
+    add_cells(&mut text, lists, families)?;
+    add_tags(&mut text, lists, kinds)?;
     add_depends(&mut text, kinds, p.depends.items())?;
     add_ons(&mut text, families, kinds)?;
     add_sources(&mut text, kinds, p.sources.items())?;
     Ok(text)
 }
 
-/// A job as a text, in normal form (`docs/LANGUAGE.md`): the version if it is not 1 with the unit of the times, cells, tags, `depends`, the
-/// actions of the kinds that have some, and sources, each on a line of its own with one blank between words. Each operator is in parentheses
+/// A job as a text, in normal form (`docs/LANGUAGE.md`): the version if it is not 1 with the unit of the times, lists of names, cells,
+/// tags, `depends`, the actions of the kinds that have some, and sources, each on a line of its own with one blank between words. Each operator is in parentheses
 /// of its own, numbers have no needless zeros, the rate is always there, and the slack if it is not 0.
 ///
 /// The text is read as this job again, if it has at most 1,048,576 bytes.

@@ -6,21 +6,22 @@ ghost use Rattle.flu_model.specs.Erasure.{plain_action, plain_kind};
 ghost use Rattle.flu_syntax.specs.Tree.{action_of as action_seen, declaration_of, job_of};
 ghost use Rattle.flu_parse.specs.Faults.{Gives};
 ghost use Rattle.flu_parse.specs.Naming.{naming, in_version};
-ghost use Rattle.flu_parse.specs.Resolving.{drafted, same_of, with_depend, with_actions, with_on, with_source, with_declaration, idle_kind};
+ghost use Rattle.flu_parse.specs.Resolving.{drafted, same_of, with_depend, with_actions, with_on, with_source, with_cell, with_tag, with_names, with_declaration, idle_kind};
 ghost use Rattle.flu_parse.specs.Resolving.{cell_name_fits, item_word_fits, first_draft, draft_of, version_of, unit_named, unit_of, iso_of, resolved, job_of_parts};
 
 use crate::actions::resolved_actions;
 use crate::drafts::{Draft, JobParts};
 use crate::faults::JobFault;
 use crate::listings::{file_of, rate_of, slack_of, tags_of};
+use crate::lists::{items_by, keys_by, list_of, listed_families, listed_kinds, texts_of};
 use crate::names::{KindHead, Names};
 use crate::naming::{families_of, is_version_3, kind_of, naming_of};
 use crate::terms::shape_at;
 use flu_layout::{name_of, written_value};
-use flu_model::{Action, Depend, Kind, List, Name, Source, Text, Unit};
+use flu_model::{Action, Depend, Kind, List, Name, NameList, Source, Text, Unit};
 use flu_syntax::{
-    WrittenAction, WrittenDeclaration, WrittenHead, WrittenJob, WrittenNumber, WrittenRelation,
-    WrittenSpan, WrittenTag, WrittenUnit,
+    WrittenAction, WrittenCells, WrittenDeclaration, WrittenHead, WrittenItem, WrittenJob,
+    WrittenNumber, WrittenRelation, WrittenSpan, WrittenTag, WrittenUnit,
 };
 use std::alloc::{AllocError, Global};
 
@@ -135,13 +136,64 @@ fn cell_name_fits(text: &str, names: &Names, name: WrittenSpan) -> bool
 }
 
 // A wrong shape at the word `item` of a kind, unless the language has items.
-fn item_word_fits(names: &Names, item: &Option<usize>) -> Result<(), JobFault>
+fn item_word_fits(names: &Names, item: &Option<WrittenItem>) -> Result<(), JobFault>
     ensures { Gives (λ done. done) result (item_word_fits (naming names.now) item.now) }
 {
     match item {
         None => Ok(()),
-        Some(at) => shape_at(is_version_3(names), *at),
+        Some(item) => shape_at(is_version_3(names), item.at),
     }
+}
+
+#[tactic(auto, unfolding(crate::specs::Resolving::with_cell))]
+fn add_cell(
+    text: &str,
+    names: &Names,
+    draft: &mut Draft,
+    name: WrittenSpan,
+    cells: &WrittenCells,
+) -> Result<(), JobFault>
+    ensures { Gives (λ done. drafted draft.new) result (with_cell text.now (naming names.now) (drafted draft.old) name cells.now) }
+{
+    shape_at(cell_name_fits(text, names, name), name.from)?;
+    let list = list_of(text, names, keys_by(cells))?;
+    draft.family_lists.push(list)?;
+    Ok(())
+}
+
+#[tactic(auto, unfolding(crate::specs::Resolving::with_tag))]
+fn add_tag(
+    text: &str,
+    names: &Names,
+    draft: &mut Draft,
+    item: &Option<WrittenItem>,
+) -> Result<(), JobFault>
+    ensures { Gives (λ done. drafted draft.new) result (with_tag text.now (naming names.now) (drafted draft.old) item.now) }
+{
+    item_word_fits(names, item)?;
+    let list = list_of(text, names, items_by(item))?;
+    draft.kind_lists.push(list)?;
+    Ok(())
+}
+
+#[tactic(auto, unfolding(crate::specs::Resolving::with_names))]
+fn add_names(
+    alloc: Global,
+    text: &str,
+    names: &Names,
+    draft: &mut Draft,
+    at: usize,
+    name: WrittenSpan,
+    texts: &[WrittenSpan],
+) -> Result<(), JobFault>
+    ensures { Gives (λ done. drafted draft.new) result (with_names text.now (naming names.now) (drafted draft.old) at name texts.now) }
+{
+    shape_at(is_version_3(names), at)?;
+    let named = texts_of(alloc, text, texts)?;
+    let name = Name::of(String::from_str(alloc, name_of(text, name))?);
+    let list = NameList::of(alloc, name, named)?;
+    draft.lists.push(list)?;
+    Ok(())
 }
 
 #[tactic(auto, unfolding(crate::specs::Resolving::with_declaration))]
@@ -155,13 +207,12 @@ fn add_declaration(
     ensures { Gives (λ done. drafted draft.new) result (with_declaration text.now (naming names.now) (drafted draft.old) (declaration_of declaration.now)) }
 {
     match declaration {
-        WrittenDeclaration::Cell { name, .. } => {
-            shape_at(cell_name_fits(text, names, *name), name.from)?;
-            Ok(())
+        WrittenDeclaration::Cell { name, cells, .. } => {
+            add_cell(text, names, draft, *name, cells)
         }
-        WrittenDeclaration::Tag { item, .. } => {
-            item_word_fits(names, item)?;
-            Ok(())
+        WrittenDeclaration::Tag { item, .. } => add_tag(text, names, draft, item),
+        WrittenDeclaration::Names { at, name, texts } => {
+            add_names(alloc, text, names, draft, *at, *name, texts.items())
         }
         WrittenDeclaration::Depends { a, b, relation } => {
             add_depend(text, names, draft, *a, *b, relation)
@@ -189,7 +240,7 @@ fn add_declaration(
     }
 }
 
-// The kinds, in the order of their declarations, without actions.
+// The kinds, in the order of their declarations, without actions and lists.
 fn idle_kinds(alloc: Global, names: &Names) -> Result<Vec<Kind>, AllocError>
     ensures { IfOk result (λ kinds. map plain_kind kinds.items ≡ map idle_kind (naming names.now).kinds) }
 {
@@ -200,6 +251,7 @@ fn idle_kinds(alloc: Global, names: &Names) -> Result<Vec<Kind>, AllocError>
             name,
             keyed: head.keyed,
             has_item: head.has_item,
+            list: None,
             has_value: head.has_value,
             actions: List::of(Vec::new(alloc)),
         })?;
@@ -212,6 +264,9 @@ fn first_draft(alloc: Global, names: &Names) -> Result<Draft, AllocError>
 {
     let kinds = idle_kinds(alloc, names)?;
     Ok(Draft {
+        lists: Vec::new(alloc),
+        family_lists: Vec::new(alloc),
+        kind_lists: Vec::new(alloc),
         kinds,
         given: Vec::new(alloc),
         depends: Vec::new(alloc),
@@ -297,10 +352,12 @@ fn iso_of(text: &str, version: u32, written: &Option<WrittenHead>) -> Result<Opt
 /// # Errors
 ///
 /// Names are checked first, in the order of the declarations: [`JobFault::TwiceNamed`] at the second declaration of a name,
-/// [`JobFault::OverLimit`] for a family, kind, source or `depends` that is one too many. Then [`JobFault::WrongShape`] at a
+/// [`JobFault::OverLimit`] for a family, kind, source, list or `depends` that is one too many. Then [`JobFault::WrongShape`] at a
 /// version other than 1, 2 and 3, at the word `iso` in versions 1 and 2, and at a unit that is none, in this order. Then the
 /// declarations are checked again, token by token, where an unknown name comes before a wrong shape, that before a limit, and that
-/// before what is named twice. [`JobFault::NoMemory`] if memory runs out.
+/// before what is named twice: in versions 1 and 2 there is a wrong shape at the words `names` and `by`, the name after `by` is of a
+/// list, and a text of a list has a wrong shape, is the 65,537th of its list, or is there already. [`JobFault::NoMemory`] if memory
+/// runs out.
 #[tactic(auto, unfolding(crate::specs::Resolving::resolved))]
 pub fn resolve(alloc: Global, text: &str, job: &WrittenJob) -> Result<JobParts, JobFault>
     ensures { Gives job_of_parts result (resolved text.now (job_of job.now)) }
@@ -315,11 +372,14 @@ pub fn resolve(alloc: Global, text: &str, job: &WrittenJob) -> Result<JobParts, 
     names.version = version;
     let draft = draft_of(alloc, text, &names, declarations)?;
     let families = families_of(alloc, &names)?;
+    let families = listed_families(alloc, families, draft.family_lists.as_slice())?;
+    let kinds = listed_kinds(alloc, draft.kinds, draft.kind_lists.as_slice())?;
     Ok(JobParts {
         version,
         iso,
+        lists: List::of(draft.lists),
         families: List::of(families),
-        kinds: List::of(draft.kinds),
+        kinds: List::of(kinds),
         depends: List::of(draft.depends),
         sources: List::of(draft.sources),
     })

@@ -63,7 +63,7 @@ record SourceThere (p : Program) (source : Option ℕ) : Type 0 where
 
 kind_there : (p : Program) (text : List ℕ) (s : WrittenSpan) (kind : Option ℕ) → kind_of p text (Some s) ≡ Ok kind → KindThere p kind
 kind_there p text s kind e =
-    let d : Kind = record { name = []; keyed = false; has_item = false; has_value = false; actions = [] } in
+    let d : Kind = record { name = []; keyed = false; has_item = false; list = None; has_value = false; actions = [] } in
     let test = λ (k : Kind). is_same_text (name_of text s) k.name in
     let one = bind_ok (known s.from (kind_named p.kinds (name_of text s))) (λ n. Ok (Some n)) kind e in
     let place = position-Some test p.kinds one.0 d (known_ok s.from (kind_named p.kinds (name_of text s)) one.0 one.1) in

@@ -17,6 +17,7 @@ use Rattle.flu_model.specs.declared.jobs.Source.{Source}
 use Rattle.flu_model.specs.declared.jobs.Program.{Program}
 use Rattle.flu_model.specs.declared.plans.Pred.{Pred}
 use Rattle.flu_model.specs.declared.plans.Node.{Node}
+use Rattle.flu_model.specs.Numberings.{Numbering}
 use Rattle.flu_model.specs.Rules.{is_same_text, action_fits, kind_fits, is_file_text, tag_ref_fits, are_distinct, is_same_tag, source_fits}
 use Rattle.flu_names.specs.Names.{is_name}
 use Rattle.flu_model.specs.Listing.{tags_of_source}
@@ -75,7 +76,10 @@ names_differ p =
     let families = map (λ (x : Family). x.name) p.families in
     let kinds = map (λ (k : Kind). k.name) p.kinds in
     let sources = map (λ (s : Source). s.name) p.sources in
-    let all : Distinct (families ++ kinds ++ sources) = distinct_from is_same_text bytes_itself (families ++ kinds ++ sources) p.own_names in
+    let lists = map (λ (l : Numbering). l.name) p.lists in
+    let whole : Distinct (families ++ kinds ++ sources ++ lists) =
+    distinct_from is_same_text bytes_itself (families ++ kinds ++ sources ++ lists) p.own_names in
+    let all : Distinct (families ++ kinds ++ sources) = distinct_front (families ++ kinds ++ sources) lists whole in
     record { kinds = distinct_back families kinds (distinct_front (families ++ kinds) sources all); sources = distinct_back (families ++ kinds) sources all }
 
 -- ---- what the rules of the plan say of its nodes

@@ -10,6 +10,7 @@ use Rattle.std.specs.Str.{bytes_eq}
 use Rattle.std.specs.Str.Parse.{digits_value}
 use Rattle.std.proofs.lemmas.Bool.Decides.{nat_tests}
 use Rattle.std.proofs.lemmas.List.{length-append}
+use Rattle.flu_model.specs.Erasure.{job_of}
 use Rattle.flu_lemmas.specs.Late.{is_less}
 use Rattle.flu_lemmas.specs.Sorting.{put_in_order, in_order}
 use Rattle.flu_lemmas.proofs.Elements.{all_append}
@@ -20,12 +21,13 @@ use Rattle.flu_model.specs.declared.events.Item.TheVariants.{Event as EventItem,
 use Rattle.flu_model.specs.declared.jobs.Kind.{Kind}
 use Rattle.flu_model.specs.declared.jobs.Program.{Program}
 use Rattle.flu_model.specs.declared.jobs.Source.{Source}
+use Rattle.flu_model.specs.Numberings.{Numbering}
 use Rattle.flu_model.specs.Merging.{events_of, all_events}
 use Rattle.flu_outside.specs.Outside.{Contents}
 use Rattle.flu_outside.specs.Taking.{bytes_left}
 use Rattle.flu_partial.specs.Partial.{IsTime}
 use Rattle.flu_rows.specs.declared.row.Fields.{Fields}
-use Rattle.flu_rows.specs.declared.row.Fields.TheVariants.{Nothing, One, Two, Other}
+use Rattle.flu_rows.specs.declared.row.Fields.TheVariants.{Nothing, One, Two, Named, NamedWith, Other}
 use Rattle.flu_rows.specs.declared.row.Row.{Row}
 use Rattle.flu_rows.specs.declared.row.Row.TheVariants.{Event, Beat, End}
 use Rattle.flu_rows.specs.declared.row.RowForm.{RowForm}
@@ -37,7 +39,9 @@ use Rattle.flu_rows.specs.Laws.{TimesAreInRange}
 use Rattle.flu_rows.specs.Lines.{begins_with_mark, line_of, line_of_row, line_of_fields, line_of_one, line_of_records, lines_of}
 use Rattle.flu_rows.specs.Reading.{read_line, read_lines}
 use Rattle.flu_rows.specs.Records.{first_record, record_after}
-use Rattle.flu_rows.specs.Row.{form_of, number_field, number_fields, one_field, two_fields, row_of, row_of_two, row_of_three, row_of_four, filled_len}
+use Rattle.flu_rows.specs.ItemNames.{items_named, named_item}
+use Rattle.flu_rows.specs.Row.{form_of, number_field, number_fields, named_fields, field_by, fields_by, one_field, two_fields, filled_len}
+use Rattle.flu_rows.specs.Row.{row_of, row_of_two, row_of_three, row_of_four}
 use Rattle.flu_sending.specs.Lines.{times_of, all_times}
 use Rattle.flu_selected.specs.Laws.{LawOfLength}
 use Rattle.flu_streams.specs.Before.{each_with_before}
@@ -88,6 +92,8 @@ abbrev HasWord : Fields → Type 0
 HasWord Nothing = ⊤
 HasWord (One item value) = IsWord value
 HasWord (Two item value) = IsWord value
+HasWord (Named item) = ⊤
+HasWord (NamedWith item value) = IsWord value
 HasWord Other = ⊤
 
 one_number : (item : Option ℕ) (value : Option ℤ) → IfSome value IsWord → HasWord (number_field item value)
@@ -99,13 +105,25 @@ two_numbers None value h = tt
 two_numbers (Some item) None h = tt
 two_numbers (Some item) (Some value) h = h
 
+named_number : (item : Option ℕ) (value : Option ℤ) → IfSome value IsWord → HasWord (named_fields item value)
+named_number item None h = tt
+named_number item (Some value) h = h
+
+field_when : (list : Option Numbering) (text : List ℕ) → HasWord (field_by list text)
+field_when None text = one_number (item_of text) (value_of text) (value_when text)
+field_when (Some list) text = tt
+
+fields_when : (list : Option Numbering) (first second : List ℕ) → HasWord (fields_by list first second)
+fields_when None first second = two_numbers (item_of first) (value_of second) (value_when second)
+fields_when (Some list) first second = named_number (named_item list first) (value_of second) (value_when second)
+
 older_number : (value : Option ℤ) → IfSome value IsWord → IfSome (option_map (λ value. One None value) value) HasWord
 older_number None h = tt
 older_number (Some value) h = h
 
-one_when : (form : RowForm) (text : List ℕ) → IfSome (one_field form text) HasWord
-one_when Older text = older_number (value_of text) (value_when text)
-one_when (WithItems iso) text = one_number (item_of text) (value_of text) (value_when text)
+one_when : (form : RowForm) (text name : List ℕ) → IfSome (one_field form name text) HasWord
+one_when Older text name = older_number (value_of text) (value_when text)
+one_when (WithItems iso lists) text name = field_when (items_named lists name) text
 
 -- ---- rows
 abbrev IsRight : Row → Type 0
@@ -120,18 +138,22 @@ two_when (Some t) h true q = h
 two_when (Some t) h false None = tt
 two_when (Some t) h false (Some k) = (h, tt)
 
-three_when : (o : Option ℕ) → IfSome o IsTime → (q : Option (List ℕ × Option ℕ)) (r : Option Fields) → IfSome r HasWord
-    → IfSome (option_and_then (λ t. option_and_then (λ k. option_and_then (λ f. Some (Event t k.0 k.1 f)) r) q) o) IsRight
+three_when : (o : Option ℕ) → IfSome o IsTime → (q : Option (List ℕ × Option ℕ)) (r : List ℕ → Option Fields)
+    → ((name : List ℕ) → IfSome (r name) HasWord)
+    → IfSome (option_and_then (λ t. option_and_then (λ k. option_and_then (λ f. Some (Event t k.0 k.1 f)) (r k.0)) q) o) IsRight
 three_when None h q r w = tt
 three_when (Some t) h None r w = tt
-three_when (Some t) h (Some k) None w = tt
-three_when (Some t) h (Some k) (Some f) w = (h, w)
+three_when (Some t) h (Some k) r w = by (r k.0) (w k.0)
+  where
+    by : (f : Option Fields) → IfSome f HasWord → IfSome (option_and_then (λ f. Some (Event t k.0 k.1 f)) f) IsRight
+    by None w = tt
+    by (Some f) w = (h, w)
 
-four_when : (o : Option ℕ) → IfSome o IsTime → (q : Option (List ℕ × Option ℕ)) (f : Fields) → HasWord f
-    → IfSome (option_and_then (λ t. option_and_then (λ k. Some (Event t k.0 k.1 f)) q) o) IsRight
+four_when : (o : Option ℕ) → IfSome o IsTime → (q : Option (List ℕ × Option ℕ)) (f : List ℕ → Fields) → ((name : List ℕ) → HasWord (f name))
+    → IfSome (option_and_then (λ t. option_and_then (λ k. Some (Event t k.0 k.1 (f k.0))) q) o) IsRight
 four_when None h q f w = tt
 four_when (Some t) h None f w = tt
-four_when (Some t) h (Some k) f w = (h, w)
+four_when (Some t) h (Some k) f w = (h, w k.0)
 
 end_when : (b : Bool) → IfSome (cond b (Some End) None) IsRight
 end_when true = tt
@@ -140,15 +162,16 @@ end_when false = tt
 row_four : TimesAreInRange → (form : RowForm) (a b c d : List ℕ) → IfSome (row_of_four form a b c d) IsRight
 unfolding row_of_four
 row_four times Older a b c d = tt
-row_four times (WithItems iso) a b c d =
-    four_when (time_of (WithItems iso) a) (time_field times (WithItems iso) a) (tag_of b) (two_fields c d) (two_numbers (item_of c) (value_of d) (value_when d))
+row_four times (WithItems iso lists) a b c d =
+    four_when (time_of (WithItems iso lists) a) (time_field times (WithItems iso lists) a) (tag_of b) (λ name. two_fields lists name c d)
+    (λ name. fields_when (items_named lists name) c d)
 
 row_when : TimesAreInRange → (form : RowForm) (fields : List (List ℕ)) → IfSome (row_of form fields) IsRight
 unfolding row_of row_of_two row_of_three
 row_when times form [] = tt
 row_when times form (a ∷ []) = end_when (bytes_eq a (codes "end"))
 row_when times form (a ∷ b ∷ []) = two_when (time_of form a) (time_field times form a) (bytes_eq b (codes "beat")) (tag_of b)
-row_when times form (a ∷ b ∷ c ∷ []) = three_when (time_of form a) (time_field times form a) (tag_of b) (one_field form c) (one_when form c)
+row_when times form (a ∷ b ∷ c ∷ []) = three_when (time_of form a) (time_field times form a) (tag_of b) (λ name. one_field form name c) (one_when form c)
 row_when times form (a ∷ b ∷ c ∷ d ∷ []) = row_four times form a b c d
 row_when times form (a ∷ b ∷ c ∷ d ∷ e ∷ more) = tt
 
@@ -233,6 +256,12 @@ given_word true true (One item value) h = tt
 given_word true true (Two item value) h = h
 given_word true false (Two item value) h = tt
 given_word false b (Two item value) h = tt
+given_word true true (Named item) h = tt
+given_word true false (Named item) h = zero_word
+given_word false b (Named item) h = tt
+given_word true true (NamedWith item value) h = h
+given_word true false (NamedWith item value) h = tt
+given_word false b (NamedWith item value) h = tt
 given_word a b Other h = tt
 
 by_word : (o : Option Kind) (f : Fields) → HasWord f → IfSome (given_by o f) (λ (g : ℕ × ℤ). IsWord g.1)
@@ -331,11 +360,11 @@ lists_right kinds s first rows (place ∷ places) all few =
 
 module _ (times : TimesAreInRange) (p : Program) (left : Contents) where
   abbrev lists_from : List Source × Source → List (List Item)
-  lists_from e = lists_of_rows p.kinds e.1 (sum_by width e.0) (rows_in (form_of p.version p.iso) left e.1)
+  lists_from e = lists_of_rows p.kinds e.1 (sum_by width e.0) (rows_in (form_of (job_of p)) left e.1)
 
   source_right : (e : List Source × Source) → AllByRecursion IsRightList (lists_from e)
   source_right e =
-      let form = form_of p.version p.iso in
+      let form = form_of (job_of p) in
       let lines = lines_of (bytes_left left e.1.file) in
       let right = lines_read times form 0 lines (omega arith) in
       let few = right.1 in

@@ -120,3 +120,65 @@ fn tells_a_defect_before_a_read_fault(rt: HostRuntime) -> Result<(), Fail> {
     assert!(rt; matches!(fault, Some(GatherFault::Source(f)) if f.why == Why::BadRow));
     Ok(())
 }
+
+/// A job whose source lists `ride`, which has items by a list and a value, and `stop`, which has items by another list and none.
+const NAMED_JOB: &str =
+    "version 3 names towns: \"harbour\", \"market hall\", \"7\" names lines: \"7\" tag ride item by towns int tag stop item by lines none \
+     source a \"a\": ride, stop source b \"b\": stop";
+
+/// Rows with names, and their first defects.
+const NAMED: &str =
+    "1,ride,harbour,5/2,ride,\"market hall\",-7/3,ride,7,1/4,stop,7/end & end => 0:1=0,5 0:2=1,-7 0:3=2,1 end |1:4=0,0 end |end |
+1,ride,7,5/2,stop,\"7\"/end & 3,stop,7/end => 0:1=2,5 end |1:2=0,0 end |2:3=0,0 end |
+1,ride,mill,5/end & end => 0 1 UnknownItem
+1,ride,07,5/end & end => 0 1 UnknownItem
+1,ride,Harbour,5/end & end => 0 1 UnknownItem
+1,ride,\"harbour \",5/end & end => 0 1 UnknownItem
+1,ride,,5/end & end => 0 1 UnknownItem
+1,ride,\"\",5/end & end => 0 1 UnknownItem
+1,stop,harbour/end & end => 0 1 UnknownItem
+1,ride,mill,x/end & end => 0 1 BadRow
+1,ride,mill/end & end => 0 1 BadRow
+1,ride/end & end => 0 1 BadRow
+1,stop,/end & end => 0 1 BadRow
+1,stop,mill,4/end & end => 0 1 BadRow
+5,ride,harbour,1/4,ride,mill,1/end & end => 0 2 UnknownItem
+1,ride[2],mill,5/end & end => 0 1 UnknownTag";
+
+#[test]
+fn names_give_items(rt: HostRuntime) -> Result<(), Fail> {
+    let alloc = rt.alloc();
+    let p = read_job(alloc, NAMED_JOB.as_bytes())?;
+    for line in NAMED.split('\n') {
+        let (text, wanted) = case_of(line);
+        let text = text.replace(alloc, "/", "\n")?;
+        let (a, b) = text.split_once(" & ").unwrap_or((text.as_str(), ""));
+        let mut files = files_of(alloc, &[("a", a.as_bytes()), ("b", b.as_bytes())], 5)?;
+        let got = match gather(alloc, &p, &mut files) {
+            Ok(streams) => shown_with_items(alloc, &p, &streams)?,
+            Err(fault) => told(alloc, fault)?,
+        };
+        assert_eq!(rt; got.as_str(), wanted, "{line}");
+    }
+    Ok(())
+}
+
+/// The items of each itag with those of their events, in short.
+fn shown_with_items(alloc: Global, p: &Program, streams: &Streams) -> Result<String, AllocError>
+    requires { length (listed streams.now) ≡ count_of_itags p.now }
+{
+    let mut text = String::new(alloc);
+    for number in 0..itag_count(p) {
+        for item in streams.items(Itag(number)) {
+            match item {
+                Item::Event(x) => {
+                    write!(text, "{}:{}={},{} ", x.itag.0, x.time, x.item, x.value)?
+                }
+                Item::Beat(time) => write!(text, "beat{time} ")?,
+                Item::End => text.push_str("end ")?,
+            }
+        }
+        text.push_str("|")?;
+    }
+    Ok(text)
+}

@@ -78,6 +78,22 @@ fn limits_are_passed_at_places(rt: HostRuntime) -> Result<(), Fail> {
             257,
         ),
         ("on t: clear c; ", 0, "", "add c 1", What::Height, 33),
+        (
+            "names a: \"names\" ",
+            63,
+            "names l: \"a\"\n",
+            "names z: \"a\"",
+            What::Lists,
+            65,
+        ),
+        (
+            "names b: \"b\" names a: ",
+            65_536,
+            "\"a\", ",
+            "\"z\"",
+            What::Names,
+            65_537,
+        ),
         ("", 127, "node a: -> b c\n", "node z: t", What::Nodes, 128),
         (
             "node a: -> b x node b: -> c x node c: -> d x node d: -> e x node e: -> f x node f: -> g x node g: -> h x node ",

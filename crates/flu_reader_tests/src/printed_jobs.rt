@@ -162,6 +162,17 @@ cell k keyed last
 tag t keyed int
 on t: emit \"{value} {key}{time} 007 {a}, {k[key]} [{k[7]}] {k[0]} \u{e9}#\"; flush k \" {key}: {cell} 01 {time}{value}\"
 %%
+version 3 tag t keyed item by towns int names towns:\"b c\",
+\"a\",\"\u{e9}\" # a comment
+cell sums keyed by towns sum cell tops keyed by names max names names : \"names\"
+-->
+version 3
+names towns: \"b c\", \"a\", \"\u{e9}\"
+names names: \"names\"
+cell sums keyed by towns sum
+cell tops keyed by names max
+tag t keyed item by towns int
+%%
 version 3 iso seconds
 tag iso none
 tag seconds int

@@ -6,14 +6,15 @@ use crate::files::files_of;
 use crate::tables::case_of;
 use flu_model::{Text, Unit};
 use flu_outside::{MemFiles, TakeFault};
-use flu_rows::{Fields, Next, Row, RowForm, Rows};
+use flu_parse::read_job;
+use flu_rows::{Fields, ItemLists, Next, Row, RowForm, Rows, form_of};
 use std::alloc::{AllocError, Global};
 use std::process::Abort;
 use std::test::Fail;
 
 /// What is read of the file `f`, in short: `LINE: TIME NAME KEY FIELDS`, `LINE: beat TIME`, `LINE: end`, and then how
 /// the reading ended. Each take gives at most this many bytes.
-fn read_all(alloc: Global, form: RowForm, bytes: &[u8], piece: usize) -> Result<String, Fail>
+fn read_all(alloc: Global, form: &RowForm, bytes: &[u8], piece: usize) -> Result<String, Fail>
     requires { 0 < piece }
 {
     let mut files = files_of(alloc, &[("f", bytes)], piece)?;
@@ -27,7 +28,12 @@ fn read_all(alloc: Global, form: RowForm, bytes: &[u8], piece: usize) -> Result<
     Ok(text)
 }
 
-fn rows_of(alloc: Global, form: RowForm, name: &str) -> Result<Rows, AllocError> {
+/// Rows with items that no list names, whose times may be texts under this unit.
+fn with_items(alloc: Global, iso: Option<Unit>) -> Result<RowForm, AllocError> {
+    Ok(RowForm::WithItems(iso, ItemLists::of(alloc, &[], &[])?))
+}
+
+fn rows_of(alloc: Global, form: &RowForm, name: &str) -> Result<Rows, AllocError> {
     Rows::new(alloc, form, &Text::of(String::from_str(alloc, name)?))
 }
 
@@ -65,7 +71,8 @@ fn shown(alloc: Global, next: &Next) -> Result<String, AllocError> {
     }
 }
 
-/// What stands behind the tag: nothing, a number as a value and perhaps as an item, an item and a value, or other fields.
+/// What stands behind the tag: nothing, a number as a value and perhaps as an item, an item and a value, an item by its name, the same and a value, or
+/// other fields.
 fn shown_fields(alloc: Global, fields: Fields) -> Result<String, AllocError> {
     match fields {
         Fields::Nothing => String::from_str(alloc, "None"),
@@ -75,13 +82,15 @@ fn shown_fields(alloc: Global, fields: Fields) -> Result<String, AllocError> {
             value,
         } => format!(in alloc; "{item} or {value}"),
         Fields::Two { item, value } => format!(in alloc; "{item} and {value}"),
+        Fields::Named { item } => format!(in alloc; "named {item:?}"),
+        Fields::NamedWith { item, value } => format!(in alloc; "named {item:?} and {value}"),
         Fields::Other => String::from_str(alloc, "others"),
     }
 }
 
 /// Whether the file of each line of a table is read as the line says, however many bytes a take gives. In the file a slash stands for a
 /// line feed, and a percent sign for a carriage return.
-fn expect_all(rt: &impl Abort, alloc: Global, form: RowForm, table: &str) -> Result<(), Fail> {
+fn expect_all(rt: &impl Abort, alloc: Global, form: &RowForm, table: &str) -> Result<(), Fail> {
     for line in table.split('\n') {
         let (text, wanted) = case_of(line);
         let text = text.replace(alloc, "/", "\n")?.replace(alloc, "%", "\r")?;
@@ -134,7 +143,7 @@ end/\u{feff}end/ => 1: end, bad 2
 
 #[test]
 fn reads_rows(rt: HostRuntime) -> Result<(), Fail> {
-    expect_all(&rt, rt.alloc(), RowForm::Older, FILES)
+    expect_all(&rt, rt.alloc(), &RowForm::Older, FILES)
 }
 
 /// Files of rows with items: those that are read as before, those of three and four fields, and lines that are none.
@@ -153,7 +162,26 @@ end,1 => bad 1";
 
 #[test]
 fn reads_rows_with_items(rt: HostRuntime) -> Result<(), Fail> {
-    expect_all(&rt, rt.alloc(), RowForm::WithItems(None), ITEMS)
+    let form = with_items(rt.alloc(), None)?;
+    expect_all(&rt, rt.alloc(), &form, ITEMS)
+}
+
+/// A job of which one kind's items have names.
+const NAMED: &str =
+    "version 3 names towns: \"mill\", \"market hall\", \"7\", \"\u{e9}\" tag ride item by towns int tag hit item int";
+
+/// Files of rows of its kinds: names with quotes and without, as the csv fields that they are, and numbers of the other kind.
+const NAMES: &str = "1,ride,mill/2,ride,market hall,-5/3,ride,7,7/4,hit,7,7/5,hit,mill => 1: 1 ride None named Some(0), 2: 2 ride None named Some(1) and -5, 3: 3 ride None named Some(2) and 7, 4: 4 hit None 7 and 7, 5: 5 hit None others, done 5
+1,ride,\"mill\",1%/2,ride,\"7\"/3,\"ride\",\"\u{e9}\",\"4\"/4,ride,\u{e9},5 => 1: 1 ride None named Some(0) and 1, 2: 2 ride None named Some(2), 3: 3 ride None named Some(3) and 4, 4: 4 ride None named Some(3) and 5, done 4
+1,ride,Mill,1/2,ride,07/3,ride, mill,1/4,ride,,1/5,ride,\"\",1/6,ride,mill,x/7,ride,/8,ride[2],mill => 1: 1 ride None named None and 1, 2: 2 ride None named None, 3: 3 ride None named None and 1, 4: 4 ride None named None and 1, 5: 5 ride None named None and 1, 6: 6 ride None others, 7: 7 ride None None, 8: 8 ride Some(2) named Some(0), done 8
+1,ride,mi\"ll/2,ride,\"mi\"\"ll\",4/3,other,mill => 1: 1 ride None named None, 2: 2 ride None named None and 4, 3: 3 other None others, done 3
+1,ride,mill,1,2 => bad 1";
+
+#[test]
+fn reads_rows_with_names(rt: HostRuntime) -> Result<(), Fail> {
+    let p = read_job(rt.alloc(), NAMED.as_bytes())?;
+    let form = form_of(rt.alloc(), &p)?;
+    expect_all(&rt, rt.alloc(), &form, NAMES)
 }
 
 /// Files of rows without a unit, in which a text is no time.
@@ -163,13 +191,9 @@ const TEXTS_WITHOUT_A_UNIT: &str = "1,inc/2026-03-02T08:05:00Z,inc => 1: 1 inc N
 
 #[test]
 fn texts_are_no_times_without_a_unit(rt: HostRuntime) -> Result<(), Fail> {
-    expect_all(&rt, rt.alloc(), RowForm::Older, TEXTS_WITHOUT_A_UNIT)?;
-    expect_all(
-        &rt,
-        rt.alloc(),
-        RowForm::WithItems(None),
-        TEXTS_WITHOUT_A_UNIT,
-    )
+    expect_all(&rt, rt.alloc(), &RowForm::Older, TEXTS_WITHOUT_A_UNIT)?;
+    let form = with_items(rt.alloc(), None)?;
+    expect_all(&rt, rt.alloc(), &form, TEXTS_WITHOUT_A_UNIT)
 }
 
 /// Files of rows whose times count seconds, which are those that `date -u` gives: each form of a time and of a row, quotes, the first and the
@@ -227,7 +251,8 @@ fn reads_times_as_text(rt: HostRuntime) -> Result<(), Fail> {
         (Unit::Milliseconds, MILLISECONDS),
         (Unit::Microseconds, MICROSECONDS),
     ] {
-        expect_all(&rt, rt.alloc(), RowForm::WithItems(Some(unit)), table)?;
+        let form = with_items(rt.alloc(), Some(unit))?;
+        expect_all(&rt, rt.alloc(), &form, table)?;
     }
     Ok(())
 }
@@ -251,7 +276,7 @@ fn reads_lines_of_4096_bytes(rt: HostRuntime) -> Result<(), Fail> {
         for fed in [true, false] {
             for piece in [1usize, 5000] {
                 let line = long_line(rt.alloc(), len, fed)?;
-                let got = read_all(rt.alloc(), RowForm::Older, &line, piece)?;
+                let got = read_all(rt.alloc(), &RowForm::Older, &line, piece)?;
                 assert_eq!(rt; got.as_str(), wanted, "{fed} {piece}");
             }
         }
@@ -263,7 +288,7 @@ fn reads_lines_of_4096_bytes(rt: HostRuntime) -> Result<(), Fail> {
 fn tells_a_fault(rt: HostRuntime) -> Result<(), Fail> {
     let mut files = files_of(rt.alloc(), &[("f", b"1,inc\n2,inc\n")], 3)?;
     files.fail_at(4)?;
-    let mut rows = rows_of(rt.alloc(), RowForm::Older, "f")?;
+    let mut rows = rows_of(rt.alloc(), &RowForm::Older, "f")?;
     assert_eq!(rt; rows.next_row(&mut files).is_ok(), true);
     assert_eq!(rt; rows.next_row(&mut files).err(), Some(TakeFault::Failed));
     Ok(())
@@ -272,7 +297,7 @@ fn tells_a_fault(rt: HostRuntime) -> Result<(), Fail> {
 #[test]
 fn a_missing_file_is_a_fault(rt: HostRuntime) -> Result<(), Fail> {
     let mut files = files_of(rt.alloc(), &[], 3)?;
-    let mut rows = rows_of(rt.alloc(), RowForm::Older, "missing")?;
+    let mut rows = rows_of(rt.alloc(), &RowForm::Older, "missing")?;
     assert_eq!(rt; rows.next_row(&mut files).err(), Some(TakeFault::Failed));
     Ok(())
 }

@@ -4,6 +4,7 @@ use Rattle.std.specs.Prelude.{sum_by, option_map, unwrap_or, length, Contains}
 use Rattle.std.specs.List.{flat_map, AllByRecursion}
 use Rattle.std.proofs.lemmas.Bool.{cases_Bool}
 use Rattle.std.proofs.lemmas.List.Sums.{sum_by-append}
+use Rattle.flu_model.specs.Erasure.{job_of}
 use Rattle.flu_lemmas.proofs.Containing.{contains_here, contains_later}
 use Rattle.flu_lemmas.proofs.Elements.{all_push}
 use Rattle.flu_model.specs.declared.jobs.Kind.{Kind}
@@ -83,8 +84,8 @@ read_files_matter defects p is_read left other same =
     let alike : Alike (selected p is_read left) (selected p is_read other) p.sources =
     all_alike (selected p is_read left) (selected p is_read other) p.sources
     (λ name there. closed_alike names left other name (λ not_closed. same name (there, not_closed))) in (
-      lists_alike (form_of p.version p.iso) p.kinds (selected p is_read left) (selected p is_read other) [] p.sources alike,
+      lists_alike (form_of (job_of p)) p.kinds (selected p is_read left) (selected p is_read other) [] p.sources alike,
       sym (defects p is_read left)
-          ∙ faults_alike (form_of p.version p.iso) p.kinds (selected p is_read left) (selected p is_read other) [] p.sources tt alike
+          ∙ faults_alike (form_of (job_of p)) p.kinds (selected p is_read left) (selected p is_read other) [] p.sources tt alike
           ∙ defects p is_read other,
     )

@@ -23,7 +23,7 @@ use Rattle.flu_streams.specs.Before.{with_before, or_else, first_some}
 use Rattle.flu_streams.specs.Good.{time_at, in_time_order}
 use Rattle.flu_streams.specs.Tags.{width}
 use Rattle.flu_streams.specs.Tests.{rows_of, row_in, has_ended, times_of, items_of}
-use Rattle.flu_streams.specs.Tests.{where_true, test_tag, test_fields, test_time, test_times, fault_of, defect_of, first_of}
+use Rattle.flu_streams.specs.Tests.{where_true, test_tag, test_fields, test_item, test_time, test_times, fault_of, defect_of, first_of}
 
 -- ---- rows that rise
 -- the times of events and heartbeats rise from `low` on
@@ -153,7 +153,8 @@ in_time kinds s ended earlier held row none =
     let first = no_first (where_true ended AfterEnd) _ none in
     let second = no_first (test_tag kinds s row) _ first.1 in
     let third = no_first (test_fields kinds row) _ second.1 in
-    (no_first (test_time s.slack earlier row) _ third.1).0
+    let fourth = no_first (test_item row) _ third.1 in
+    (no_first (test_time s.slack earlier row) _ fourth.1).0
 
 no_row : (done : List Next) (next : Next) → row_in next ≡ None → Rise 0 (in_time_order (rows_of done)) → Rise 0 (in_time_order (rows_of (done ++ next ∷ [])))
 no_row done (RowNext line row) e up = cc

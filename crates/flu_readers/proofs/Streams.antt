@@ -4,6 +4,7 @@ use Rattle.std.specs.Prelude.{◌==◌, ◌&&◌, nat_le, unwrap_or, option_map,
 use Rattle.std.specs.List.{filter_map, flat_map, range_with_len}
 use Rattle.std.proofs.lemmas.List.FromFn.{length-map-range_with_len}
 use Rattle.std.proofs.lemmas.List.Sums.{sum_by-append}
+use Rattle.flu_model.specs.Erasure.{job_of}
 use Rattle.flu_lemmas.proofs.Numbers.{same_number}
 use Rattle.flu_lemmas.proofs.Tests.{and_left, and_right, both, le_true}
 use Rattle.flu_model.specs.declared.events.Item.{Item}
@@ -92,4 +93,4 @@ streams_from form kinds left before (s ∷ sources) none =
     (ap (λ i. are_streams i back) number ∙ streams_from form kinds left (before ++ s ∷ []) sources parts.1)
 
 pub good_streams : (p : Program) (left : Contents) → AreGood p left → are_streams 0 (lists_of p left) ≡ true
-good_streams p left good = streams_from (form_of p.version p.iso) p.kinds left [] p.sources good
+good_streams p left good = streams_from (form_of (job_of p)) p.kinds left [] p.sources good

@@ -1,9 +1,8 @@
 -- What a run in rounds has counted.
-use Rattle.std.proofs.Common.{◌≡◌, ℕ, List, [], ◌∷◌, ◌++◌, Option, sym, ap, ◌∙◌, subst}
+use Rattle.std.proofs.Common.{◌≡◌, ℕ, List, sym, ap, ◌∙◌}
 use Rattle.flu_lemmas.proofs.Told.{told_then}
 use Rattle.flu_model.specs.declared.jobs.Program.{Program}
 use Rattle.flu_rows.specs.declared.rows.Next.{Next}
-use Rattle.flu_streams.specs.declared.border.Border.{Border}
 use Rattle.flu_streams.specs.declared.border.Border.TheVariants.{At, Closed}
 use Rattle.flu_streams.specs.Counts.{grown, grown_by, grown_in_turn, OneMoreInTurn, LawOfCounts}
 use Rattle.flu_streams.specs.Good.{lists_of}

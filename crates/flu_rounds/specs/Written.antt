@@ -1,6 +1,7 @@
 -- What a run in rounds has written, by the lines of its sources' files (`docs/MODEL.md`, "Rounds").
 use Rattle.std.specs.Prelude.{◌≡◌, ℕ, Option, Some, None, List, [], slice_get}
 use Rattle.std.specs.Option.{option_map_or}
+use Rattle.flu_model.specs.Erasure.{job_of}
 use Rattle.flu_lemmas.specs.Elements.{AtEach}
 use Rattle.flu_model.specs.declared.events.Item.{Item}
 use Rattle.flu_model.specs.declared.jobs.Source.{Source}
@@ -26,7 +27,7 @@ lists_above (Some t) lists = beyond t lists
 
 -- the lines of the file of each source, by the source's number
 abbrev pub lines_in : Program → Files → ℕ → List Next
-lines_in p left i = option_map_or (λ (s : Source). read_file (form_of p.version p.iso) (bytes_left left s.file)) (slice_get p.sources i) []
+lines_in p left i = option_map_or (λ (s : Source). read_file (form_of (job_of p)) (bytes_left left s.file)) (slice_get p.sources i) []
 
 -- the report of the fold, from a state, of the rows above a border, if there is one, and up to an end among these lines
 abbrev pub text_from : Program → Option ℕ → Contents → Border → (ℕ → List Next) → List ℕ

@@ -17,9 +17,9 @@ use Rattle.flu_lemmas.proofs.Elements.{list_all_weaker}
 use Rattle.flu_lemmas.proofs.Tests.{both}
 use Rattle.flu_names.specs.Names.{is_name_byte, is_name}
 use Rattle.flu_rows.specs.declared.row.RowForm.{RowForm}
-use Rattle.flu_rows.specs.Fields.{number_of, greatest_time, time_of, value_of, name_len, key_part, tag_of}
+use Rattle.flu_rows.specs.Fields.{number_of, greatest_time, item_in, time_of, value_of, name_len, key_part, tag_of}
 use Rattle.flu_rows.specs.LoopFields.{is_bare, bare_len, CutsField, CutsFields}
-use Rattle.flu_rows.specs.LoopCuts.{item_in, StartsWithDigits, CutsTime, CutsTag, CutsNumber}
+use Rattle.flu_rows.specs.LoopCuts.{StartsWithDigits, CutsTime, CutsTag, CutsNumber}
 use Rattle.flu_rows.specs.LoopNames.{name_at_front}
 use Rattle.flu_rows.proofs.FieldCuts.{bare_cut, behind_one, first_field}
 use Rattle.flu_rows.proofs.NameBytes.{name_bytes, at_front_name, prefix_of_front, tag_of_front}

@@ -7,5 +7,6 @@ pub mod Alike
 pub mod Runs
 pub mod StepLemmas
 pub mod Cuts
+pub mod ItemNames
 pub mod UsualRows
 pub mod TimeRanges

@@ -26,13 +26,13 @@ number_within limit digits n e =
 
 greatest_low : EndsAreInRange → (form : RowForm) → greatest_time form < 2 ^ 63
 greatest_low ends Older = omega arith
-greatest_low ends (WithItems None) = omega arith
-greatest_low ends (WithItems (Some unit)) = omega (arith, ends unit)
+greatest_low ends (WithItems None lists) = omega arith
+greatest_low ends (WithItems (Some unit) lists) = omega (arith, ends unit)
 
 said_low : ComputedTimesHaveAnEnd → EndsAreInRange → (form : RowForm) (field : List ℕ) (t : ℕ) → said_time form field ≡ Some t → t < 2 ^ 63
 said_low before ends Older field t e = cc
-said_low before ends (WithItems None) field t e = cc
-said_low before ends (WithItems (Some unit)) field t e = omega (arith, before unit field t e, ends unit)
+said_low before ends (WithItems None lists) field t e = cc
+said_low before ends (WithItems (Some unit) lists) field t e = omega (arith, before unit field t e, ends unit)
 
 from_either : (a b : Option ℕ) (t : ℕ) → ((n : ℕ) → a ≡ Some n → n < 2 ^ 63) → ((n : ℕ) → b ≡ Some n → n < 2 ^ 63) → option_or a b ≡ Some t → t < 2 ^ 63
 from_either (Some n) b t first second e = first t e

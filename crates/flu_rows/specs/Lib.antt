@@ -1,4 +1,6 @@
 pub mod Fields
+pub mod ItemNames
+pub mod LoopNamed
 pub mod Row
 pub mod Records
 pub mod Lines

@@ -1,15 +1,11 @@
 -- Fields that are read while they are cut off the front of some bytes.
-use Rattle.std.specs.Prelude.{◌≡◌, ℕ, ℤ, ◌<◌, ◌≤◌, true, if◌then◌else◌, nat_le, Option, Some, None, List, ◌++◌, length, slice_index}
+use Rattle.std.specs.Prelude.{◌≡◌, ℕ, ℤ, ◌<◌, ◌≤◌, true, Option, Some, List, ◌++◌, length, slice_index}
 use Rattle.std.specs.Char.{is_ascii_digit}
 use Rattle.std.specs.List.{list_all}
 use Rattle.std.specs.Str.Parse.{digits_value}
 use Rattle.flu_rows.specs.declared.row.RowForm.{RowForm}
 use Rattle.flu_rows.specs.Fields.{time_of, item_of, value_of, tag_of}
 use Rattle.flu_rows.specs.LoopFields.{CutsField}
-
--- a number as an item, if it may be one
-abbrev pub item_in : ℕ → Option ℕ
-item_in number = if nat_le number 65535 then Some number else None
 
 -- digits at the front of some bytes, the number that they write, and what comes after them
 pub record StartsWithDigits (bytes : List ℕ) (number : ℕ) (rest : List ℕ) : Type 0 where

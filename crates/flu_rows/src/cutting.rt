@@ -3,9 +3,10 @@
 
 ghost use Rattle.std.specs.Prelude.{◌≡◌, ◌<◌, ◌≤◌, ◌^◌, false, pos, neg_ℤ, slice_index, IfSome, IsTrue};
 ghost use Rattle.flu_rows.specs.LoopFields.{is_bare};
-ghost use Rattle.flu_rows.specs.LoopCuts.{item_in, StartsWithDigits, CutsTime, CutsTag, CutsNumber};
+ghost use Rattle.flu_rows.specs.Fields.{item_in};
+ghost use Rattle.flu_rows.specs.LoopCuts.{StartsWithDigits, CutsTime, CutsTag, CutsNumber};
 
-use crate::fields::greatest_time;
+use crate::fields::{greatest_time, item_in};
 use crate::last_name::LastName;
 use crate::row::RowForm;
 use crate::short_name::ShortName;
@@ -13,8 +14,8 @@ use crate::short_name::ShortName;
 /// A number that is less than this is less than 2^63 with one more digit.
 const TENTH: u64 = 922_337_203_685_477_580;
 
-/// The greatest key, and the greatest item.
-const GREATEST_SMALL: u64 = 65_535;
+/// The greatest key.
+const GREATEST_KEY: u64 = 65_535;
 
 /// A number behind a tag, and as an item, if it may be one.
 #[derive(Clone, Copy)]
@@ -25,8 +26,8 @@ pub(crate) struct Number {
 
 /// The time at the front of some bytes, which is digits, and what comes after it.
 #[inline(always)]
-pub(crate) fn cut_time(form: RowForm, bytes: &[u8]) -> Option<(u64, &[u8])>
-    ensures value { IfSome result (λ cut. CutsTime form bytes.now cut.0 cut.1.now) }
+pub(crate) fn cut_time<'a>(form: &RowForm, bytes: &'a [u8]) -> Option<(u64, &'a [u8])>
+    ensures value { IfSome result (λ cut. CutsTime form.now bytes.now cut.0 cut.1.now) }
     ensures range { IfSome result (λ cut. cut.0 < 2 ^ 63) }
 {
     let (time, rest) = cut_digits(bytes)?;
@@ -56,7 +57,7 @@ pub(crate) fn cut_tag<'a>(
     let [b']', rest @ ..] = rest else {
         return None;
     };
-    if key > GREATEST_SMALL || !ends_field(rest) {
+    if key > GREATEST_KEY || !ends_field(rest) {
         return None;
     }
     Some((name, Some(key as u32), rest))
@@ -87,13 +88,8 @@ fn number_from_zero(size: u64) -> Number
     ensures item { result.item ≡ item_in size }
     ensures value { result.value ≡ pos size }
 {
-    let item = if size <= GREATEST_SMALL {
-        Some(size as u16)
-    } else {
-        None
-    };
     Number {
-        item,
+        item: item_in(size),
         value: size as i64,
     }
 }

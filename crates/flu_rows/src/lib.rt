@@ -4,6 +4,7 @@
 mod cutting;
 mod fields;
 mod front;
+mod item_lists;
 mod last_name;
 mod laws;
 mod line;
@@ -15,6 +16,7 @@ mod run;
 mod scan;
 mod short_name;
 
+pub use item_lists::ItemLists;
 pub use laws::times_are_in_range;
 pub use row::{Fields, Row, RowForm, form_of};
 pub use rows::{Next, Rows};

@@ -63,10 +63,11 @@ impl Model for Rows {
 }
 
 impl Rows {
-    /// The rows of this form of a file of which nothing was read yet.
-    pub fn new(alloc: Global, form: RowForm, file: &Text) -> Result<Rows, AllocError>
-        ensures { IfOk result (λ rows. rows ≡ front_of form file.now) }
+    /// The rows of this form, which is shared, of a file of which nothing was read yet.
+    pub fn new(alloc: Global, form: &RowForm, file: &Text) -> Result<Rows, AllocError>
+        ensures { IfOk result (λ rows. rows ≡ front_of form.now file.now) }
     {
+        let form = form.share()?;
         let file = Text::of(String::from_str(alloc, file.as_str())?);
         Ok(Rows {
             form,
@@ -111,7 +112,7 @@ impl Rows {
         ensures undecided { IsErrOf result TakeFault.Failed → IsUndecided self.new.taken }
     {
         loop {
-            match self.hold.read_line(self.form, self.file.as_str(), files)? {
+            match self.hold.read_line(&self.form, self.file.as_str(), files)? {
                 Step::Skip => {}
                 Step::Give(next) => return Ok(next),
             }
@@ -134,12 +135,12 @@ impl Hold {
     // Reads one line.
     fn read_line<F: Files>(
         &mut self,
-        form: RowForm,
+        form: &RowForm,
         file: &str,
         files: &mut F,
     ) -> Result<Step, TakeFault>
         ensures told { IfOk result (λ step. WhereTold (F.left files.old) (F.left files.new)
-            (ReadsStep form file.now self.old.lines (self.old.run ++ self.old.held) self.new.lines (self.new.run ++ self.new.held) step)) }
+            (ReadsStep form.now file.now self.old.lines (self.old.run ++ self.old.held) self.new.lines (self.new.run ++ self.new.held) step)) }
         ensures end { IfOk result (λ step. StepOnDone step (IsReadOut file.now (F.left files.new))) }
         ensures range { IfOk result StepInRange }
         ensures lines { IfOk result (StepCounts self.old.lines self.new.lines) }
@@ -149,7 +150,7 @@ impl Hold {
         ensures puts { SameCounts (F.put_faults files.old) (F.put_faults files.new) }
         ensures cause { IsErrOf result TakeFault.Failed → Rose (F.faults files.old file.now) (F.faults files.new file.now) }
         ensures kept { IsErrOf result TakeFault.Failed → WhereTold (F.left files.old) (F.left files.new)
-            (ReadsStep form file.now self.old.lines (self.old.run ++ self.old.held) self.new.lines (self.new.run ++ self.new.held) Step.Skip) }
+            (ReadsStep form.now file.now self.old.lines (self.old.run ++ self.old.held) self.new.lines (self.new.run ++ self.new.held) Step.Skip) }
         ensures undecided { IsErrOf result TakeFault.Failed → IsUndecided (self.new.run ++ self.new.held) }
     {
         let Ok(found) = self.run.next(&mut self.row) else {
@@ -169,12 +170,12 @@ impl Hold {
     }
 
     // Takes the row that was found at the front of the bytes that are held, and this many bytes with it.
-    fn take_row(&mut self, form: RowForm, row: Row, size: usize) -> Step
-        requires found { StartsWithRow form self.old.held row size }
+    fn take_row(&mut self, form: &RowForm, row: Row, size: usize) -> Step
+        requires found { StartsWithRow form.now self.old.held row size }
         requires range { IsInRange row }
         requires none { self.old.run ≡ [] }
-        ensures told { (coming : List ℕ) → read_bytes form self.old.lines (self.old.held ++ coming) ≡ step_behind result
-            (read_bytes form self.new.lines (self.new.run ++ self.new.held ++ coming)) }
+        ensures told { (coming : List ℕ) → read_bytes form.now self.old.lines (self.old.held ++ coming) ≡ step_behind result
+            (read_bytes form.now self.new.lines (self.new.run ++ self.new.held ++ coming)) }
         ensures end { StepOnDone result ⊥ }
         ensures range { StepInRange result }
         ensures lines { StepCounts self.old.lines self.new.lines result }
@@ -191,12 +192,12 @@ impl Hold {
     }
 
     // Reads the line at the front of the bytes that are held.
-    fn read_held(&mut self, form: RowForm, found: Found) -> Result<Step, TakeFault>
+    fn read_held(&mut self, form: &RowForm, found: Found) -> Result<Step, TakeFault>
         requires found { IsFound 4096 self.old.held found }
         requires some { found ≢ Found.End }
         requires none { self.old.run ≡ [] }
         ensures told { IfOk result (λ step. (coming : List ℕ) → (found ≡ Found.Last → coming ≡ [])
-            → read_bytes form self.old.lines (self.old.held ++ coming) ≡ step_behind step (read_bytes form self.new.lines (self.new.run ++ self.new.held ++ coming))) }
+            → read_bytes form.now self.old.lines (self.old.held ++ coming) ≡ step_behind step (read_bytes form.now self.new.lines (self.new.run ++ self.new.held ++ coming))) }
         ensures end { IfOk result (λ step. StepOnDone step ⊥) }
         ensures range { IfOk result StepInRange }
         ensures lines { IfOk result (StepCounts self.old.lines self.new.lines) }
@@ -236,7 +237,7 @@ impl Hold {
 // Removes the line that was found from the front.
 fn take_line(
     alloc: Global,
-    form: RowForm,
+    form: &RowForm,
     last: &mut LastName,
     number: u32,
     found: Found,
@@ -245,7 +246,7 @@ fn take_line(
     requires found { IsFound 4096 held.old found }
     requires some { found ≢ Found.End }
     ensures line { IfOk result
-        (λ line. (coming : List ℕ) → (found ≡ Found.Last → coming ≡ []) → BeginsWith form number line held.old held.new coming) }
+        (λ line. (coming : List ℕ) → (found ≡ Found.Last → coming ≡ []) → BeginsWith form.now number line held.old held.new coming) }
     ensures range { IfOk result LineInRange }
 {
     match found {
@@ -265,8 +266,8 @@ fn take_line(
 }
 
 // What a line with this record gives, which is one more.
-fn step_of_row(form: RowForm, last: &mut LastName, row: &ByteRecord, lines: &mut u32) -> Step
-    ensures value { result ≡ row_step form lines.old (fields_of row.now) }
+fn step_of_row(form: &RowForm, last: &mut LastName, row: &ByteRecord, lines: &mut u32) -> Step
+    ensures value { result ≡ row_step form.now lines.old (fields_of row.now) }
     ensures range { StepInRange result }
     ensures lines { StepCounts lines.old lines.new result }
     ensures counts { lines.old + 1 ≢ 2 ^ 32 → lines.new ≡ lines.old + 1 }

@@ -1,4 +1,5 @@
 pub mod HeightLemmas
 pub mod DistinctLemmas
+pub mod ListLemmas
 pub mod TagLemmas
 pub mod DigitLemmas

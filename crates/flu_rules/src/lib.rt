@@ -11,6 +11,7 @@ ghost use Rattle.flu_rules.specs.Keys.{TagsMeet, TagsDiffer};
 mod actions;
 mod distinct;
 mod expressions;
+mod lists;
 mod sources;
 mod tags;
 mod templates;
@@ -18,13 +19,15 @@ mod versions;
 
 use crate::actions::kind_fits;
 use crate::distinct::{have_own_files, have_own_names};
+pub use crate::lists::is_listed_text;
+use crate::lists::{are_lists, fit_lists};
 use crate::sources::{depend_fits, source_fits};
 use crate::tags::has_few_itags;
 pub use crate::versions::fit_version;
-use flu_model::{Depend, Family, Kind, List, Program, Source, Unit};
+use flu_model::{Depend, Family, Kind, List, NameList, Program, Source, Unit};
 pub use flu_names::{are_name, is_name};
 
-/// The most families, kinds and sources of a job.
+/// The most lists, families, kinds and sources of a job.
 const MOST_PARTS: usize = 64;
 
 /// The most dependencies of a job.
@@ -45,6 +48,7 @@ pub fn tags_meet_by_their_ends()
 pub fn program(
     version: u32,
     iso: Option<Unit>,
+    lists: List<NameList>,
     families: List<Family>,
     kinds: List<Kind>,
     depends: List<Depend>,
@@ -52,13 +56,15 @@ pub fn program(
 ) -> Option<Program>
     ensures version { IfSome result (λ p. p.version ≡ version) }
     ensures iso { IfSome result (λ p. p.iso ≡ iso) }
+    ensures lists { IfSome result (λ p. p.lists ≡ lists) }
     ensures parts { IfSome result (λ p. (p.families ≡ families) × (p.kinds ≡ kinds) × (p.depends ≡ depends) × (p.sources ≡ sources)) }
-    ensures kept { IfSome result (λ p. KeepsRules version iso families kinds depends sources) }
-    ensures refused { IfNone result (¬ (KeepsRules version iso families kinds depends sources)) }
+    ensures kept { IfSome result (λ p. KeepsRules version iso lists families kinds depends sources) }
+    ensures refused { IfNone result (¬ (KeepsRules version iso lists families kinds depends sources)) }
 {
     if keep_rules(
         version,
         iso,
+        lists.items(),
         families.items(),
         kinds.items(),
         depends.items(),
@@ -67,6 +73,7 @@ pub fn program(
         Some(Program {
             version,
             iso,
+            lists,
             families,
             kinds,
             depends,
@@ -80,26 +87,30 @@ pub fn program(
 fn keep_rules(
     version: u32,
     iso: Option<Unit>,
+    lists: &[NameList],
     families: &[Family],
     kinds: &[Kind],
     depends: &[Depend],
     sources: &[Source],
 ) -> bool
-    ensures { IsTrue result ↔ KeepsRules version iso families.now kinds.now depends.now sources.now }
+    ensures { IsTrue result ↔ KeepsRules version iso lists.now families.now kinds.now depends.now sources.now }
 {
     is_version(version)
         && iso_fits(version, iso)
+        && lists.len() <= MOST_PARTS
         && families.len() <= MOST_PARTS
         && kinds.len() <= MOST_PARTS
         && depends.len() <= MOST_DEPENDS
         && sources.len() <= MOST_PARTS
         && has_few_itags(sources)
+        && are_lists(lists)
         && are_families(families)
         && are_kinds(families, kinds)
         && fit_version(version, families, kinds)
+        && fit_lists(version, lists, families, kinds)
         && are_depends(kinds, depends)
         && are_sources(kinds, sources)
-        && have_own_names(families, kinds, sources)
+        && have_own_names(lists, families, kinds, sources)
         && have_own_files(sources)
 }
 

@@ -23,9 +23,11 @@ use Rattle.flu_fork.specs.Serving.{LotCounts, counts_of, AsksAbove, GrownFrom}
 use Rattle.flu_fork.specs.Texts.{HasTexts, CountsMoment}
 use Rattle.flu_worker.specs.declared.hand.Side.{Side}
 use Rattle.flu_worker.specs.declared.hand.Side.TheVariants.{Left, Right}
-use Rattle.flu_worker.specs.Hands.{at_side, is_open, is_out, may_lend, may_take}
+use Rattle.flu_worker.specs.declared.hand.Hand.{Hand}
+use Rattle.flu_worker.specs.declared.hand.Hand.TheVariants.{Empty, Whole, Lending, Down, Taking}
+use Rattle.flu_worker.specs.Hands.{at_side, first_hand, is_open, is_out, may_lend, may_take}
 use Rattle.flu_worker.specs.Notes.{WorkerNote, lent_to, taken_from, own_of}
-use Rattle.flu_worker.specs.Calls.{IsNew, IsAskable, IsSamePlace, HandlesEvent, CountsEvent, LendsPart, IsFitPart, TakesPart}
+use Rattle.flu_worker.specs.Calls.{IsNew, IsAskable, IsSamePlace, HandlesEvent, CountsEvent, HoldsLot, LendsPart, IsFitPart, TakesPart}
 use Rattle.flu_worker.specs.Ties.{IsAsked, IsLoan}
 use Rattle.flu_worker.specs.Turning.{other, LendTurns, TakeTurns, StartIsShut}
 use Rattle.flu_link.specs.Notes.{UpperNote, LowerNote, after_lend, after_asked}
@@ -161,6 +163,26 @@ there_take turns s n n' part may h =
       take = λ e. ap (may_take (other s)) h.hand ∙ turned.rest_to_take ∙ e;
       kept = λ a e. h.kept ∙ e;
     }
+
+-- ---- the lot is held by a worker that had none: both parts are here before and after
+shut_is_home : (h : Hand) → is_open h ≡ false → (s : Side) → is_out s h ≡ false
+shut_is_home Empty shut s = refl
+shut_is_home Whole shut s = refl
+shut_is_home (Lending l r) shut s = absurd (not_both true refl shut)
+shut_is_home Down shut s = absurd (not_both true refl shut)
+shut_is_home (Taking l r) shut s = absurd (not_both true refl shut)
+
+first_is_home : (k : Option (ℕ × ℕ)) (s : Side) → is_out s (first_hand k) ≡ false
+first_is_home None s = refl
+first_is_home (Some k) Left = refl
+first_is_home (Some k) Right = refl
+
+pub home_hold : (n n' : WorkerNote) (lot : Lot) → is_open n.hand ≡ false → HoldsLot lot n n' → StaysHome n n'
+home_hold n n' lot shut h = record {
+  place = h.place;
+  same = h.same;
+  home = inr (λ s. (shut_is_home n.hand shut s, ap (is_out s) h.hand ∙ first_is_home (kids n.case n.node) s));
+}
 
 -- ---- one step after another
 place_trans : (a b c : WorkerNote) → IsSamePlace a b → IsSamePlace b c → IsSamePlace a c

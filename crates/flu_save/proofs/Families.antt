@@ -16,6 +16,7 @@ use Rattle.flu_model.specs.declared.jobs.Family.{Family}
 use Rattle.flu_model.specs.declared.jobs.Kind.{Kind}
 use Rattle.flu_model.specs.declared.jobs.Source.{Source}
 use Rattle.flu_model.specs.declared.jobs.Program.{Program}
+use Rattle.flu_model.specs.Numberings.{Numbering}
 use Rattle.flu_model.specs.Contents.{Contents}
 use Rattle.flu_model.specs.Rules.{is_same_text, are_distinct}
 use Rattle.flu_model.specs.Sorts.{IsWorthOf, IsWorthIn, key_is_in, MayHold}
@@ -72,14 +73,22 @@ pub found_at : (p : Program) (c : Cell) (w : Worth) (saved : Saves p c w) (famil
 found_at p c w saved families name same is =
     ap (position (named name)) same
     ∙ ap (λ n. position (named n) p.families) (is ∙ ap family_name saved.there)
-    ∙ position_own p.families (kinds ++ sources) c.family saved.family
-    (subst (λ names. are_distinct is_same_text names ≡ true) (append_assoc (map (λ (f : Family). f.name) p.families) kinds sources) p.own_names) saved.there
+    ∙ position_own p.families (kinds ++ sources ++ lists) c.family saved.family
+    (subst (λ names. are_distinct is_same_text names ≡ true) together p.own_names) saved.there
   where
     kinds : List (List ℕ)
     kinds = map (λ (k : Kind). k.name) p.kinds
 
     sources : List (List ℕ)
     sources = map (λ (s : Source). s.name) p.sources
+
+    lists : List (List ℕ)
+    lists = map (λ (l : Numbering). l.name) p.lists
+
+    together : map (λ (f : Family). f.name) p.families ++ kinds ++ sources ++ lists ≡ map (λ (f : Family). f.name) p.families ++ (kinds ++ sources ++ lists)
+    together =
+        ap (λ names. names ++ lists) (append_assoc (map (λ (f : Family). f.name) p.families) kinds sources)
+        ∙ append_assoc (map (λ (f : Family). f.name) p.families) (kinds ++ sources) lists
 
 -- the family at a place
 pub same_family : (p : Program) (c : Cell) (w : Worth) (saved : Saves p c w) (families : List Family) (number : ℕ) (f : Family) → families ≡ p.families

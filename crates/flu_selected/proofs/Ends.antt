@@ -16,4 +16,4 @@ use Rattle.flu_selected.specs.Selecting.{end_line}
 pub end_read : (form : RowForm) → read_file form end_line ≡ Row 1 End ∷ Done 1 ∷ []
 unfolding lines_of read_lines line_of line_of_fields next_record strip_bom row_of filled_len
 end_read Older = refl
-end_read (WithItems iso) = refl
+end_read (WithItems iso lists) = refl

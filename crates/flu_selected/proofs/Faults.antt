@@ -6,6 +6,7 @@ use Rattle.std.proofs.lemmas.Bool.Decides.{nat_tests}
 use Rattle.std.proofs.lemmas.List.Elements.{filter_map-append}
 use Rattle.std.proofs.lemmas.List.{append-nil}
 use Rattle.std.proofs.lemmas.List.Sums.{sum_by-append}
+use Rattle.flu_model.specs.Erasure.{job_of}
 use Rattle.flu_model.specs.declared.jobs.Kind.{Kind}
 use Rattle.flu_model.specs.declared.jobs.Source.{Source}
 use Rattle.flu_outside.specs.Outside.{Contents}
@@ -22,7 +23,7 @@ use Rattle.flu_streams.specs.declared.faults.Why.TheVariants.{AfterEnd, TooMany}
 use Rattle.flu_streams.specs.Before.{with_before, each_with_before, or_else, first_some}
 use Rattle.flu_streams.specs.Good.{rows_in, items_held, fault_of_source}
 use Rattle.flu_streams.specs.Tags.{width}
-use Rattle.flu_streams.specs.Tests.{rows_of, row_in, has_ended, times_of, items_in, items_of, where_true, test_tag, test_fields, test_time}
+use Rattle.flu_streams.specs.Tests.{rows_of, row_in, has_ended, times_of, items_in, items_of, where_true, test_tag, test_fields, test_item, test_time}
 use Rattle.flu_streams.specs.Tests.{test_items, fault_of, defect_of, first_of, first_defect}
 use Rattle.flu_selected.proofs.Ends.{end_read}
 use Rattle.flu_selected.proofs.Lists.{open_left, closed_left, open_rows, closed_rows}
@@ -50,37 +51,39 @@ few_pass : (n : ℕ) (why : Why) → n ≤ 16777216 → where_true (nat_lt 16777
 few_pass n why le = let fails : nat_lt 16777216 n ≡ false = grind (arith, nat_tests) in rw fails refl
 
 -- ---- the tests of a row, by how many items are held
-none_of_five : {X : Type 0} (a b c d e : Option X) → or_else a (or_else b (or_else c (or_else d (or_else e None)))) ≡ None
-    → (a ≡ None) × (b ≡ None) × (c ≡ None) × (d ≡ None) × (e ≡ None)
-none_of_five a b c d e none =
-    let p = no_first a (or_else b (or_else c (or_else d (or_else e None)))) none in
-    let q = no_first b (or_else c (or_else d (or_else e None))) p.1 in
-    let r = no_first c (or_else d (or_else e None)) q.1 in
-    let t = no_first d (or_else e None) r.1 in
-    (p.0, q.0, r.0, t.0, (no_first e None t.1).0)
+none_of_six : {X : Type 0} (a b c d e f : Option X) → or_else a (or_else b (or_else c (or_else d (or_else e (or_else f None))))) ≡ None
+    → (a ≡ None) × (b ≡ None) × (c ≡ None) × (d ≡ None) × (e ≡ None) × (f ≡ None)
+none_of_six a b c d e f none =
+    let p = no_first a (or_else b (or_else c (or_else d (or_else e (or_else f None))))) none in
+    let q = no_first b (or_else c (or_else d (or_else e (or_else f None)))) p.1 in
+    let r = no_first c (or_else d (or_else e (or_else f None))) q.1 in
+    let t = no_first d (or_else e (or_else f None)) r.1 in
+    let u = no_first e (or_else f None) t.1 in
+    (p.0, q.0, r.0, t.0, u.0, (no_first f None u.1).0)
 
-five_none : {X : Type 0} (a b c d e : Option X) → a ≡ None → b ≡ None → c ≡ None → d ≡ None → e ≡ None
-    → or_else a (or_else b (or_else c (or_else d (or_else e None)))) ≡ None
-five_none a b c d e p q r t u = rw (p, q, r, t, u) refl
+six_none : {X : Type 0} (a b c d e f : Option X) → a ≡ None → b ≡ None → c ≡ None → d ≡ None → e ≡ None → f ≡ None
+    → or_else a (or_else b (or_else c (or_else d (or_else e (or_else f None))))) ≡ None
+six_none a b c d e f p q r t u v = rw (p, q, r, t, u, v) refl
 
 none_of_tests : (kinds : List Kind) (s : Source) (ended : Bool) (earlier : List ℕ) (held : ℕ) (row : Row) → fault_of kinds s ended earlier held row ≡ None
-    → (where_true ended AfterEnd ≡ None) × (test_tag kinds s row ≡ None) × (test_fields kinds row ≡ None) × (test_time s.slack earlier row ≡ None)
-    × (test_items (width s) held row ≡ None)
+    → (where_true ended AfterEnd ≡ None) × (test_tag kinds s row ≡ None) × (test_fields kinds row ≡ None) × (test_item row ≡ None)
+    × (test_time s.slack earlier row ≡ None) × (test_items (width s) held row ≡ None)
 none_of_tests kinds s ended earlier held row none =
-    none_of_five (where_true ended AfterEnd) (test_tag kinds s row) (test_fields kinds row) (test_time s.slack earlier row) (test_items (width s) held row) none
+    none_of_six (where_true ended AfterEnd) (test_tag kinds s row) (test_fields kinds row) (test_item row) (test_time s.slack earlier row)
+    (test_items (width s) held row) none
 
 row_few : (kinds : List Kind) (s : Source) (ended : Bool) (earlier : List ℕ) (held : ℕ) (row : Row) → fault_of kinds s ended earlier held row ≡ None
     → held + items_in (width s) row ≤ 16777216
 row_few kinds s ended earlier held row none =
-    not_more (held + items_in (width s) row) (TooMany 16777217) (none_of_tests kinds s ended earlier held row none).4
+    not_more (held + items_in (width s) row) (TooMany 16777217) (none_of_tests kinds s ended earlier held row none).5
 
 row_still : (kinds : List Kind) (s : Source) (ended : Bool) (earlier : List ℕ) (fewer held : ℕ) (row : Row) → fewer ≤ held
     → fault_of kinds s ended earlier held row ≡ None → fault_of kinds s ended earlier fewer row ≡ None
 row_still kinds s ended earlier fewer held row le none =
     let tests = none_of_tests kinds s ended earlier held row none in
     let most : held + items_in (width s) row ≤ 16777216 = row_few kinds s ended earlier held row none in
-    five_none (where_true ended AfterEnd) (test_tag kinds s row) (test_fields kinds row) (test_time s.slack earlier row) (test_items (width s) fewer row)
-    tests.0 tests.1 tests.2 tests.3 (few_pass (fewer + items_in (width s) row) (TooMany 16777217) (omega arith))
+    six_none (where_true ended AfterEnd) (test_tag kinds s row) (test_fields kinds row) (test_item row) (test_time s.slack earlier row)
+    (test_items (width s) fewer row) tests.0 tests.1 tests.2 tests.3 tests.4 (few_pass (fewer + items_in (width s) row) (TooMany 16777217) (omega arith))
 
 -- ---- the lines of a source
 one_more_row : (itags : ℕ) (done : List Next) (line : ℕ) (row : Row)
@@ -229,7 +232,7 @@ faults_same form kinds is_read names left before (s ∷ rest) closes same few =
 
 pub defects_law : LawOfDefects
 defects_law p is_read left =
-    faults_same (form_of p.version p.iso) p.kinds is_read (closed_files p is_read) left [] p.sources (closes_others p is_read) refl (omega arith)
+    faults_same (form_of (job_of p)) p.kinds is_read (closed_files p is_read) left [] p.sources (closes_others p is_read) refl (omega arith)
 
 -- ---- where no source has a defect
 read_few : (form : RowForm) (left : Contents) (s : Source) (b : Bool)
@@ -263,4 +266,4 @@ read_sound form kinds is_read left before (s ∷ rest) le none =
 
 pub good_stay_good : GoodStayGood
 good_stay_good p is_read left good =
-    defects_law p is_read left ∙ read_sound (form_of p.version p.iso) p.kinds is_read left [] p.sources (omega arith) good
+    defects_law p is_read left ∙ read_sound (form_of (job_of p)) p.kinds is_read left [] p.sources (omega arith) good

@@ -7,6 +7,7 @@ use Rattle.std.proofs.Math.ListN.{get_or-append}
 use Rattle.std.proofs.lemmas.List.{length-map, get_or-append_right}
 use Rattle.std.proofs.lemmas.List.FromFn.{length-map-range_with_len, get_or-map-range_with_len}
 use Rattle.std.proofs.lemmas.Bool.{cases_lt}
+use Rattle.flu_model.specs.Erasure.{job_of}
 use Rattle.flu_lemmas.proofs.Tests.{and_left, and_right, both}
 use Rattle.flu_model.specs.declared.events.Item.{Item}
 use Rattle.flu_model.specs.declared.events.Item.TheVariants.{End as EndItem}
@@ -77,7 +78,7 @@ length_from form kinds left before (s ∷ rest) n =
     omega arith
 
 pub length_law : LawOfLength
-length_law p left = length_from (form_of p.version p.iso) p.kinds left [] p.sources 0
+length_law p left = length_from (form_of (job_of p)) p.kinds left [] p.sources 0
 
 -- the list of an itag: what a read source gives, and else the end alone
 abbrev list_if : Bool → List Item → List Item
@@ -141,7 +142,7 @@ lists_same form kinds is_read names left before (s ∷ rest) i closes lt =
 
 pub lists_law : LawOfLists
 lists_law p is_read left itag lt =
-    lists_same (form_of p.version p.iso) p.kinds is_read (closed_files p is_read) left [] p.sources itag (closes_others p is_read) lt
+    lists_same (form_of (job_of p)) p.kinds is_read (closed_files p is_read) left [] p.sources itag (closes_others p is_read) lt
 
 -- ---- streams
 streams_by_place : (from : ℕ) (lists others : List (List Item)) → length others ≡ length lists

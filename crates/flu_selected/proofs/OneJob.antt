@@ -4,9 +4,8 @@ use Rattle.std.specs.Prelude.{option_map, Contains, if◌then◌else◌}
 use Rattle.std.specs.List.{filter_map}
 use Rattle.flu_model.specs.declared.jobs.Program.{Program}
 use Rattle.flu_model.specs.declared.jobs.Source.{Source}
-use Rattle.flu_model.specs.Erasure.{Job, IsSameJob}
+use Rattle.flu_model.specs.Erasure.{IsSameJob}
 use Rattle.flu_outside.specs.Taking.{bytes_left}
-use Rattle.flu_rows.specs.declared.row.RowForm.{RowForm}
 use Rattle.flu_rows.specs.Row.{form_of}
 use Rattle.flu_streams.specs.declared.faults.Why.{Why}
 use Rattle.flu_streams.specs.Before.{each_with_before, first_some}
@@ -16,10 +15,6 @@ use Rattle.flu_selected.specs.Gathering.{IsRead}
 use Rattle.flu_selected.specs.Laws.{closed_file, closed_files, selected, read_items, first_read_fault}
 use Rattle.flu_selected.specs.OneJob.{JobsSelectTheSame}
 use Rattle.flu_selected.specs.Selecting.{is_among, closed_at}
-
--- the form of a job's rows
-abbrev form_in : Job → RowForm
-form_in j = form_of j.version j.iso
 
 module _ (law : JobsReadTheSame) (p q : Program) (same : IsSameJob p q) where
   same_closed : closed_files p ≡ closed_files q
@@ -32,7 +27,7 @@ module _ (law : JobsReadTheSame) (p q : Program) (same : IsSameJob p q) where
   same_faults = λ i is_read left. first_some (λ (e : List Source × Source).
       if is_read (length e.0)
       then option_map (λ (d : ℕ × Why). record { source = length e.0; row = d.0; why = d.1 })
-      ((law p q same).rows.defects (form_in (same i)) i e.1 (read_items (form_in (same i)) is_read left e.0) (bytes_left left e.1.file))
+      ((law p q same).rows.defects (form_of (same i)) i e.1 (read_items (form_of (same i)) is_read left e.0) (bytes_left left e.1.file))
       else None) (each_with_before (same i).sources)
 
   same_read : (is_read : ℕ → Bool) (name : List ℕ) → IsRead p is_read name → IsRead q is_read name

@@ -1,6 +1,7 @@
 -- What is read of a job where the files of some of its sources are closed.
 use Rattle.std.specs.Prelude.{◌≡◌, ℕ, ◌<◌, Bool, true, false, Option, Some, None, option_map, List, [], ◌∷◌, length, slice_index_or, sum_by, if◌then◌else◌}
 use Rattle.std.specs.List.{filter_map}
+use Rattle.flu_model.specs.Erasure.{job_of}
 use Rattle.flu_model.specs.declared.events.Item.TheVariants.{End as EndItem}
 use Rattle.flu_model.specs.declared.jobs.Kind.{Kind}
 use Rattle.flu_model.specs.declared.jobs.Source.{Source}
@@ -73,7 +74,7 @@ read_fault form kinds is_read left earlier s =
 
 -- THE FIRST FAULT OF THE READ SOURCES: the fault of the first one, as declared, that has a defect
 abbrev pub first_read_fault : Program → (ℕ → Bool) → Contents → Option SourceFault
-first_read_fault p is_read left = first_some (λ e. read_fault (form_of p.version p.iso) p.kinds is_read left e.0 e.1) (each_with_before p.sources)
+first_read_fault p is_read left = first_some (λ e. read_fault (form_of (job_of p)) p.kinds is_read left e.0 e.1) (each_with_before p.sources)
 
 -- LAW OF DEFECTS: the first fault of all sources is that of the read ones
 abbrev pub LawOfDefects : Type 0

@@ -1,7 +1,7 @@
 -- What is sent has texts that are UTF-8, where the plain pieces of templates are.
 use Rattle.std.proofs.Common.{◌≡◌, ◌<◌, ◌+◌, ◌%◌, ◌/◌, ℕ, zero, suc, ℤ, pos, negsuc, Bool, true, false, cond, Option, Some, None, List, []}
 use Rattle.std.proofs.Common.{◌∷◌, ◌++◌, map, refl, ap, ◌∙◌, arith}
-use Rattle.std.specs.Prelude.{nat_lt, nat_le, ◌==◌, ◌&&◌, ◌||◌, not, length, slice_get, codes}
+use Rattle.std.specs.Prelude.{nat_lt, nat_le, ◌==◌, ◌&&◌, ◌||◌, not, length, option_and_then, slice_get, unwrap_or, codes}
 use Rattle.std.specs.Char.{is_ascii_alphanumeric}
 use Rattle.std.specs.Fmt.{decimal, signed_decimal, digits, digits_onto, digit_glyph}
 use Rattle.std.specs.List.{list_all, AllByRecursion}
@@ -37,14 +37,15 @@ use Rattle.flu_model.specs.Expressions.{cell_of, item_of}
 use Rattle.flu_model.specs.Folding.{outputs_at}
 use Rattle.flu_model.specs.Itags.{tag_of_itag}
 use Rattle.flu_model.specs.Merging.{merged}
+use Rattle.flu_model.specs.Numberings.{Numbering, shown_number, text_at}
 use Rattle.flu_model.specs.Reports.{kind_text, name_with_key, text_of_tag}
 use Rattle.flu_model.specs.Rules.{action_fits, kind_fits}
-use Rattle.flu_model.specs.Texts.{Unit, shown_time, key_in, neutral_of, neutral_text, piece_text, pieces_text, worth_text}
-use Rattle.flu_model.specs.Updates.{actions_of, effect_of, effect_of_act, effect_of_action, effect_of_actions, passes_guard}
+use Rattle.flu_model.specs.Texts.{Unit, Showing, shown_time, key_in, neutral_of, neutral_text, piece_text, pieces_text, worth_text}
+use Rattle.flu_model.specs.Updates.{actions_of, effect_of, effect_of_act, effect_of_action, effect_of_actions, passes_guard, showing_of, with_keys}
 use Rattle.flu_contribution.specs.Contributions.{is_inside, is_above, Contribution, opened, with_event, closed, contributions_from, contributions}
 use Rattle.flu_contribution.specs.Sending.{is_idle}
 use Rattle.flu_sending.specs.Laws.{SentTextsAreUtf8}
-use Rattle.flu_sending.specs.Texts.{IsUtf8Piece, EmitsUtf8, TemplatesAreUtf8, IsUtf8Output}
+use Rattle.flu_sending.specs.Texts.{IsUtf8Piece, EmitsUtf8, NamesAreUtf8, TemplatesAreUtf8, IsUtf8Output}
 
 record Utf8 (bytes : List ℕ) : Type 0 where
   is : IsUtf8 bytes
@@ -168,68 +169,86 @@ worth text (Some (Sum n)) is = signed n
 worth text (Some (Max v)) is = signed v
 worth text (Some (Last v)) is = signed v
 
-piece : (iso : Option Unit) (families : List Family) (piece : Piece) (s : Contents) (x : Event) (key : ℕ) (held : Option Worth) → IsUtf8Piece piece
-    → Utf8 (piece_text iso families piece s x key held)
-piece iso families (Plain t) s x key held is = record { is = is }
-piece iso families Value s x key held is = signed x.value
-piece iso families Key s x key held is = number key
-piece iso families Item s x key held is = number (item_of x)
-piece iso families Time s x key held is = shown iso x.time
-piece iso families (Read r) s x key held is =
+named_text : (texts : List (List ℕ)) (at n : ℕ) → AllByRecursion IsUtf8 texts → Utf8 (unwrap_or (slice_get texts at) (decimal n))
+named_text [] at n all = number n
+named_text (t ∷ texts) zero n all = record { is = all.0 }
+named_text (t ∷ texts) (suc at) n all = named_text texts at n all.1
+
+named_in : (lists : List Numbering) (at n : ℕ) → NamesAreUtf8 lists
+    → Utf8 (unwrap_or (option_and_then (λ (l : Numbering). text_at l n) (slice_get lists at)) (decimal n))
+named_in [] at n all = number n
+named_in (l ∷ lists) zero n all = named_text l.texts n n all.0
+named_in (l ∷ lists) (suc at) n all = named_in lists at n all.1
+
+shown_name : (lists : List Numbering) (list : Option ℕ) (n : ℕ) → NamesAreUtf8 lists → Utf8 (shown_number lists list n)
+shown_name lists None n all = number n
+shown_name lists (Some at) n all = named_in lists at n all
+
+piece : (show : Showing) (named : NamesAreUtf8 show.lists) (families : List Family) (piece : Piece) (s : Contents) (x : Event) (key : ℕ)
+    (held : Option Worth) → IsUtf8Piece piece → Utf8 (piece_text show families piece s x key held)
+piece show named families (Plain t) s x key held is = record { is = is }
+piece show named families Value s x key held is = signed x.value
+piece show named families Key s x key held is = shown_name show.lists show.keys key named
+piece show named families Item s x key held is = shown_name show.lists show.items (item_of x) named
+piece show named families Time s x key held is = shown show.iso x.time
+piece show named families (Read r) s x key held is =
     worth (neutral_of (slice_get families r.family)) (s (cell_of r key (item_of x))) (neutral (slice_get families r.family))
-piece iso families CellValue s x key held is = worth (codes "none") held (ascii (codes "none") refl)
-piece iso families (FamilyCell f) s x key held is =
+piece show named families CellValue s x key held is = worth (codes "none") held (ascii (codes "none") refl)
+piece show named families (FamilyCell f) s x key held is =
     let family = slice_get families f in worth (neutral_of family) (s (cell f (key_in family key))) (neutral family)
 
-pieces : (iso : Option Unit) (families : List Family) (ps : List Piece) (s : Contents) (x : Event) (key : ℕ) (held : Option Worth) → AllByRecursion IsUtf8Piece ps
-    → Utf8 (pieces_text iso families ps s x key held)
-pieces iso families [] s x key held all = none
-pieces iso families (p ∷ ps) s x key held all = piece iso families p s x key held all.0 also pieces iso families ps s x key held all.1
+pieces : (show : Showing) (named : NamesAreUtf8 show.lists) (families : List Family) (ps : List Piece) (s : Contents) (x : Event) (key : ℕ)
+    (held : Option Worth) → AllByRecursion IsUtf8Piece ps → Utf8 (pieces_text show families ps s x key held)
+pieces show named families [] s x key held all = none
+pieces show named families (p ∷ ps) s x key held all = piece show named families p s x key held all.0 also pieces show named families ps s x key held all.1
 
-each_key : (iso : Option Unit) (families : List Family) (f : ℕ) (ps : List Piece) (s : Contents) (x : Event) (keys : List ℕ) → AllByRecursion IsUtf8Piece ps
-    → AllByRecursion IsUtf8 (map (λ k. pieces_text iso families ps s x k (s (cell f k))) keys)
-each_key iso families f ps s x [] all = tt
-each_key iso families f ps s x (k ∷ keys) all = ((pieces iso families ps s x k (s (cell f k)) all).is, each_key iso families f ps s x keys all)
+each_key : (show : Showing) (named : NamesAreUtf8 show.lists) (families : List Family) (f : ℕ) (ps : List Piece) (s : Contents) (x : Event)
+    (keys : List ℕ) → AllByRecursion IsUtf8Piece ps → AllByRecursion IsUtf8 (map (λ k. pieces_text show families ps s x k (s (cell f k))) keys)
+each_key show named families f ps s x [] all = tt
+each_key show named families f ps s x (k ∷ keys) all =
+    ((pieces show named families ps s x k (s (cell f k)) all).is, each_key show named families f ps s x keys all)
 
-act : (iso : Option Unit) (families : List Family) (a : Act) (s : Contents) (x : Event) (key : ℕ) → EmitsUtf8 a → AllByRecursion IsUtf8 (effect_of_act iso families a s x key).texts
-act iso families (Add r e) s x key is = tt
-act iso families (Raise r e) s x key is = tt
-act iso families (Set r e) s x key is = tt
-act iso families (Clear r) s x key is = tt
-act iso families (ClearFamily f) s x key is = tt
-act iso families (Emit ps) s x key is = ((pieces iso families ps s x key None is).is, tt)
-act iso families (Flush f ps) s x key is = each_key iso families f ps s x (held_keys s f) is
+act : (show : Showing) (named : NamesAreUtf8 show.lists) (families : List Family) (a : Act) (s : Contents) (x : Event) (key : ℕ) → EmitsUtf8 a
+    → AllByRecursion IsUtf8 (effect_of_act show families a s x key).texts
+act show named families (Add r e) s x key is = tt
+act show named families (Raise r e) s x key is = tt
+act show named families (Set r e) s x key is = tt
+act show named families (Clear r) s x key is = tt
+act show named families (ClearFamily f) s x key is = tt
+act show named families (Emit ps) s x key is = ((pieces show named families ps s x key None is).is, tt)
+act show named families (Flush f ps) s x key is = each_key (with_keys show (slice_get families f)) named families f ps s x (held_keys s f) is
 
-action : (iso : Option Unit) (families : List Family) (a : Action) (s : Contents) (x : Event) (key : ℕ) → EmitsUtf8 a.act
-    → AllByRecursion IsUtf8 (effect_of_action iso families a s x key).texts
-action iso families a s x key is =
+action : (show : Showing) (named : NamesAreUtf8 show.lists) (families : List Family) (a : Action) (s : Contents) (x : Event) (key : ℕ) → EmitsUtf8 a.act
+    → AllByRecursion IsUtf8 (effect_of_action show families a s x key).texts
+action show named families a s x key is =
     elim (passes_guard a.guard s x key)
-    as (λ b. AllByRecursion IsUtf8 (cond b (effect_of_act iso families a.act s x key) (record { cells = s; texts = [] })).texts) [
-      | true ↦ act iso families a.act s x key is
+    as (λ b. AllByRecursion IsUtf8 (cond b (effect_of_act show families a.act s x key) (record { cells = s; texts = [] })).texts) [
+      | true ↦ act show named families a.act s x key is
       | false ↦ tt
     ]
 
-actions : (iso : Option Unit) (families : List Family) (some : List Action) (s : Contents) (x : Event) (key : ℕ) → AllByRecursion (λ (a : Action). EmitsUtf8 a.act) some
-    → AllByRecursion IsUtf8 (effect_of_actions iso families some s x key).texts
-actions iso families [] s x key all = tt
-actions iso families (a ∷ some) s x key all =
-    let first = effect_of_action iso families a s x key in
-    all_append IsUtf8 first.texts (effect_of_actions iso families some first.cells x key).texts (action iso families a s x key all.0)
-    (actions iso families some first.cells x key all.1)
+actions : (show : Showing) (named : NamesAreUtf8 show.lists) (families : List Family) (some : List Action) (s : Contents) (x : Event) (key : ℕ)
+    → AllByRecursion (λ (a : Action). EmitsUtf8 a.act) some
+    → AllByRecursion IsUtf8 (effect_of_actions show families some s x key).texts
+actions show named families [] s x key all = tt
+actions show named families (a ∷ some) s x key all =
+    let first = effect_of_action show families a s x key in
+    all_append IsUtf8 first.texts (effect_of_actions show families some first.cells x key).texts (action show named families a s x key all.0)
+    (actions show named families some first.cells x key all.1)
 
 kind_actions : (kinds : List Kind) → TemplatesAreUtf8 kinds → (i : ℕ) → AllByRecursion (λ (a : Action). EmitsUtf8 a.act) (actions_of (slice_get kinds i))
 kind_actions [] all i = tt
 kind_actions (k ∷ kinds) all zero = all.0
 kind_actions (k ∷ kinds) all (suc i) = kind_actions kinds all.1 i
 
-module _ (p : Program) (nodes : List Node) (w : ℕ) (templates : TemplatesAreUtf8 p.kinds) where
+module _ (p : Program) (nodes : List Node) (w : ℕ) (named : NamesAreUtf8 p.lists) (templates : TemplatesAreUtf8 p.kinds) where
   abbrev HasTexts : Contribution → Type 0
   HasTexts k = AllByRecursion (IsUtf8Output p) k.outputs
 
   event : (s : Contents) (x : Event) → AllByRecursion IsUtf8 (effect_of p s x).texts
   event s x =
       let t = tag_of_itag p x.itag in
-      actions p.iso p.families (actions_of (slice_get p.kinds t.kind)) s x t.key (kind_actions p.kinds templates t.kind)
+      actions (showing_of p t.kind) named p.families (actions_of (slice_get p.kinds t.kind)) s x t.key (kind_actions p.kinds templates t.kind)
 
   outputs : (time : ℕ) (t : Tag) (texts : List (List ℕ)) → AllByRecursion IsUtf8 texts → AllByRecursion (IsUtf8Output p) (outputs_at time t texts)
   outputs time t [] all = tt
@@ -253,9 +272,9 @@ module _ (p : Program) (nodes : List Node) (w : ℕ) (templates : TemplatesAreUt
       by false false inner above other = other
 
 pub texts_are_utf8 : SentTextsAreUtf8
-texts_are_utf8 p nodes w lists templates =
+texts_are_utf8 p nodes w lists named templates =
     let ks = contributions p nodes w nothing_held (merged lists) in
-    let all = all_have p nodes w templates (opened p nodes w nothing_held) (merged lists) tt in
+    let all = all_have p nodes w named templates (opened p nodes w nothing_held) (merged lists) tt in
     all_filter (λ (k : Contribution). AllByRecursion (IsUtf8Output p) k.outputs) (λ k. not (is_idle k)) ks
     (all_map (λ (k : Contribution). AllByRecursion (IsUtf8Output p) k.outputs)
     (λ (k : Contribution). not (is_idle k) ≡ true → AllByRecursion (IsUtf8Output p) k.outputs) ks (λ k h passes. h) all)

@@ -30,8 +30,8 @@ use Rattle.flu_model.specs.Expressions.{item_of, cell_of, quotient_of, remainder
 use Rattle.flu_model.specs.Itags.{itags, count_of_itags, tag_of_itag}
 use Rattle.flu_model.specs.Listing.{tag}
 use Rattle.flu_model.specs.Rules.{is_literal, expr_fits, height, is_good_expr, act_fits, action_fits, kind_fits, tag_fits}
-use Rattle.flu_model.specs.Texts.{Unit}
-use Rattle.flu_model.specs.Updates.{changes_to, effect_of_act, effect_of_action, effect_of_actions, actions_of, effect_of, passes_guard}
+use Rattle.flu_model.specs.Texts.{Showing}
+use Rattle.flu_model.specs.Updates.{changes_to, effect_of_act, effect_of_action, effect_of_actions, actions_of, effect_of, passes_guard, showing_of}
 use Rattle.flu_save.specs.Checkpoint.{HasWordWidth}
 
 -- ---- numbers of 64 bits
@@ -130,7 +130,7 @@ item_word x =
       | false ↦ λ e. omega arith
     ] refl
 
-module _ (iso : Option Unit) (families : List Family) (keyed has_value : Bool) (x : Event) (key : ℕ) (value : IsWord x.value) (low : key < key_count) where
+module _ (show : Showing) (families : List Family) (keyed has_value : Bool) (x : Event) (key : ℕ) (value : IsWord x.value) (low : key < key_count) where
   expr_word : (e : Expr) (s : Contents) → expr_fits families keyed has_value e ≡ true → AreWords s → IsWord (value_of_expr e s x key)
   expr_word (Lit n) s fits words = literal_word n fits
   expr_word Value s fits words = value
@@ -147,7 +147,7 @@ module _ (iso : Option Unit) (families : List Family) (keyed has_value : Bool) (
   good_fits : (e : Expr) → is_good_expr families keyed has_value e ≡ true → expr_fits families keyed has_value e ≡ true
   good_fits e good = and_left (expr_fits families keyed has_value e) (nat_le (height e) 32) good
 
-  act_words : (a : Act) (s : Contents) → act_fits families keyed has_value a ≡ true → AreWords s → AreWords (effect_of_act iso families a s x key).cells
+  act_words : (a : Act) (s : Contents) → act_fits families keyed has_value a ≡ true → AreWords s → AreWords (effect_of_act show families a s x key).cells
   act_words (Add r e) s fits words =
       changed_words s (cell_of r key (item_of x)) (added (s (cell_of r key (item_of x))) (value_of_expr e s x key)) words
       (sum_width (s (cell_of r key (item_of x))) (value_of_expr e s x key))
@@ -165,11 +165,11 @@ module _ (iso : Option Unit) (families : List Family) (keyed has_value : Bool) (
   act_words (Flush f ps) s fits words = without_words s f words
 
   actions_words : (all : List Action) (s : Contents) → list_all (action_fits families keyed has_value) all ≡ true → AreWords s
-      → AreWords (effect_of_actions iso families all s x key).cells
+      → AreWords (effect_of_actions show families all s x key).cells
   actions_words [] s fits words = words
   actions_words (a ∷ all) s fits words =
-      actions_words all (effect_of_action iso families a s x key).cells (and_right _ _ fits)
-      (elim (passes_guard a.guard s x key) as (λ b. AreWords (cond b (effect_of_act iso families a.act s x key) (changes_to s)).cells) [
+      actions_words all (effect_of_action show families a s x key).cells (and_right _ _ fits)
+      (elim (passes_guard a.guard s x key) as (λ b. AreWords (cond b (effect_of_act show families a.act s x key) (changes_to s)).cells) [
         | true ↦ act_words a.act s (and_left _ _ (and_left _ _ fits)) words
         | false ↦ words
       ])
@@ -205,4 +205,4 @@ pub update_words : TagsFit → (p : Program) (s : Contents) (x : Event) → HasW
 update_words fit p s x value words =
     let t = tag_of_itag p x.itag in
     let found = found_fits p.families p.kinds t.kind p.kinds_fit in
-    actions_words p.iso p.families found.0 found.1.0 x t.key value (key_low fit p x.itag) (actions_of (slice_get p.kinds t.kind)) s found.1.1 words
+    actions_words (showing_of p t.kind) p.families found.0 found.1.0 x t.key value (key_low fit p x.itag) (actions_of (slice_get p.kinds t.kind)) s found.1.1 words

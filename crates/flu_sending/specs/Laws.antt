@@ -18,7 +18,7 @@ use Rattle.flu_partial.specs.Partial.{IsTime}
 use Rattle.flu_handover.specs.Handing.{line_of, IsSendable}
 use Rattle.flu_handover.specs.Laws.{IsInRange}
 use Rattle.flu_sending.specs.Lines.{all_times, last_time, lines_of, sent_by}
-use Rattle.flu_sending.specs.Texts.{IsUtf8Output, TemplatesAreUtf8}
+use Rattle.flu_sending.specs.Texts.{IsUtf8Output, NamesAreUtf8, TemplatesAreUtf8}
 
 -- items as code holds them: their times are below 2^63, their events have values of 64 bits, and there are fewer than 2^64 events
 pub record AreReadable (lists : List (List Item)) : Type 0 where
@@ -66,8 +66,8 @@ pub record SendTheSame (p q : Program) : Type 0 where
 abbrev pub JobsSendTheSame : Type 0
 JobsSendTheSame = (p q : Program) → IsSameJob p q → SendTheSame p q
 
--- WHAT IS SENT HAS UTF-8 TEXTS, where the templates of the job are UTF-8: of any node of any plan, and of any streams
+-- WHAT IS SENT HAS UTF-8 TEXTS, where the templates of the job and the texts of its lists are UTF-8: of any node of any plan, and of any streams
 abbrev pub SentTextsAreUtf8 : Type 0
 SentTextsAreUtf8 =
-    (p : Program) (nodes : List Node) (w : ℕ) (lists : List (List Item)) → TemplatesAreUtf8 p.kinds
+    (p : Program) (nodes : List Node) (w : ℕ) (lists : List (List Item)) → NamesAreUtf8 p.lists → TemplatesAreUtf8 p.kinds
     → AllByRecursion (λ (k : Contribution). AllByRecursion (IsUtf8Output p) k.outputs) (sent_by p nodes w lists)

@@ -44,8 +44,8 @@ pub fn programs_of_a_job_send_the_same()
     programs_of_a_job_contribute_the_same();
 }
 
-/// The outputs of what a node sends have UTF-8 texts and tags, where the plain pieces of the job's templates are UTF-8: all else in a text is
-/// digits and words.
+/// The outputs of what a node sends have UTF-8 texts and tags, where the plain pieces of the job's templates and the texts of its lists are UTF-8:
+/// all else in a text is digits and words.
 pub fn sent_texts_are_utf8()
     ensures { SentTextsAreUtf8 }
 {}

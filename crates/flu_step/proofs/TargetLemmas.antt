@@ -21,8 +21,8 @@ use Rattle.flu_model.specs.declared.jobs.Action.{Action}
 use Rattle.flu_model.specs.Contents.{Contents, key_count}
 use Rattle.flu_model.specs.Rules.{are_kinds, kind_fits, tag_fits, key_fits, family_fits, act_fits, action_fits}
 use Rattle.flu_model.specs.Expressions.{item_of, key_of}
-use Rattle.flu_model.specs.Texts.{Unit}
-use Rattle.flu_model.specs.Updates.{Effect, actions_of, effect_of, effect_of_action, effect_of_actions}
+use Rattle.flu_model.specs.Texts.{Showing}
+use Rattle.flu_model.specs.Updates.{Effect, actions_of, effect_of, effect_of_action, effect_of_actions, showing_of}
 use Rattle.flu_lemmas.proofs.Elements.{passes_at}
 use Rattle.flu_lemmas.proofs.Tests.{and_left, and_right, lt_true, true_lt}
 use Rattle.flu_step.specs.Targets.{is_in_range, has_target_in_range}
@@ -64,31 +64,31 @@ pub on_ok_at : {T E : Type 0} (r : Result T E) (h x y : Contents) → OnOk r (h 
 on_ok_at r h x y e f = subst (λ z. OnOk r (h ≡ z)) f e
 
 -- one action first, and then the others
-pub effect-drop : (iso : Option Unit) (families : List Family) (all : List Action) (s : Contents) (x : Event) (key i : ℕ) (d : Action) → i < length all
-    → effect_of_actions iso families (drop i all) s x key
-    ≡ (let first = effect_of_action iso families (get_or all i d) s x key in
-    let others = effect_of_actions iso families (drop (i + 1) all) first.cells x key in
+pub effect-drop : (show : Showing) (families : List Family) (all : List Action) (s : Contents) (x : Event) (key i : ℕ) (d : Action) → i < length all
+    → effect_of_actions show families (drop i all) s x key
+    ≡ (let first = effect_of_action show families (get_or all i d) s x key in
+    let others = effect_of_actions show families (drop (i + 1) all) first.cells x key in
     record { cells = others.cells; texts = first.texts ++ others.texts })
-effect-drop iso families all s x key i d lt = ap (λ rest. effect_of_actions iso families rest s x key) (drop-cons all i d lt) ∙ simp add-one
+effect-drop show families all s x key i d lt = ap (λ rest. effect_of_actions show families rest s x key) (drop-cons all i d lt) ∙ simp add-one
 
 -- one turn of the loop over the actions
-pub actions_turn : (iso : Option Unit) (families : List Family) (all : List Action) (s t : Contents) (x : Event) (g : Tag) (i : ℕ) (a : Action)
+pub actions_turn : (show : Showing) (families : List Family) (all : List Action) (s t : Contents) (x : Event) (g : Tag) (i : ℕ) (a : Action)
     (outs more from : List Out) (whole : Effect)
     → i < length all → a ≡ get_or all i a
-    → t ≡ (effect_of_action iso families a s x g.key).cells
-    → more ≡ outs ++ outputs_at x.time g (effect_of_action iso families a s x g.key).texts
-    → ((effect_of_actions iso families (drop i all) s x g.key).cells ≡ whole.cells)
-    × (outs ++ outputs_at x.time g (effect_of_actions iso families (drop i all) s x g.key).texts ≡ from ++ outputs_at x.time g whole.texts)
-    → ((effect_of_actions iso families (drop (i + 1) all) t x g.key).cells ≡ whole.cells)
-    × (more ++ outputs_at x.time g (effect_of_actions iso families (drop (i + 1) all) t x g.key).texts ≡ from ++ outputs_at x.time g whole.texts)
-actions_turn iso families all s t x g i a outs more from whole lt is cells texts inv =
-    let first : Effect = effect_of_action iso families a s x g.key in
-    let others : Effect = effect_of_actions iso families (drop (i + 1) all) first.cells x g.key in
-    let step : effect_of_actions iso families (drop i all) s x g.key ≡ record { cells = others.cells; texts = first.texts ++ others.texts } =
-    effect-drop iso families all s x g.key i a lt ∙ (λ j. let f = effect_of_action iso families (sym is j) s x g.key in let o =
-    effect_of_actions iso families (drop (i + 1) all) f.cells x g.key in record { cells = o.cells; texts = f.texts ++ o.texts }) in (
-      ap (λ u. (effect_of_actions iso families (drop (i + 1) all) u x g.key).cells) cells ∙ sym (ap (λ e. e.cells) step) ∙ inv.0,
-      (λ j. texts j ++ outputs_at x.time g (effect_of_actions iso families (drop (i + 1) all) (cells j) x g.key).texts)
+    → t ≡ (effect_of_action show families a s x g.key).cells
+    → more ≡ outs ++ outputs_at x.time g (effect_of_action show families a s x g.key).texts
+    → ((effect_of_actions show families (drop i all) s x g.key).cells ≡ whole.cells)
+    × (outs ++ outputs_at x.time g (effect_of_actions show families (drop i all) s x g.key).texts ≡ from ++ outputs_at x.time g whole.texts)
+    → ((effect_of_actions show families (drop (i + 1) all) t x g.key).cells ≡ whole.cells)
+    × (more ++ outputs_at x.time g (effect_of_actions show families (drop (i + 1) all) t x g.key).texts ≡ from ++ outputs_at x.time g whole.texts)
+actions_turn show families all s t x g i a outs more from whole lt is cells texts inv =
+    let first : Effect = effect_of_action show families a s x g.key in
+    let others : Effect = effect_of_actions show families (drop (i + 1) all) first.cells x g.key in
+    let step : effect_of_actions show families (drop i all) s x g.key ≡ record { cells = others.cells; texts = first.texts ++ others.texts } =
+    effect-drop show families all s x g.key i a lt ∙ (λ j. let f = effect_of_action show families (sym is j) s x g.key in let o =
+    effect_of_actions show families (drop (i + 1) all) f.cells x g.key in record { cells = o.cells; texts = f.texts ++ o.texts }) in (
+      ap (λ u. (effect_of_actions show families (drop (i + 1) all) u x g.key).cells) cells ∙ sym (ap (λ e. e.cells) step) ∙ inv.0,
+      (λ j. texts j ++ outputs_at x.time g (effect_of_actions show families (drop (i + 1) all) (cells j) x g.key).texts)
           ∙ append_assoc outs (outputs_at x.time g first.texts) (outputs_at x.time g others.texts)
           ∙ ap (λ o. outs ++ o) (sym (map-append _ first.texts others.texts))
           ∙ sym (ap (λ e. outs ++ outputs_at x.time g e.texts) step)
@@ -116,9 +116,11 @@ tag_targets families kinds t x fits small = of (slice_get kinds t.kind) refl
         targets_in_range families k.keyed k.has_value k.actions t.key (item_of x)
         (and_right _ _ (passes_at (kind_fits families) kinds t.kind k fits e)) (true_lt _ _ (and_right _ _ small)) (item_in_range x)
 
-pub effect-at : (p : Program) (s : Contents) (x : Event) (t : Tag) (families : List Family) (all : List Action) → families ≡ p.families
-    → all ≡ actions_of (slice_get p.kinds t.kind) → t ≡ tag_of_itag p x.itag → effect_of_actions p.iso families all s x t.key ≡ effect_of p s x
-effect-at p s x t families all is_families is_all is =
-    ap (λ fs. effect_of_actions p.iso fs all s x t.key) is_families
-    ∙ ap (λ acts. effect_of_actions p.iso p.families acts s x t.key) is_all
-    ∙ ap (λ u. effect_of_actions p.iso p.families (actions_of (slice_get p.kinds u.kind)) s x u.key) is
+pub effect-at : (p : Program) (s : Contents) (x : Event) (t : Tag) (show : Showing) (families : List Family) (all : List Action)
+    → show ≡ showing_of p t.kind → families ≡ p.families → all ≡ actions_of (slice_get p.kinds t.kind) → t ≡ tag_of_itag p x.itag
+    → effect_of_actions show families all s x t.key ≡ effect_of p s x
+effect-at p s x t show families all is_shown is_families is_all is =
+    ap (λ shown. effect_of_actions shown families all s x t.key) is_shown
+    ∙ ap (λ fs. effect_of_actions (showing_of p t.kind) fs all s x t.key) is_families
+    ∙ ap (λ acts. effect_of_actions (showing_of p t.kind) p.families acts s x t.key) is_all
+    ∙ ap (λ u. effect_of_actions (showing_of p u.kind) p.families (actions_of (slice_get p.kinds u.kind)) s x u.key) is

@@ -1,22 +1,35 @@
 //! The texts that actions emit.
 
-ghost use Rattle.std.specs.Prelude.{◌≡◌, ◌++◌, OnOk, IfOk, slice_get};
-ghost use Rattle.std.specs.Fmt.{decimal, signed_decimal};
+ghost use Rattle.std.specs.Prelude.{◌≡◌, ◌++◌, OnOk, IfOk, slice_get, option_map, option_and_then};
+ghost use Rattle.std.specs.Fmt.{signed_decimal};
 ghost use Rattle.std.specs.String.{string_bytes};
+ghost use Rattle.flu_model.specs.Numberings.{list_at, shown_number, text_at};
 ghost use Rattle.flu_model.specs.Texts as meaning;
 ghost use Rattle.flu_cells.specs.Holding.{held};
+ghost use Rattle.flu_step.specs.Shown.{showing};
 
 use flu_cells::State;
 use flu_model::{
-    Cell, Event, Family, Piece, Sort, Text, Unit, Worth, cell_of, item_of, push_shown_time,
+    Cell, Event, Family, NameList, Piece, Sort, Text, Unit, Worth, cell_of, item_of,
+    push_shown_time,
 };
 use std::alloc::{AllocError, Global};
 
-/// What the fields of a template are filled from: the unit and the families of the job, a state, an event, the key that `{key}` is, and
-/// what the cell that `{cell}` names holds, which is not neutral.
+/// How times and numbers are shown: the unit of times that are texts, the lists of names, and which of them names the items of the event's
+/// kind, and which the keys of the family that is flushed; in an emit none names keys.
+#[derive(Clone, Copy)]
+pub struct Shown<'a> {
+    pub iso: Option<Unit>,
+    pub lists: &'a [NameList],
+    pub items: Option<u32>,
+    pub keys: Option<u32>,
+}
+
+/// What the fields of a template are filled from: how times and numbers are shown, the families of the job, a state, an event, the key
+/// that `{key}` is, and what the cell that `{cell}` names holds, which is not neutral.
 #[derive(Clone, Copy)]
 pub struct Filling<'a> {
-    pub iso: Option<Unit>,
+    pub show: Shown<'a>,
     pub families: &'a [Family],
     pub state: &'a State,
     pub event: &'a Event,
@@ -27,7 +40,7 @@ pub struct Filling<'a> {
 /// The text of a template.
 pub fn text_of(alloc: Global, pieces: &[Piece], at: &Filling<'_>) -> Result<Text, AllocError>
     ensures { IfOk result (λ t. t
-        ≡ meaning.pieces_text at.now.iso at.now.families.now pieces.now (held at.now.state.now) at.now.event.now at.now.key at.now.there) }
+        ≡ meaning.pieces_text (showing at.now.show) at.now.families.now pieces.now (held at.now.state.now) at.now.event.now at.now.key at.now.there) }
 {
     let mut text = String::new(alloc);
     for piece in pieces {
@@ -39,14 +52,17 @@ pub fn text_of(alloc: Global, pieces: &[Piece], at: &Filling<'_>) -> Result<Text
 // One piece at the end of a text.
 fn push_piece(text: &mut String, piece: &Piece, at: &Filling<'_>) -> Result<(), AllocError>
     ensures { OnOk result (string_bytes text.new ≡ string_bytes text.old
-        ++ meaning.piece_text at.now.iso at.now.families.now piece.now (held at.now.state.now) at.now.event.now at.now.key at.now.there) }
+        ++ meaning.piece_text (showing at.now.show) at.now.families.now piece.now (held at.now.state.now) at.now.event.now at.now.key at.now.there) }
 {
     match piece {
         Piece::Plain(plain) => text.push_str(plain.as_str()),
         Piece::Value => push_signed(text, at.event.value),
-        Piece::Key => push_number(text, u64::from(at.key)),
-        Piece::Item => push_number(text, u64::from(item_of(at.event))),
-        Piece::Time => push_shown_time(text, at.iso, at.event.time),
+        Piece::Key => push_number(text, at.show.lists, at.show.keys, at.key),
+        Piece::Item => {
+            let item = u32::from(item_of(at.event));
+            push_number(text, at.show.lists, at.show.items, item)
+        }
+        Piece::Time => push_shown_time(text, at.show.iso, at.event.time),
         Piece::Read(r) => {
             let neutral = neutral_of(at.families, r.family);
             let item = item_of(at.event);
@@ -105,10 +121,27 @@ fn push_worth(text: &mut String, neutral: &str, there: Option<Worth>) -> Result<
     }
 }
 
-fn push_number(text: &mut String, n: u64) -> Result<(), AllocError>
-    ensures { OnOk result (string_bytes text.new ≡ string_bytes text.old ++ decimal n) }
+// A number at the end of a text: by its name in the list that is meant, or as a number where there is none.
+fn push_number(
+    text: &mut String,
+    lists: &[NameList],
+    list: Option<u32>,
+    n: u32,
+) -> Result<(), AllocError>
+    ensures { OnOk result (string_bytes text.new ≡ string_bytes text.old ++ shown_number lists.now list n) }
 {
-    write!(text, "{n}")
+    match name_of(lists, list, n) {
+        Some(name) => text.push_str(name),
+        None => write!(text, "{n}"),
+    }
+}
+
+// The name of a number in the list that is meant, if it has one.
+fn name_of<'a>(lists: &'a [NameList], list: Option<u32>, n: u32) -> Option<&'a str>
+    ensures { option_map (λ name. name.now) result ≡ option_and_then (λ l. text_at l n) (list_at lists.now list) }
+{
+    let list = lists.get(list? as usize)?;
+    list.text(n as usize)
 }
 
 fn push_signed(text: &mut String, n: i64) -> Result<(), AllocError>

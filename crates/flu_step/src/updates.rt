@@ -9,22 +9,25 @@ ghost use Rattle.flu_model.specs.Itags.{count_of_itags};
 ghost use Rattle.flu_model.specs.Rules.{act_fits, action_fits};
 ghost use Rattle.flu_model.specs.Texts.{pieces_text};
 ghost use Rattle.flu_model.specs.Updates.{actions_of, effect_of, effect_of_act, effect_of_action, effect_of_actions, passes_guard};
+ghost use Rattle.flu_model.specs.Updates.{with_keys};
+ghost use Rattle.flu_model.specs.Updates as updates;
 ghost use Rattle.flu_cells.specs.Holding.{held};
+ghost use Rattle.flu_step.specs.Shown.{showing};
 ghost use Rattle.flu_step.specs.Targets.{has_target_in_range};
 
 use crate::expressions::{is_true, value_of};
-use crate::texts::{Filling, text_of};
+use crate::texts::{Filling, Shown, text_of};
 use flu_cells::State;
 use flu_model::{
-    Act, Action, Cell, Event, Expr, Family, Out, Outs, Piece, Program, Tag, Text, Unit, actions_of,
+    Act, Action, Cell, Event, Expr, Family, Kind, Out, Outs, Piece, Program, Tag, Text, actions_of,
     cell_of, item_of, tag_of,
 };
 use std::alloc::{AllocError, Global};
 
-/// What actions are done at: an event with its tag, beside the unit and the families of the job.
+/// What actions are done at: an event with its tag, beside the families of the job and how times and numbers are shown.
 #[derive(Clone, Copy)]
 struct Moment<'a> {
-    iso: Option<Unit>,
+    show: Shown<'a>,
     families: &'a [Family],
     event: &'a Event,
     tag: Tag,
@@ -47,12 +50,44 @@ pub fn update(
 {
     let tag = tag_of(p, x.itag);
     let moment = Moment {
-        iso: p.iso,
+        show: shown_at(p, tag.kind),
         families: p.families.items(),
         event: x,
         tag,
     };
     do_actions(alloc, &moment, actions_of(p, tag), s, outs)
+}
+
+// How times and numbers are shown at an event of the kind with this number.
+fn shown_at(p: &Program, kind: u32) -> Shown<'_>
+    ensures { showing result ≡ updates.showing_of p.now kind }
+{
+    Shown {
+        iso: p.iso,
+        lists: p.lists.items(),
+        items: list_of_kind(p.kinds.items(), kind),
+        keys: None,
+    }
+}
+
+// The list that names the items of the kind with this number, if one does.
+fn list_of_kind(kinds: &[Kind], number: u32) -> Option<u32>
+    ensures { result ≡ updates.list_of_kind (slice_get kinds.now number) }
+{
+    match kinds.get(number as usize) {
+        Some(kind) => kind.list,
+        None => None,
+    }
+}
+
+// The list that names the keys of the family with this number, if one does.
+fn list_of_family(families: &[Family], number: u32) -> Option<u32>
+    ensures { result ≡ updates.list_of_family (slice_get families.now number) }
+{
+    match families.get(number as usize) {
+        Some(family) => family.list,
+        None => None,
+    }
 }
 
 // Does actions in order.
@@ -65,9 +100,9 @@ fn do_actions(
 ) -> Result<(), AllocError>
     requires { IsTrue (list_all (λ a. has_target_in_range a.act at.now.tag.key (expressions.item_of at.now.event.now)) actions.now) }
     ensures cells { OnOk result (held s.new
-        ≡ (effect_of_actions at.now.iso at.now.families.now actions.now (held s.old) at.now.event.now at.now.tag.key).cells) }
+        ≡ (effect_of_actions (showing at.now.show) at.now.families.now actions.now (held s.old) at.now.event.now at.now.tag.key).cells) }
     ensures outputs { OnOk result (outs.new ≡ outs.old ++ outputs_at at.now.event.now.time at.now.tag
-        (effect_of_actions at.now.iso at.now.families.now actions.now (held s.old) at.now.event.now at.now.tag.key).texts) }
+        (effect_of_actions (showing at.now.show) at.now.families.now actions.now (held s.old) at.now.event.now at.now.tag.key).texts) }
 {
     for action in actions {
         do_action(alloc, at, action, s, outs)?;
@@ -84,9 +119,10 @@ fn do_action(
     outs: &mut Outs,
 ) -> Result<(), AllocError>
     requires { IsTrue (has_target_in_range action.now.act at.now.tag.key (expressions.item_of at.now.event.now)) }
-    ensures cells { OnOk result (held s.new ≡ (effect_of_action at.now.iso at.now.families.now action.now (held s.old) at.now.event.now at.now.tag.key).cells) }
+    ensures cells { OnOk result (held s.new
+        ≡ (effect_of_action (showing at.now.show) at.now.families.now action.now (held s.old) at.now.event.now at.now.tag.key).cells) }
     ensures outputs { OnOk result (outs.new ≡ outs.old ++ outputs_at at.now.event.now.time at.now.tag
-        (effect_of_action at.now.iso at.now.families.now action.now (held s.old) at.now.event.now at.now.tag.key).texts) }
+        (effect_of_action (showing at.now.show) at.now.families.now action.now (held s.old) at.now.event.now at.now.tag.key).texts) }
 {
     if guard_holds(&action.guard, s, at.event, at.tag.key) {
         do_act(alloc, at, &action.act, s, outs)
@@ -114,9 +150,10 @@ fn do_act(
     outs: &mut Outs,
 ) -> Result<(), AllocError>
     requires { IsTrue (has_target_in_range act.now at.now.tag.key (expressions.item_of at.now.event.now)) }
-    ensures cells { OnOk result (held s.new ≡ (effect_of_act at.now.iso at.now.families.now act.now (held s.old) at.now.event.now at.now.tag.key).cells) }
+    ensures cells { OnOk result (held s.new
+        ≡ (effect_of_act (showing at.now.show) at.now.families.now act.now (held s.old) at.now.event.now at.now.tag.key).cells) }
     ensures outputs { OnOk result (outs.new ≡ outs.old ++ outputs_at at.now.event.now.time at.now.tag
-        (effect_of_act at.now.iso at.now.families.now act.now (held s.old) at.now.event.now at.now.tag.key).texts) }
+        (effect_of_act (showing at.now.show) at.now.families.now act.now (held s.old) at.now.event.now at.now.tag.key).texts) }
 {
     let key = at.tag.key;
     let item = item_of(at.event);
@@ -143,7 +180,7 @@ fn do_act(
         }
         Act::Emit(pieces) => {
             let filling = Filling {
-                iso: at.iso,
+                show: at.show,
                 families: at.families,
                 state: &*s,
                 event: at.event,
@@ -179,13 +216,18 @@ fn flush(
 ) -> Result<(), AllocError>
     ensures cells { OnOk result (held s.new ≡ without_family (held s.old) family) }
     ensures outputs { OnOk result (outs.new ≡ outs.old ++ outputs_at at.now.event.now.time at.now.tag
-        (map (λ k. pieces_text at.now.iso at.now.families.now pieces.now (held s.old) at.now.event.now k (held s.old (cell family k)))
+        (let show = with_keys (showing at.now.show) (slice_get at.now.families.now family) in
+        map (λ k. pieces_text show at.now.families.now pieces.now (held s.old) at.now.event.now k (held s.old (cell family k)))
         (held_keys (held s.old) family))) }
 {
+    let show = Shown {
+        keys: list_of_family(at.families, family),
+        ..at.show
+    };
     let keys = s.keys(family)?;
     for key in &keys {
         let filling = Filling {
-            iso: at.iso,
+            show,
             families: at.families,
             state: &*s,
             event: at.event,

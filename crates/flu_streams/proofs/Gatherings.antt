@@ -9,6 +9,7 @@ use Rattle.std.proofs.lemmas.List.{length-map, map-append, append-nil, take-appe
 use Rattle.std.proofs.lemmas.List.Elements.{Contains-append_left, Contains-append_right, Contains-append_cases}
 use Rattle.std.proofs.lemmas.List.Sums.{sum_by-append}
 use Rattle.std.proofs.lemmas.Grind.{flat_map-append}
+use Rattle.flu_model.specs.Erasure.{job_of}
 use Rattle.flu_lemmas.proofs.Containing.{contains_one, one_contains}
 use Rattle.flu_lemmas.proofs.Tests.{and_left, and_right, not_both}
 use Rattle.flu_model.specs.declared.events.Item.{Item}
@@ -180,27 +181,27 @@ streams_more form kinds s b c old new adds streams =
 -- ---- the fault of a source behind good ones
 fault_join : (p : Program) (earlier later : List Source) (s : Source) (gathered : Gathered) (f : SourceFault) (x y : Contents) → p.sources ≡ earlier
     ++ (s ∷ later) → f.source ≡ length earlier → (Contains (files_of earlier) s.file → ⊥)
-    → IsGathered (form_of p.version p.iso) p.kinds earlier gathered x y
-    → first_defect (form_of p.version p.iso) p.kinds s gathered.held (bytes_left y s.file) ≡ Some (f.row, f.why)
+    → IsGathered (form_of (job_of p)) p.kinds earlier gathered x y
+    → first_defect (form_of (job_of p)) p.kinds s gathered.held (bytes_left y s.file) ≡ Some (f.row, f.why)
     → first_fault p x ≡ Some f
 fault_join p earlier later s gathered f x y split number apart g defect =
     let same : bytes_left x s.file ≡ bytes_left y s.file = ap (λ (o : Option (List ℕ)). unwrap_or o []) (sym (g.others s.file apart)) in
-    let here : first_defect (form_of p.version p.iso) p.kinds s (items_held (form_of p.version p.iso) x earlier) (bytes_left x s.file) ≡ Some (f.row, f.why)
+    let here : first_defect (form_of (job_of p)) p.kinds s (items_held (form_of (job_of p)) x earlier) (bytes_left x s.file) ≡ Some (f.row, f.why)
     = rw (same, ← g.held) defect in
-    let F = λ (e : List Source × Source). fault_of_source (form_of p.version p.iso) p.kinds x e.0 e.1 in
-    let fault : fault_of_source (form_of p.version p.iso) p.kinds x earlier s ≡ Some f = rw (here, ← number) refl in
+    let F = λ (e : List Source × Source). fault_of_source (form_of (job_of p)) p.kinds x e.0 e.1 in
+    let fault : fault_of_source (form_of (job_of p)) p.kinds x earlier s ≡ Some f = rw (here, ← number) refl in
     ap (λ sources. first_some F (each_with_before sources)) split ∙ ap (first_some F) (with_before-append [] earlier (s ∷ later))
     ∙ first_some-append F (each_with_before earlier) (with_before earlier (s ∷ later))
     ∙ rw (g.good, fault) refl
 
 pub gathered_fault : (p : Program) (earlier later : List Source) (s : Source) (gathered : Gathered) (number : ℕ) (fault : GatherFault) (a b c : Option Contents)
     → p.sources ≡ earlier ++ (s ∷ later) → number ≡ length earlier → (Contains (files_of earlier) s.file → ⊥)
-    → WhereTold a b (IsGathered (form_of p.version p.iso) p.kinds earlier gathered)
-    → IsFaultOf (form_of p.version p.iso) p.kinds s number gathered.held b c fault → IsFirstFault p a c fault
+    → WhereTold a b (IsGathered (form_of (job_of p)) p.kinds earlier gathered)
+    → IsFaultOf (form_of (job_of p)) p.kinds s number gathered.held b c fault → IsFirstFault p a c fault
 gathered_fault p earlier later s gathered number (SourceFaulty f) a b c split size apart told fault = (
   omega (arith, fault.0, size, ap length split, length-append earlier (s ∷ later)),
-  told_then (IsGathered (form_of p.version p.iso) p.kinds earlier gathered)
-      (λ was now. first_defect (form_of p.version p.iso) p.kinds s gathered.held (bytes_left was s.file) ≡ Some (f.row, f.why))
+  told_then (IsGathered (form_of (job_of p)) p.kinds earlier gathered)
+      (λ was now. first_defect (form_of (job_of p)) p.kinds s gathered.held (bytes_left was s.file) ≡ Some (f.row, f.why))
       (λ was now. first_fault p was ≡ Some f) a b c
       (λ x y z g defect. fault_join p earlier later s gathered f x y split (fault.0 ∙ size) apart g defect) told fault.1,
 )
@@ -240,8 +241,8 @@ hides_join form kinds earlier s gathered read behind x y passes apart g was = re
 
 pub hides_behind : (p : Program) (earlier later : List Source) (s : Source) (gathered : Gathered) (a b c : Option Contents) (before now : List ℕ → ℕ)
     → p.sources ≡ earlier ++ (s ∷ later) → (Contains (files_of earlier) s.file → ⊥)
-    → WhereTold a b (IsGathered (form_of p.version p.iso) p.kinds earlier gathered)
-    → Rose (before s.file) (now s.file) → HidesNoDefect (form_of p.version p.iso) p.kinds s gathered.held b c → HidesNothing p a c before now
+    → WhereTold a b (IsGathered (form_of (job_of p)) p.kinds earlier gathered)
+    → Rose (before s.file) (now s.file) → HidesNoDefect (form_of (job_of p)) p.kinds s gathered.held b c → HidesNothing p a c before now
 hides_behind p earlier later s gathered a b c before now split apart told rose h = record {
   earlier = earlier;
   source = s;
@@ -253,10 +254,10 @@ hides_behind p earlier later s gathered a b c before now split apart told rose h
   form = h.form_is;
   file = h.file;
   undecided = h.undecided;
-  told = told_then (IsGathered (form_of p.version p.iso) p.kinds earlier gathered)
-      (λ was now. WasRead (form_of p.version p.iso) s h.read (ahead h.place now) was)
-      (λ was now. StopsWithout (form_of p.version p.iso) p.kinds earlier s h.read (ahead h.place now) was) a b c
-      (λ x y z g was. hides_join (form_of p.version p.iso) p.kinds earlier s gathered h.read (ahead h.place z) x y h.passes apart g was) told h.told;
+  told = told_then (IsGathered (form_of (job_of p)) p.kinds earlier gathered)
+      (λ was now. WasRead (form_of (job_of p)) s h.read (ahead h.place now) was)
+      (λ was now. StopsWithout (form_of (job_of p)) p.kinds earlier s h.read (ahead h.place now) was) a b c
+      (λ x y z g was. hides_join (form_of (job_of p)) p.kinds earlier s gathered h.read (ahead h.place z) x y h.passes apart g was) told h.told;
 }
 
 -- ---- an answer

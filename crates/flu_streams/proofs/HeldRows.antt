@@ -36,7 +36,8 @@ use Rattle.flu_streams.specs.LoopHeld.{are_enough, test_held, tests_behind, faul
 use Rattle.flu_streams.specs.LoopStop.{defect_behind}
 use Rattle.flu_streams.specs.Rounds.{row_fault, line_defect, settled, settled_time, is_above, is_between, rows_between, is_enough}
 use Rattle.flu_streams.specs.Tags.{width}
-use Rattle.flu_streams.specs.Tests.{rows_of, has_ended, is_end, time_in, items_in, times_of, greatest, where_true, test_tag, test_fields, test_behind, test_times}
+use Rattle.flu_streams.specs.Tests.{rows_of, has_ended, is_end, time_in, items_in, times_of, greatest, where_true, test_tag, test_fields, test_item}
+use Rattle.flu_streams.specs.Tests.{test_behind, test_times}
 use Rattle.flu_streams.specs.Tests.{test_time}
 use Rattle.flu_streams.proofs.Cutting.{not_not, later_is, all_kept}
 use Rattle.flu_streams.proofs.Counted.{fault_parts}
@@ -297,9 +298,9 @@ pub fault_held : (kinds : List Kind) (s : Source) (first : ℕ) (above : Option 
 fault_held kinds s first above lines h mid row is goes items last ended =
     let at : IsSettled s.slack is.low h.last = border_settled kinds s first above lines h is goes in
     let same = test_same kinds s first is.low h.last (rows_of lines) h.items (time_in row) is.items is.last at in
-    ap (λ b. first_some (λ test. test) (where_true b AfterEnd ∷ test_tag kinds s row ∷ test_fields kinds row ∷ test_time s.slack
+    ap (λ b. first_some (λ test. test) (where_true b AfterEnd ∷ test_tag kinds s row ∷ test_fields kinds row ∷ test_item row ∷ test_time s.slack
     (times_of (rows_of lines)) row ∷ [])) (sym (ended ∙ is.ended))
-    ∙ ap (λ o. first_some (λ test. test) (where_true mid.ended AfterEnd ∷ test_tag kinds s row ∷ test_fields kinds row ∷ o ∷ []))
+    ∙ ap (λ o. first_some (λ test. test) (where_true mid.ended AfterEnd ∷ test_tag kinds s row ∷ test_fields kinds row ∷ test_item row ∷ o ∷ []))
     (same ∙ ap (λ l. test_late s.slack (times_in l) h.last (time_in row)) (sym items)
     ∙ ap (λ o. test_late s.slack (times_in mid.items) o (time_in row)) (sym last))
 
@@ -350,7 +351,8 @@ passes_late kinds s h row e =
     let one = (or_else-none (where_true h.ended AfterEnd) _ e).1 in
     let two = (or_else-none (test_tag kinds s row) _ one).1 in
     let three = (or_else-none (test_fields kinds row) _ two).1 in
-    (or_else-none (test_late s.slack (times_in h.items) h.last (time_in row)) _ three).0
+    let four = (or_else-none (test_item row) _ three).1 in
+    (or_else-none (test_late s.slack (times_in h.items) h.last (time_in row)) _ four).0
 
 row_above : (slack : ℕ) (above last : Option ℕ) (times : List ℕ) (row : Row) → IsSettled slack above last → test_late slack times last (time_in row) ≡ None
     → (time : ℕ) → time_in row ≡ Some time → is_above above time ≡ true

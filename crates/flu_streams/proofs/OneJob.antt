@@ -10,7 +10,7 @@ use Rattle.flu_model.specs.declared.events.Tag.{Tag}
 use Rattle.flu_model.specs.declared.jobs.Kind.{Kind}
 use Rattle.flu_model.specs.declared.jobs.Program.{Program}
 use Rattle.flu_model.specs.declared.jobs.Source.{Source}
-use Rattle.flu_model.specs.Erasure.{PlainKind, plain_kind, Job, IsSameJob}
+use Rattle.flu_model.specs.Erasure.{PlainKind, plain_kind, IsSameJob}
 use Rattle.flu_model.specs.Listing.{tag, tags_of_source}
 use Rattle.flu_model.specs.Rules.{is_same_text, is_same_tag}
 use Rattle.flu_outside.specs.Taking.{bytes_left}
@@ -23,12 +23,12 @@ use Rattle.flu_rows.specs.declared.rows.Next.TheVariants.{Row as RowNext, Bad, T
 use Rattle.flu_rows.specs.Row.{form_of}
 use Rattle.flu_rows.specs.Reading.{read_file}
 use Rattle.flu_streams.specs.declared.faults.Why.{Why}
-use Rattle.flu_streams.specs.declared.faults.Why.TheVariants.{BadRow, UnknownTag, AfterEnd}
+use Rattle.flu_streams.specs.declared.faults.Why.TheVariants.{BadRow, UnknownTag, UnknownItem, AfterEnd}
 use Rattle.flu_streams.specs.Before.{each_with_before, first_some}
 use Rattle.flu_streams.specs.Good.{rows_in, items_held, event_of, item_in, in_time_order, lists_of_rows, lists_of, first_fault}
 use Rattle.flu_streams.specs.OneJob.{ReadRowsAlike, ReadTheSame}
 use Rattle.flu_streams.specs.Rounds.{row_fault, line_defect, defect_in}
-use Rattle.flu_streams.specs.Tags.{kind_named, key_named, tag_named, place_named, given, given_by, given_to, width}
+use Rattle.flu_streams.specs.Tags.{kind_named, key_named, tag_named, place_named, given, given_by, given_to, is_known, width}
 use Rattle.flu_streams.specs.Tests.{where_true, test_time, test_items, tests, defect_of, first_defect, has_ended, times_of, items_of}
 use Rattle.flu_streams.specs.Tests.{rows_of}
 
@@ -101,8 +101,8 @@ module _ (kinds others : List Kind) (alike : map plain_kind kinds ≡ map plain_
       → tests kinds s ended earlier held row ≡ tests others s ended earlier held row
   same_tests s ended earlier held (Event time name key fields) = λ j.
       where_true ended AfterEnd ∷ where_true (is_none (same_place s name key j)) UnknownTag
-      ∷ where_true (not (is_some (same_given name fields j))) BadRow ∷ test_time s.slack earlier (Event time name key fields)
-      ∷ test_items (width s) held (Event time name key fields) ∷ []
+      ∷ where_true (not (is_some (same_given name fields j))) BadRow ∷ where_true (not (is_known fields)) UnknownItem
+      ∷ test_time s.slack earlier (Event time name key fields) ∷ test_items (width s) held (Event time name key fields) ∷ []
   same_tests s ended earlier held (Beat time) = refl
   same_tests s ended earlier held End = refl
 
@@ -122,7 +122,8 @@ module _ (kinds others : List Kind) (alike : map plain_kind kinds ≡ map plain_
   same_row_fault : (s : Source) (ended : Bool) (earlier : List ℕ) (row : Row) → row_fault kinds s ended earlier row ≡ row_fault others s ended earlier row
   same_row_fault s ended earlier (Event time name key fields) = λ j.
       first_some (λ (test : Option Why). test) (where_true ended AfterEnd ∷ where_true (is_none (same_place s name key j)) UnknownTag
-      ∷ where_true (not (is_some (same_given name fields j))) BadRow ∷ test_time s.slack earlier (Event time name key fields) ∷ [])
+      ∷ where_true (not (is_some (same_given name fields j))) BadRow ∷ where_true (not (is_known fields)) UnknownItem
+      ∷ test_time s.slack earlier (Event time name key fields) ∷ [])
   same_row_fault s ended earlier (Beat time) = refl
   same_row_fault s ended earlier End = refl
 
@@ -153,10 +154,6 @@ module _ (kinds others : List Kind) (alike : map plain_kind kinds ≡ map plain_
   rows_alike = record { defects = same_first_defect; in_lines = same_in_lines; lists = same_row_lists }
 
 -- ---- the sources of a job
--- the form of its rows
-abbrev form_in : Job → RowForm
-form_in j = form_of j.version j.iso
-
 module _ (p q : Program) (same : IsSameJob p q) where
   alike_rows : ReadRowsAlike p.kinds q.kinds
   alike_rows = rows_alike p.kinds q.kinds (ap (λ j. j.kinds) same)
@@ -164,11 +161,11 @@ module _ (p q : Program) (same : IsSameJob p q) where
   same_faults : first_fault p ≡ first_fault q
   same_faults = λ i left. first_some (λ (e : List Source × Source).
       option_map (λ (d : ℕ × Why). record { source = length e.0; row = d.0; why = d.1 })
-      (alike_rows.defects (form_in (same i)) i e.1 (items_held (form_in (same i)) left e.0) (bytes_left left e.1.file))) (each_with_before (same i).sources)
+      (alike_rows.defects (form_of (same i)) i e.1 (items_held (form_of (same i)) left e.0) (bytes_left left e.1.file))) (each_with_before (same i).sources)
 
   same_lists : lists_of p ≡ lists_of q
   same_lists = λ i left. flat_map (λ (e : List Source × Source). alike_rows.lists i e.1 (sum_by width e.0)
-      (rows_in (form_in (same i)) left e.1)) (each_with_before (same i).sources)
+      (rows_in (form_of (same i)) left e.1)) (each_with_before (same i).sources)
 
 pub jobs_read_the_same : (p q : Program) → IsSameJob p q → ReadTheSame p q
 jobs_read_the_same p q same = record { rows = alike_rows p q same; faults = same_faults p q same; lists = same_lists p q same }

@@ -4,6 +4,7 @@ use Rattle.std.specs.Prelude.{is_some, slice_get}
 use Rattle.std.specs.List.{list_all}
 use Rattle.std.proofs.lemmas.List.{length-map, take_all}
 use Rattle.std.proofs.lemmas.Option.{slice_get_within}
+use Rattle.flu_model.specs.Erasure.{job_of}
 use Rattle.flu_lemmas.specs.Elements.{AtEach}
 use Rattle.flu_lemmas.proofs.Places.{slice_get-there}
 use Rattle.flu_lemmas.proofs.Tests.{not_both}
@@ -216,7 +217,7 @@ front_more before more rest now is = sym (append_assoc before more rest) ∙ ap 
 
 pub refill_hides : (p : Program) (rows : ℕ) (border : Option ℕ) (stage : Stage) (olds : List Inlet) (a b : Option Contents)
     (Q : Contents → Contents → Type 0) (fault : GatherFault) (faults faults' : List ℕ → ℕ) → length olds ≡ length p.sources
-    → AtEach (λ i h. h.rows.form ≡ form_of p.version p.iso) olds
+    → AtEach (λ i h. h.rows.form ≡ form_of (job_of p)) olds
     → WhereTold a b Q → StopsAtSource p rows olds a b faults faults' fault → fault ≡ ReadFaulty → (before : ℕ → List Next)
     → AreHeldBehind (holding p rows border stage olds) before
     → HidesNoRoundFault (holding p rows border stage olds) a b faults faults' before
@@ -265,22 +266,22 @@ refill_hides p rows border stage olds a b Q fault faults faults' count forms tol
 
 -- ---- before the first round
 pub fresh_well : (p : Program) (rows : ℕ) (border : Option ℕ) (inlets : List Inlet) → 1 ≤ rows → rows ≤ 4096
-    → map source_of inlets ≡ map (unread_source (form_of p.version p.iso) border) p.sources → AreWell p rows border inlets
+    → map source_of inlets ≡ map (unread_source (form_of (job_of p)) border) p.sources → AreWell p rows border inlets
 fresh_well p rows border inlets some most is = record {
   some = some;
   most = most;
-  count = sym (length-map inlets source_of) ∙ ap length is ∙ length-map p.sources (unread_source (form_of p.version p.iso) border);
+  count = sym (length-map inlets source_of) ∙ ap length is ∙ length-map p.sources (unread_source (form_of (job_of p)) border);
   forms = λ i h f.
-      let k = from_mapped (unread_source (form_of p.version p.iso) border) p.sources i (source_of h)
+      let k = from_mapped (unread_source (form_of (job_of p)) border) p.sources i (source_of h)
       (ap (λ (l : List HeldSource). slice_get l i) (sym is) ∙ to_mapped source_of inlets i h f) in
       ap (λ (k : HeldSource). k.place.form) k.2;
   few = λ i s at h f.
-      let same : source_of h ≡ unread_source (form_of p.version p.iso) border s = fresh_at p border i s (source_of h) at
+      let same : source_of h ≡ unread_source (form_of (job_of p)) border s = fresh_at p border i s (source_of h) at
       (ap (λ (l : List HeldSource). slice_get l i) (sym is) ∙ to_mapped source_of inlets i h f) in
       let e : count_above h.goal h.items ≡ 0 = ap (λ (k : HeldSource). count_above k.goal k.items) same in
       omega (arith, e);
   each = λ i s at h f.
-      let same : source_of h ≡ unread_source (form_of p.version p.iso) border s = fresh_at p border i s (source_of h) at
+      let same : source_of h ≡ unread_source (form_of (job_of p)) border s = fresh_at p border i s (source_of h) at
       (ap (λ (l : List HeldSource). slice_get l i) (sym is) ∙ to_mapped source_of inlets i h f) in
       record {
         file = ap (λ (k : HeldSource). k.place.file) same;

@@ -6,6 +6,7 @@ use Rattle.std.proofs.lemmas.Bool.{false≢true}
 use Rattle.std.proofs.lemmas.List.{append-nil}
 use Rattle.std.proofs.lemmas.List.Elements.{filter-append, filter_map-append}
 use Rattle.std.proofs.lemmas.List.Folds.{list_any-append}
+use Rattle.flu_model.specs.Erasure.{job_of}
 use Rattle.flu_lemmas.specs.Elements.{AtEach}
 use Rattle.flu_lemmas.proofs.Booleans.{or_true}
 use Rattle.flu_lemmas.proofs.Elements.{all_map}
@@ -134,18 +135,18 @@ whole_rows kinds s first lines sound = timed_lists kinds s first (rows_of lines)
 
 -- ---- all lines of the sources
 sound_rows : (p : Program) (whole : ℕ → List Next) (left : Contents) → LinesIn p left whole → AtEach (λ i s. defect_in p.kinds s (whole i) ≡ None) p.sources
-    → AtEach (λ i s. (rows_of (whole i) ≡ rows_in (form_of p.version p.iso) left s) × EndsLast (rows_of (whole i))) p.sources
+    → AtEach (λ i s. (rows_of (whole i) ≡ rows_in (form_of (job_of p)) left s) × EndsLast (rows_of (whole i))) p.sources
 sound_rows p whole left lines sound = λ i s e. (ap rows_of (lines i s e), ends_last p.kinds s [] (whole i) refl (sound i s e))
 
 lists_are : (p : Program) (now : ℕ → List Next) (left : Contents)
-    → AtEach (λ i s. (rows_of (now i) ≡ rows_in (form_of p.version p.iso) left s) × EndsLast (rows_of (now i))) p.sources
+    → AtEach (λ i s. (rows_of (now i) ≡ rows_in (form_of (job_of p)) left s) × EndsLast (rows_of (now i))) p.sources
     → lists_between p None Closed now ≡ lists_of p left
 lists_are p now left rows =
     flat_same _ _ (each_with_before p.sources)
-    (all_map (λ (e : List Source × Source). (rows_of (now (length e.0)) ≡ rows_in (form_of p.version p.iso) left e.1)
+    (all_map (λ (e : List Source × Source). (rows_of (now (length e.0)) ≡ rows_in (form_of (job_of p)) left e.1)
     × EndsLast (rows_of (now (length e.0)))) _ (each_with_before p.sources)
     (λ e h. timed_lists p.kinds e.1 (sum_by width e.0) (rows_of (now (length e.0))) h.1 ∙ ap (lists_of_rows p.kinds e.1 (sum_by width e.0)) h.0)
-    (each_source (λ i s. (rows_of (now i) ≡ rows_in (form_of p.version p.iso) left s) × EndsLast (rows_of (now i))) p.sources rows))
+    (each_source (λ i s. (rows_of (now i) ≡ rows_in (form_of (job_of p)) left s) × EndsLast (rows_of (now i))) p.sources rows))
 
 pub whole_lists : (p : Program) (whole : ℕ → List Next) (left : Contents) → LinesIn p left whole
     → AtEach (λ i s. defect_in p.kinds s (whole i) ≡ None) p.sources
@@ -155,7 +156,7 @@ whole_lists p whole left lines sound = lists_are p whole left (sound_rows p whol
 -- ---- the last round
 last_rows : (p : Program) (rows : ℕ) (above : Option ℕ) (whole before now : ℕ → List Next) (left : Contents) → LinesIn p left whole
     → IsRound p rows above whole before now Closed
-    → AtEach (λ i s. (rows_of (now i) ≡ rows_in (form_of p.version p.iso) left s) × EndsLast (rows_of (now i))) p.sources
+    → AtEach (λ i s. (rows_of (now i) ≡ rows_in (form_of (job_of p)) left s) × EndsLast (rows_of (now i))) p.sources
 last_rows p rows above whole before now left lines round = λ i s e.
     let reads = round i s e in
     (ap rows_of (sym reads.stops.0 ∙ lines i s e), ends_last p.kinds s [] (now i) refl reads.sound)

@@ -40,6 +40,7 @@ use Rattle.flu_streams.specs.Rounds.{Open, Shut, Meets, StopsAt, Reads, IsWithin
 use Rattle.flu_streams.specs.Rounds.{outputs_in_turn, reports_in_turn, GiveTheFold, LawOfRounds, LawOfNoRows}
 use Rattle.flu_streams.specs.Tags.{place_named, given_to, width}
 use Rattle.flu_streams.specs.Tests.{row_in, rows_of, time_in, times_of, greatest, where_true, test_behind, test_times, test_time, test_tag, test_fields}
+use Rattle.flu_streams.specs.Tests.{test_item}
 use Rattle.flu_streams.proofs.Befores.{with_before-append, first_some-append}
 use Rattle.flu_streams.proofs.BorderLaws.{folds_in_turn}
 use Rattle.flu_streams.proofs.Cutting.{in_order-cut, all_early, all_late, all_kept, kept_all, kept_none, later_is}
@@ -81,7 +82,8 @@ passes_time kinds s ended earlier row e =
     let one = (or_else-none (where_true ended _) _ e).1 in
     let two = (or_else-none (test_tag kinds s row) _ one).1 in
     let three = (or_else-none (test_fields kinds row) _ two).1 in
-    (or_else-none (test_time s.slack earlier row) None three).0
+    let four = (or_else-none (test_item row) _ three).1 in
+    (or_else-none (test_time s.slack earlier row) None four).0
 
 pub not_late : (slack time last : ℕ) (b : Bool) (why : Why) → where_true (b || nat_le (time + slack) last) why ≡ None → last < time + slack
 not_late slack time last true why e = absurd cc

@@ -5,6 +5,7 @@ use Rattle.std.specs.List.{Contains}
 use Rattle.std.proofs.lemmas.Bool.{false≢true}
 use Rattle.std.proofs.lemmas.List.{length-map}
 use Rattle.std.proofs.lemmas.Option.{slice_get-map, slice_get_within}
+use Rattle.flu_model.specs.Erasure.{job_of}
 use Rattle.flu_lemmas.proofs.Mapped.{from_mapped}
 use Rattle.flu_lemmas.proofs.Places.{slice_get-there}
 use Rattle.flu_model.specs.declared.jobs.Kind.{Kind}
@@ -48,22 +49,22 @@ fresh_behind form kinds first border s source is = subst (λ h. IsHeldBehind kin
     no_border t e = cc
 
 pub fresh_at : (p : Program) (border : Option ℕ) (i : ℕ) (s : Source) (source : HeldSource) → slice_get p.sources i ≡ Some s
-    → slice_get (map (unread_source (form_of p.version p.iso) border) p.sources) i ≡ Some source → source ≡ unread_source (form_of p.version p.iso) border s
+    → slice_get (map (unread_source (form_of (job_of p)) border) p.sources) i ≡ Some source → source ≡ unread_source (form_of (job_of p)) border s
 fresh_at p border i s source e f =
-    let k = from_mapped (unread_source (form_of p.version p.iso) border) p.sources i source f in
-    k.2 ∙ ap (unread_source (form_of p.version p.iso) border) (one_there p.sources i k.0 s k.1 e)
+    let k = from_mapped (unread_source (form_of (job_of p)) border) p.sources i source f in
+    k.2 ∙ ap (unread_source (form_of (job_of p)) border) (one_there p.sources i k.0 s k.1 e)
 
 pub law_of_start : LawOfStart
 law_of_start p rows border = record {
   behind = record {
-    count = length-map p.sources (unread_source (form_of p.version p.iso) border);
-    each = λ i s source e f. fresh_behind (form_of p.version p.iso) p.kinds (first_itag p i) border s source (fresh_at p border i s source e f);
+    count = length-map p.sources (unread_source (form_of (job_of p)) border);
+    each = λ i s source e f. fresh_behind (form_of (job_of p)) p.kinds (first_itag p i) border s source (fresh_at p border i s source e f);
   };
   all = λ left whole lines i source f.
-      let k = from_mapped (unread_source (form_of p.version p.iso) border) p.sources i source f in
+      let k = from_mapped (unread_source (form_of (job_of p)) border) p.sources i source f in
       lines i k.0 k.1 ∙ ap (λ (h : HeldSource). still h left) (sym k.2);
   ended = λ left i source f closed.
-      let k = from_mapped (unread_source (form_of p.version p.iso) border) p.sources i source f in
+      let k = from_mapped (unread_source (form_of (job_of p)) border) p.sources i source f in
       absurd (false≢true (ap (λ (h : HeldSource). h.closed) (sym k.2) ∙ closed));
 }
 

@@ -1,5 +1,6 @@
 -- What a fault of the sources says: the first defect of all, and that a read fault hides none.
 use Rattle.std.specs.Prelude.{◌≡◌, ◌<◌, ℕ, Option, Some, None, List, ◌∷◌, ◌++◌, length, ⊤}
+use Rattle.flu_model.specs.Erasure.{job_of}
 use Rattle.flu_model.specs.declared.jobs.Kind.{Kind}
 use Rattle.flu_model.specs.declared.jobs.Source.{Source}
 use Rattle.flu_model.specs.declared.jobs.Program.{Program}
@@ -36,10 +37,10 @@ pub record HidesNothing (p : Program) (old new : Option Contents) (before now : 
   pub rose : Rose (before source.file) (now source.file)
   pub read : List Next
   pub place : Place
-  pub form : place.form ≡ form_of p.version p.iso
+  pub form : place.form ≡ form_of (job_of p)
   pub file : place.file ≡ source.file
   pub undecided : IsUndecided place.taken
-  pub told : WhereTold old new (λ was now. StopsWithout (form_of p.version p.iso) p.kinds earlier source read (ahead place now) was)
+  pub told : WhereTold old new (λ was now. StopsWithout (form_of (job_of p)) p.kinds earlier source read (ahead place now) was)
 
 -- a fault of a source is the first of all, and names a declared source
 abbrev pub IsFirstFault : Program → Option Contents → Option Contents → GatherFault → Type 0

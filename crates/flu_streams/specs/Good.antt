@@ -1,6 +1,7 @@
 -- Good sources, and the lists of items that they give.
 use Rattle.std.specs.Prelude.{◌≡◌, ℕ, ℤ, ◌+◌, ◌==◌, pos, false, Option, Some, None, option_map, unwrap_or, List, [], ◌∷◌, ◌++◌, length, map, if◌then◌else◌, sum_by}
 use Rattle.std.specs.List.{flat_map, filter_map, range_with_len}
+use Rattle.flu_model.specs.Erasure.{job_of}
 use Rattle.flu_lemmas.specs.Late.{is_less}
 use Rattle.flu_lemmas.specs.Sorting.{in_order}
 use Rattle.flu_model.specs.declared.events.Event.{Event as EventOf}
@@ -36,7 +37,7 @@ fault_of_source form kinds left earlier s =
 
 -- THE FIRST FAULT: the fault of the first source, as declared, that has a defect
 abbrev pub first_fault : Program → Contents → Option SourceFault
-first_fault p left = first_some (λ e. fault_of_source (form_of p.version p.iso) p.kinds left e.0 e.1) (each_with_before p.sources)
+first_fault p left = first_some (λ e. fault_of_source (form_of (job_of p)) p.kinds left e.0 e.1) (each_with_before p.sources)
 
 -- GOOD SOURCES: none has a defect
 abbrev pub AreGood : Program → Contents → Type 0
@@ -78,4 +79,4 @@ lists_of_rows kinds s first rows = map (items_at kinds s first rows) (range_with
 -- end
 abbrev pub lists_of : Program → Contents → List (List Item)
 lists_of p left =
-    flat_map (λ e. lists_of_rows p.kinds e.1 (sum_by width e.0) (rows_in (form_of p.version p.iso) left e.1)) (each_with_before p.sources)
+    flat_map (λ e. lists_of_rows p.kinds e.1 (sum_by width e.0) (rows_in (form_of (job_of p)) left e.1)) (each_with_before p.sources)

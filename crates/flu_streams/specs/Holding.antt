@@ -2,6 +2,7 @@
 use Rattle.std.specs.Prelude.{◌≡◌, ℕ, ◌+◌, ◌<◌, ◌≤◌, ◌^◌, Bool, true, false, Result, Ok, Option, Some, None, List, [], ◌++◌, length, map, take, slice_get, sum_by}
 use Rattle.std.specs.Prelude.{if◌then◌else◌, unwrap_or, ⊤}
 use Rattle.std.specs.List.{All}
+use Rattle.flu_model.specs.Erasure.{job_of}
 use Rattle.flu_lemmas.specs.Elements.{AtEach}
 use Rattle.flu_model.specs.declared.events.Item.{Item}
 use Rattle.flu_model.specs.declared.events.Item.TheVariants.{Event as EventItem, Beat as BeatItem, End as EndItem}
@@ -56,7 +57,7 @@ unread_source form border s = record { items = []; place = front_of form s.file;
 -- nothing was read of any
 abbrev pub unread : Program → ℕ → Option ℕ → Holding
 unread p rows border =
-    record { program = p; rows = rows; border = border; stage = Filling; sources = map (unread_source (form_of p.version p.iso) border) p.sources }
+    record { program = p; rows = rows; border = border; stage = Filling; sources = map (unread_source (form_of (job_of p)) border) p.sources }
 
 -- a run from the first row on
 abbrev pub fresh : Program → ℕ → Holding
@@ -179,7 +180,7 @@ pub record HidesNoRoundFault (old : Holding) (left left' : Option Contents) (fau
   pub sound : defect_in old.program.kinds source (now at) ≡ None
   pub few : (k : ℕ) → k ≤ length more → is_enough old.rows old.border source (before at ++ take k more) ≡ false
   pub place : Place
-  pub form : place.form ≡ form_of old.program.version old.program.iso
+  pub form : place.form ≡ form_of (job_of old.program)
   pub file : place.file ≡ source.file
   pub undecided : IsUndecided place.taken
   pub told : WhereTold left left' (λ was is. (whole : ℕ → List Next) → AreInAll old before was whole

@@ -2,6 +2,7 @@
 use Rattle.std.specs.Prelude.{◌≡◌, ℕ, ◌+◌, ◌<◌, ◌≤◌, max, min, true, false, ◌||◌, nat_lt, nat_le, Option, Some, None, option_and_then, unwrap_or, List, [], ◌∷◌}
 use Rattle.std.specs.Prelude.{◌++◌, length, take, slice_get, if◌then◌else◌, ⊤, Bool, is_some, option_map}
 use Rattle.std.specs.List.{filter, list_all}
+use Rattle.flu_model.specs.Erasure.{job_of}
 use Rattle.flu_lemmas.specs.Elements.{AtEach}
 use Rattle.flu_lemmas.specs.Late.{put_late}
 use Rattle.flu_model.specs.declared.events.Item.{Item}
@@ -32,7 +33,7 @@ use Rattle.flu_streams.specs.Lists.{item_time, times_in}
 use Rattle.flu_streams.specs.LoopStop.{fault_of_stop}
 use Rattle.flu_streams.specs.Rounds.{defect_in, line_defect, is_above, is_up_to, is_enough, settled, settled_time}
 use Rattle.flu_streams.specs.Tags.{width}
-use Rattle.flu_streams.specs.Tests.{rows_of, is_end, time_in, items_in, items_of, where_true, test_tag, test_fields, test_behind}
+use Rattle.flu_streams.specs.Tests.{rows_of, is_end, time_in, items_in, items_of, where_true, test_tag, test_fields, test_item, test_behind}
 
 -- what contracts see of it
 abbrev pub source_of : Inlet → HeldSource
@@ -118,7 +119,8 @@ test_late slack times last (Some time) = test_behind slack times last time
 -- the tests of a row after these items, except the one on how many are held
 abbrev pub tests_behind : List Kind → Source → Inlet → Row → List (Option Why)
 tests_behind kinds s h row =
-    where_true h.ended AfterEnd ∷ test_tag kinds s row ∷ test_fields kinds row ∷ test_late s.slack (times_in h.items) h.last (time_in row) ∷ []
+    where_true h.ended AfterEnd ∷ test_tag kinds s row ∷ test_fields kinds row ∷ test_item row
+    ∷ test_late s.slack (times_in h.items) h.last (time_in row) ∷ []
 
 -- which rule a row breaks after these items
 abbrev pub fault_behind : List Kind → Source → Inlet → Row → Option Why
@@ -174,7 +176,7 @@ pub record AreWell (p : Program) (rows : ℕ) (border : Option ℕ) (inlets : Li
   pub some : 1 ≤ rows
   pub most : rows ≤ 4096
   pub count : length inlets ≡ length p.sources
-  pub forms : AtEach (λ i h. h.rows.form ≡ form_of p.version p.iso) inlets
+  pub forms : AtEach (λ i h. h.rows.form ≡ form_of (job_of p)) inlets
   pub few : AtEach (λ i s. (h : Inlet) → slice_get inlets i ≡ Some h → IsFew (Some rows) s h) p.sources
   pub each : AtEach (λ i s. (h : Inlet) → slice_get inlets i ≡ Some h → IsWellAt s border h) p.sources
 

@@ -3,6 +3,7 @@ use Rattle.std.specs.Prelude.{◌≡◌, ℕ, ◌-◌, ◌<◌, ◌≤◌, Bool,
 use Rattle.std.specs.Prelude.{length, take, slice_get, sum_by, if◌then◌else◌, ⊤}
 use Rattle.std.specs.List.{filter, flat_map}
 use Rattle.std.specs.Option.{option_map_or}
+use Rattle.flu_model.specs.Erasure.{job_of}
 use Rattle.flu_lemmas.specs.Elements.{AtEach}
 use Rattle.flu_model.specs.declared.events.Item.{Item}
 use Rattle.flu_model.specs.declared.events.Out.{Out}
@@ -29,12 +30,13 @@ use Rattle.flu_streams.specs.Before.{each_with_before, first_some}
 use Rattle.flu_streams.specs.Borders.{beyond}
 use Rattle.flu_streams.specs.Good.{lists_of_rows, lists_of}
 use Rattle.flu_streams.specs.Tags.{width}
-use Rattle.flu_streams.specs.Tests.{rows_of, time_in, times_of, greatest, has_ended, where_true, test_tag, test_fields, test_time, defect_of}
+use Rattle.flu_streams.specs.Tests.{rows_of, time_in, times_of, greatest, has_ended, where_true, test_tag, test_fields, test_item, test_time, defect_of}
 
 -- ---- defects
 -- the tests of a row except the one on how many items are held: a round holds few
 abbrev pub row_tests : List Kind → Source → Bool → List ℕ → Row → List (Option Why)
-row_tests kinds s ended earlier row = where_true ended AfterEnd ∷ test_tag kinds s row ∷ test_fields kinds row ∷ test_time s.slack earlier row ∷ []
+row_tests kinds s ended earlier row =
+    where_true ended AfterEnd ∷ test_tag kinds s row ∷ test_fields kinds row ∷ test_item row ∷ test_time s.slack earlier row ∷ []
 
 -- which rule a row breaks, by whether the source has ended and by its times so far
 abbrev pub row_fault : List Kind → Source → Bool → List ℕ → Row → Option Why
@@ -199,7 +201,7 @@ LawOfNoRows = (p : Program) (opening : Contents) (t : ℕ) (reads : ℕ → List
 
 -- these are the lines of the files of all sources
 abbrev pub LinesIn : Program → Files → (ℕ → List Next) → Type 0
-LinesIn p left whole = AtEach (λ i s. whole i ≡ read_file (form_of p.version p.iso) (bytes_left left s.file)) p.sources
+LinesIn p left whole = AtEach (λ i s. whole i ≡ read_file (form_of (job_of p)) (bytes_left left s.file)) p.sources
 
 -- THE LAST ROUND: after it the rows that were read are all rows of the sources' files, and their lists are those of a whole reading
 abbrev pub LawOfLastRound : Type 0

@@ -1,6 +1,6 @@
 -- The tags that rows name.
 use Rattle.std.specs.Prelude.{ℕ, ℤ, pos, Bool, true, false, ◌&&◌, ◌||◌, Option, Some, None, option_and_then, option_map, List, length, slice_get, is_some}
-use Rattle.std.specs.Prelude.{if◌then◌else◌}
+use Rattle.std.specs.Prelude.{if◌then◌else◌, not, unwrap_or}
 use Rattle.std.specs.List.{position}
 use Rattle.flu_model.specs.declared.events.Tag.{Tag}
 use Rattle.flu_model.specs.declared.jobs.Kind.{Kind}
@@ -8,7 +8,7 @@ use Rattle.flu_model.specs.declared.jobs.Source.{Source}
 use Rattle.flu_model.specs.Listing.{tag, tags_of_source}
 use Rattle.flu_model.specs.Rules.{is_same_text, is_same_tag}
 use Rattle.flu_rows.specs.declared.row.Fields.{Fields}
-use Rattle.flu_rows.specs.declared.row.Fields.TheVariants.{Nothing, One, Two, Other}
+use Rattle.flu_rows.specs.declared.row.Fields.TheVariants.{Nothing, One, Two, Named, NamedWith, Other}
 
 infixl 10 ◌>>=◌
 abbrev pub ◌>>=◌ : {A B : Type 0} → Option A → (A → Option B) → Option B
@@ -47,11 +47,14 @@ given_one true false item value = option_map (λ i. (i, pos 0)) item
 given_one true true item value = None
 
 -- WHAT A ROW GIVES an event, by whether its kind has items and whether it has values: its item and its value, each 0 where the kind
--- has none. Behind the tag are the item and the value that the kind has, and no other fields; else nothing is given.
+-- has none. Behind the tag are the item and the value that the kind has, and no other fields; else nothing is given. An item may be given by its
+-- name; one that the kind's list does not have counts as 0 here, and is a fault (`is_known`).
 abbrev pub given : Bool → Bool → Fields → Option (ℕ × ℤ)
 given has_item has_value Nothing = if has_item || has_value then None else Some (0, pos 0)
 given has_item has_value (One item value) = given_one has_item has_value item value
 given has_item has_value (Two item value) = if has_item && has_value then Some (item, value) else None
+given has_item has_value (Named item) = if has_item && not has_value then Some (unwrap_or item 0, pos 0) else None
+given has_item has_value (NamedWith item value) = if has_item && has_value then Some (unwrap_or item 0, value) else None
 given has_item has_value Other = None
 
 abbrev pub given_by : Option Kind → Fields → Option (ℕ × ℤ)
@@ -65,6 +68,17 @@ given_to kinds name fields = given_by (kind_named kinds name >>= λ number. slic
 -- the fields are those that the kind has
 abbrev pub fields_fit : List Kind → List ℕ → Fields → Bool
 fields_fit kinds name fields = is_some (given_to kinds name fields)
+
+-- an item that is given by its name is one that its kind's list has
+abbrev pub is_known : Fields → Bool
+is_known Nothing = true
+is_known (One item value) = true
+is_known (Two item value) = true
+is_known (Named None) = false
+is_known (Named (Some item)) = true
+is_known (NamedWith None value) = false
+is_known (NamedWith (Some item) value) = true
+is_known Other = true
 
 -- how many itags a source has
 abbrev pub width : Source → ℕ

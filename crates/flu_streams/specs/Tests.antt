@@ -12,9 +12,9 @@ use Rattle.flu_rows.specs.declared.rows.Next.{Next}
 use Rattle.flu_rows.specs.declared.rows.Next.TheVariants.{Row as RowNext, Bad, TooManyLines, Done}
 use Rattle.flu_rows.specs.Reading.{read_file}
 use Rattle.flu_streams.specs.declared.faults.Why.{Why}
-use Rattle.flu_streams.specs.declared.faults.Why.TheVariants.{BadRow, UnknownTag, Disordered, Unclosed, AfterEnd, TooMany}
+use Rattle.flu_streams.specs.declared.faults.Why.TheVariants.{BadRow, UnknownTag, UnknownItem, Disordered, Unclosed, AfterEnd, TooMany}
 use Rattle.flu_streams.specs.Before.{each_with_before, first_some}
-use Rattle.flu_streams.specs.Tags.{place_named, fields_fit, width}
+use Rattle.flu_streams.specs.Tags.{place_named, fields_fit, is_known, width}
 
 -- ---- what some rows have
 abbrev pub row_in : Next → Option Row
@@ -66,7 +66,8 @@ where_true false why = None
 -- which rule an event breaks by its tag and its fields alone
 abbrev pub faults_of_event : List Kind → Source → List ℕ → Option ℕ → Fields → Option Why
 faults_of_event kinds s name key fields =
-    first_some (λ test. test) (where_true (is_none (place_named kinds s name key)) UnknownTag ∷ where_true (not (fields_fit kinds name fields)) BadRow ∷ [])
+    first_some (λ test. test) (where_true (is_none (place_named kinds s name key)) UnknownTag ∷ where_true (not (fields_fit kinds name fields)) BadRow
+    ∷ where_true (not (is_known fields)) UnknownItem ∷ [])
 
 -- the source lists the tag
 abbrev pub test_tag : List Kind → Source → Row → Option Why
@@ -79,6 +80,12 @@ abbrev pub test_fields : List Kind → Row → Option Why
 test_fields kinds (Event time name key fields) = where_true (not (fields_fit kinds name fields)) BadRow
 test_fields kinds (Beat time) = None
 test_fields kinds End = None
+
+-- an item that is given by its name is in its kind's list
+abbrev pub test_item : Row → Option Why
+test_item (Event time name key fields) = where_true (not (is_known fields)) UnknownItem
+test_item (Beat time) = None
+test_item End = None
 
 -- a time may not equal an earlier one, and it is above the greatest earlier one less the slack
 abbrev pub test_behind : ℕ → List ℕ → Option ℕ → ℕ → Option Why
@@ -99,7 +106,8 @@ test_items itags held row = where_true (nat_lt 16777216 (held + items_in itags r
 -- the tests of a row in their order, by whether the source has ended, by its times so far, and by how many items are held
 abbrev pub tests : List Kind → Source → Bool → List ℕ → ℕ → Row → List (Option Why)
 tests kinds s ended earlier held row =
-    where_true ended AfterEnd ∷ test_tag kinds s row ∷ test_fields kinds row ∷ test_time s.slack earlier row ∷ test_items (width s) held row ∷ []
+    where_true ended AfterEnd ∷ test_tag kinds s row ∷ test_fields kinds row ∷ test_item row ∷ test_time s.slack earlier row
+    ∷ test_items (width s) held row ∷ []
 
 -- the first test that fails
 abbrev pub fault_of : List Kind → Source → Bool → List ℕ → ℕ → Row → Option Why

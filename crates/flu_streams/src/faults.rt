@@ -9,6 +9,8 @@ pub enum Why {
     BadRow,
     /// The source does not list the tag.
     UnknownTag,
+    /// The row names an item that its kind's list does not have.
+    UnknownItem,
     /// An earlier row has the same time, or the time is not above the greatest one so far, `last`, less the source's slack.
     Disordered { last: u64, got: u64 },
     /// The file stops without `end`: the row is the one after its last line.

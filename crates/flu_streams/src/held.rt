@@ -2,6 +2,7 @@
 
 ghost use Rattle.std.specs.Prelude.{◌≡◌, ◌≢◌, ◌≤◌, ◌<◌, ◌^◌, ℕ, length, map, slice_get, vec_len, List, Option, Some, IsTrue, IfOk, IfErr, OnOk, OnErr, IsErrOf, Ok};
 ghost use Rattle.std.specs.Prelude.{Err};
+ghost use Rattle.flu_model.specs.Erasure.{job_of};
 ghost use Rattle.flu_model.specs.Itags.{count_of_itags};
 ghost use Rattle.flu_model.specs.Listed.{listed};
 ghost use Rattle.flu_outside.specs.Outside.{WhereTold, SameCounts};
@@ -210,13 +211,13 @@ impl Held {
 
 // Nothing of each source.
 fn new_inlets(alloc: Global, p: &Program, border: Option<u64>) -> Result<Vec<Inlet>, AllocError>
-    ensures unread { IfOk result (λ inlets. map source_of inlets.items ≡ map (unread_source (form_of p.now.version p.now.iso) border) p.now.sources) }
+    ensures unread { IfOk result (λ inlets. map source_of inlets.items ≡ map (unread_source (form_of (job_of p.now)) border) p.now.sources) }
     ensures uncounted { IfOk result (λ inlets. AreUncounted inlets.items) }
 {
-    let form = form_of(p.version, p.iso);
+    let form = form_of(alloc, p)?;
     let mut inlets = Vec::new(alloc);
     for source in p.sources.items() {
-        inlets.push(Inlet::new(alloc, form, source, border, None)?)?;
+        inlets.push(Inlet::new(alloc, &form, source, border, None)?)?;
     }
     Ok(inlets)
 }

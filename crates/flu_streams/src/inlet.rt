@@ -60,14 +60,14 @@ impl Inlet {
     /// many items are held of other sources.
     pub(crate) fn new(
         alloc: Global,
-        form: RowForm,
+        form: &RowForm,
         source: &Source,
         border: Option<u64>,
         held: Option<u64>,
     ) -> Result<Inlet, AllocError>
         requires limit { unwrap_or held 0 ≤ 16777216 }
         requires alone { (t : ℕ) → border ≡ Some t → is_some held ≡ false }
-        ensures source { IfOk result (λ h. source_of h ≡ unread_source form border source.now) }
+        ensures source { IfOk result (λ h. source_of h ≡ unread_source form.now border source.now) }
         ensures held { IfOk result (λ h. h.held ≡ held) }
     {
         Ok(Inlet {

@@ -45,14 +45,23 @@ pub fn gather<F: Files>(alloc: Global, p: &Program, files: &mut F) -> Result<Str
     ensures hides { IsErrOf result GatherFault.ReadFault → HidesNothing p.now (F.left files.old) (F.left files.new) (F.faults files.old) (F.faults files.new) }
     ensures cause { IsErrOf result GatherFault.ReadFault → OneRose (files_of p.now.sources) (F.faults files.old) (F.faults files.new) }
 {
-    let form = form_of(p.version, p.iso);
+    let Ok(form) = form_of(alloc, p) else {
+        return Err(GatherFault::NoMemory);
+    };
     let mut gathered = Gathered {
         lists: Vec::new(alloc),
         held: 0,
         number: 0,
     };
     for source in p.sources.items() {
-        if let Err(fault) = add_source(alloc, form, p.kinds.items(), source, &mut gathered, files) {
+        if let Err(fault) = add_source(
+            alloc,
+            &form,
+            p.kinds.items(),
+            source,
+            &mut gathered,
+            files,
+        ) {
             return Err(fault);
         }
     }
@@ -62,7 +71,7 @@ pub fn gather<F: Files>(alloc: Global, p: &Program, files: &mut F) -> Result<Str
 // Reads one more source, whole.
 fn add_source<F: Files>(
     alloc: Global,
-    form: RowForm,
+    form: &RowForm,
     kinds: &[Kind],
     source: &Source,
     gathered: &mut Gathered,
@@ -72,14 +81,14 @@ fn add_source<F: Files>(
     requires numbered { vec_len gathered.old.lists + width source.now ≤ 256 }
     requires counted { gathered.old.number + 1 < 2 ^ 32 }
     requires slack { source.now.slack ≤ 60000 }
-    ensures added { OnOk result (AddsSource form kinds.now source.now (F.left files.old) (F.left files.new) gathered.old gathered.new) }
+    ensures added { OnOk result (AddsSource form.now kinds.now source.now (F.left files.old) (F.left files.new) gathered.old gathered.new) }
     ensures read_out { OnOk result (IsReadOut source.now.file (F.left files.new)) }
-    ensures fault { IfErr result (IsFaultOf form kinds.now source.now gathered.old.number gathered.old.held (F.left files.old) (F.left files.new)) }
+    ensures fault { IfErr result (IsFaultOf form.now kinds.now source.now gathered.old.number gathered.old.held (F.left files.old) (F.left files.new)) }
     ensures taken { WhereTold (F.left files.old) (F.left files.new) (TakesFrom source.now.file) }
     ensures counts { CountsOf (F.left files.old) source.now.file (F.faults files.old) (F.faults files.new) }
     ensures quiet { result ≢ Err GatherFault.ReadFault → SameCounts (F.faults files.old) (F.faults files.new) }
     ensures puts { SameCounts (F.put_faults files.old) (F.put_faults files.new) }
-    ensures hides { IsErrOf result GatherFault.ReadFault → HidesNoDefect form kinds.now source.now gathered.old.held (F.left files.old) (F.left files.new) }
+    ensures hides { IsErrOf result GatherFault.ReadFault → HidesNoDefect form.now kinds.now source.now gathered.old.held (F.left files.old) (F.left files.new) }
     ensures cause { IsErrOf result GatherFault.ReadFault → Rose (F.faults files.old source.now.file) (F.faults files.new source.now.file) }
 {
     let Ok(mut inlet) = Inlet::new(alloc, form, source, None, Some(gathered.held)) else {

@@ -1,10 +1,10 @@
 //! The tags that rows name.
 
-ghost use Rattle.std.specs.Prelude.{◌≡◌, ◌==◌, ◌<◌, ◌≤◌, length, IfOk, IfErr, Some, IfSome};
+ghost use Rattle.std.specs.Prelude.{◌≡◌, ◌==◌, ◌<◌, ◌≤◌, length, IfOk, OnOk, IfErr, Some, IfSome, true};
 ghost use Rattle.std.specs.List.{flat_map, position};
 ghost use Rattle.flu_model.specs.Listing.{listed_keys, listed_tags};
 ghost use Rattle.flu_model.specs.Rules.{is_same_tag};
-ghost use Rattle.flu_streams.specs.Tags.{kind_named, key_named, tag_named, place_named, given, given_to, width};
+ghost use Rattle.flu_streams.specs.Tags.{kind_named, key_named, tag_named, place_named, given, given_to, is_known, width};
 ghost use Rattle.flu_streams.specs.Tests.{faults_of_event};
 
 use crate::faults::Why;
@@ -31,6 +31,7 @@ pub(crate) fn found_of(
     requires room { width source.now ≤ 256 }
     ensures place { IfOk result (λ found. place_named kinds.now source.now name.now key ≡ Some found.place) }
     ensures given { IfOk result (λ found. given_to kinds.now name.now fields ≡ Some (found.item, found.value)) }
+    ensures known { OnOk result (is_known fields ≡ true) }
     ensures refused { IfErr result (λ why. faults_of_event kinds.now source.now name.now key fields ≡ Some why) }
 {
     let Some(tag) = tag_named(kinds, name, key) else {
@@ -43,6 +44,9 @@ pub(crate) fn found_of(
     let Some((item, value)) = given(kind.has_item, kind.has_value, fields) else {
         return Err(Why::BadRow);
     };
+    if !is_known(fields) {
+        return Err(Why::UnknownItem);
+    }
     Ok(Found { place, item, value })
 }
 
@@ -70,8 +74,32 @@ fn given(has_item: bool, has_value: bool, fields: Fields) -> Option<(u16, i64)>
                 None
             }
         }
+        Fields::Named { item } => {
+            if has_item && !has_value {
+                Some((item.unwrap_or(0), 0))
+            } else {
+                None
+            }
+        }
+        Fields::NamedWith { item, value } => {
+            if has_item && has_value {
+                Some((item.unwrap_or(0), value))
+            } else {
+                None
+            }
+        }
         Fields::Other => None,
     }
+}
+
+// Whether an item that is given by its name is one that its kind's list has.
+fn is_known(fields: Fields) -> bool
+    ensures { result ≡ is_known fields }
+{
+    !matches!(
+        fields,
+        Fields::Named { item: None } | Fields::NamedWith { item: None, .. }
+    )
 }
 
 // The tag of a name and an optional key.

@@ -120,20 +120,21 @@ way_goes job now other t h s = record {
   sound = (subst (Says (said now) t) s (step_says now t h.sound)).2;
 }
 
-way_declares : (job one : Declarations) (now other : Now) (t : Token) → IsOnTheWay job now → whole now ≡ Some one → opening (heading_of t.word) ≡ Some other
+way_declares : (job one : Declarations) (now other : Now) (t : Token) → IsOnTheWay job now → whole now ≡ Some one
+    → opening t.from (heading_of t.word) ≡ Some other
     → IsOnTheWay (job ++ one) other
 way_declares job one now other t h a b = record {
   are = declarations_more 65 (omega arith) job one h.are
       (subst (λ (o : Option Declarations). IfSome o (AreDeclarations 65)) a (whole_kept 65 (omega arith) now h.kept_more));
-  kept = subst (λ (o : Option Now). IfSome o (Kept 64)) b (heading_kept 64 (omega arith) (heading_of t.word));
-  kept_more = subst (λ (o : Option Now). IfSome o (Kept 65)) b (heading_kept 65 (omega arith) (heading_of t.word));
+  kept = subst (λ (o : Option Now). IfSome o (Kept 64)) b (heading_kept 64 (omega arith) t.from (heading_of t.word));
+  kept_more = subst (λ (o : Option Now). IfSome o (Kept 65)) b (heading_kept 65 (omega arith) t.from (heading_of t.word));
   sound = (subst (λ (o : Option Now). IfSome o (λ now. (s : Sign) × IsSign s t × Sound now × (said now ≡ s ∷ []))) b (heading_says t t.word refl)).2;
 }
 
 deep_by_declaration : (end : ℕ) (job : Declarations) (now : Now) (t : Token) (tokens : List Token) → IsOnTheWay job now
     → run end job now (t ∷ tokens) ≡ TooDeep
     → ((next : Declarations) (other : Now) → IsOnTheWay next other → run end next other tokens ≡ TooDeep → DeepAt end next other tokens)
-    → step now t ≡ Refused → (o : Option Declarations) → whole now ≡ o → (p : Option Now) → opening (heading_of t.word) ≡ p
+    → step now t ≡ Refused → (o : Option Declarations) → whole now ≡ o → (p : Option Now) → opening t.from (heading_of t.word) ≡ p
     → DeepAt end job now (t ∷ tokens)
 deep_by_declaration end job now t tokens way e ih s None a p b =
     absurd (let both : Unexpected t.from ≡ TooDeep = sym (declares_at end job now t None p tokens s a b) ∙ e in cc)
@@ -160,7 +161,7 @@ deep_by_step end job now t tokens way e ih Deep s =
     (deep_here end job o.context o.level o.inner o.frames o.frame t tokens o.opens way.are (subst (Kept 64) o.is way.kept) (subst (Kept 65) o.is way.kept_more)
     (subst (λ (n : Now). step n t ≡ Deep) o.is s))
 deep_by_step end job now t tokens way e ih Refused s =
-    deep_by_declaration end job now t tokens way e ih s (whole now) refl (opening (heading_of t.word)) refl
+    deep_by_declaration end job now t tokens way e ih s (whole now) refl (opening t.from (heading_of t.word)) refl
 
 deep_on_the_way : (end : ℕ) (tokens : List Token) (job : Declarations) (now : Now) → IsOnTheWay job now → run end job now tokens ≡ TooDeep
     → DeepAt end job now tokens

@@ -17,23 +17,29 @@ use Rattle.flu_text.specs.declared.written.WrittenNumber.{WrittenNumber}
 use Rattle.flu_text.specs.declared.written.WrittenKeys.{WrittenKeys}
 use Rattle.flu_text.specs.declared.written.WrittenKeys.TheVariants as keys
 use Rattle.flu_syntax.specs.declared.tree.WrittenTag.{WrittenTag}
+use Rattle.flu_syntax.specs.declared.tree.WrittenBy.{WrittenBy}
+use Rattle.flu_syntax.specs.declared.tree.WrittenCells.{WrittenCells}
+use Rattle.flu_syntax.specs.declared.tree.WrittenCells.TheVariants as cells
+use Rattle.flu_syntax.specs.declared.tree.WrittenItem.{WrittenItem}
 use Rattle.flu_syntax.specs.declared.tree.WrittenRelation.{WrittenRelation}
 use Rattle.flu_syntax.specs.declared.tree.WrittenRelation.TheVariants as relation
-use Rattle.flu_syntax.specs.Tree.{Tree, Deed, Writes, Clears, Emits, Flushes, Action, Declaration, Cell, Tag, Depends, On, Source, Declarations}
+use Rattle.flu_syntax.specs.Tree.{Tree, Deed, Writes, Clears, Emits, Flushes, Action, Declaration, Cell, Tag, Names, Depends, On, Source, Declarations}
 use Rattle.flu_syntax.specs.Machine.{tag_of, Actions, Tags, Context, Amount, Guard, Want, Done, ToWrite, ToClear, Now, Start, Declared, CellName, CellForm}
 use Rattle.flu_syntax.specs.Machine.{CellSort, TagName, TagForm, TagItem, TagValue, DependsFirst, DependsSecond, DependsHow, SourceName, SourceFile, SourceRate}
 use Rattle.flu_syntax.specs.Machine.{RateNumber, SourceSlack, SlackNumber, SourceColon, TagKind, TagKeys, TagLow, TagMore, TagHigh, TagClose, TagEnd, OnKind}
 use Rattle.flu_syntax.specs.Machine.{OnColon, ActionStart, DeedEnd, ActionEnd, EmitText, FlushFamily, FlushText, CellFamily, InExpression, Goes, acted}
 use Rattle.flu_syntax.specs.Machine.{listed, source_of, deed_step, action_step, operator_of, doing_of, sort_of, value_of, heading_of, opening, step, Found}
-use Rattle.flu_syntax.specs.Machine.{run}
-use Rattle.flu_text.specs.Signs.{Sign, Any, At, Spanned, Named, IsSign, AreSigns, keys_signs}
+use Rattle.flu_syntax.specs.Machine.{run, CellBy, CellList, TagBy, TagList, NamesName, NamesColon, NamesText, NamesEnd, Listing, by_of, item_of, listing_of}
+use Rattle.flu_syntax.specs.Machine.{texted}
+use Rattle.flu_text.specs.Signs.{Sign, Any, At, Spanned, Named, IsSign, AreSigns, text, keys_signs}
 use Rattle.flu_syntax.specs.Grammar.{sort_word, value_word, verb_word, cell_signs, spelled, IsExpression, deed_signs, IsDeed}
-use Rattle.flu_syntax.specs.Grammar.{guard_signs, IsGuard, action_signs, AreActions, tag_signs, keyed_signs, item_signs, relation_signs}
-use Rattle.flu_syntax.specs.Grammar.{rate_signs, slack_signs, declaration_signs, IsDeclaration, declarations_signs, AreDeclarations}
+use Rattle.flu_syntax.specs.Grammar.{guard_signs, IsGuard, action_signs, AreActions, tag_signs, keyed_signs, list_signs, cells_signs, item_signs}
+use Rattle.flu_syntax.specs.Grammar.{relation_signs, rate_signs, slack_signs, declaration_signs, IsDeclaration, declarations_signs, AreDeclarations}
 use Rattle.flu_syntax.specs.Reading.{no_actions}
 use Rattle.flu_syntax.proofs.Runs.{run-behind, begins, job_ends, opens-nil}
 use Rattle.flu_syntax.proofs.Parts.{run-passed, run-closed, run-declared, run-no_relation, deed_plain, source_plain}
-use Rattle.flu_syntax.proofs.Parts.{source_prompt, cell_plain, tag_plain, tag_itemless, tag_alone, tags_end, actions_end}
+use Rattle.flu_syntax.proofs.Parts.{source_prompt, cell_plain, cell_listless, tag_plain, tag_itemless, tag_listless, names_end, tag_alone}
+use Rattle.flu_syntax.proofs.Parts.{tags_end, actions_end}
 use Rattle.flu_syntax.proofs.Accepts.{MayBe, on_named, Reaches, Same, Stops, ◌then◌, LeadsTo, takes_sign, NoBracket, NotWord, not_first, bracket_word, Quiet}
 use Rattle.flu_syntax.proofs.Accepts.{Quiet-follows, passes_quiet, high_of, top, accepts, accepts_cell, no_bracket}
 
@@ -54,9 +60,11 @@ Ends (s ∷ more) = IsHeading s
 
 headed : (d : Declaration) (more : List Sign) → Ends (declaration_signs d ++ more)
 unfolding operator_of
-headed (Cell n keyed s) more = record
+headed (Cell n cells s) more = record
     { quiet = λ word is. rw is refl; bracket = λ e. cc; semicolon = λ e. cc; comma = λ e. cc; guarded = λ e. cc; same = λ e. cc; all = λ e. cc }
 headed (Tag n keyed item has_value) more = record
+    { quiet = λ word is. rw is refl; bracket = λ e. cc; semicolon = λ e. cc; comma = λ e. cc; guarded = λ e. cc; same = λ e. cc; all = λ e. cc }
+headed (Names at n texts) more = record
     { quiet = λ word is. rw is refl; bracket = λ e. cc; semicolon = λ e. cc; comma = λ e. cc; guarded = λ e. cc; same = λ e. cc; all = λ e. cc }
 headed (Depends a b how) more = record
     { quiet = λ word is. rw is refl; bracket = λ e. cc; semicolon = λ e. cc; comma = λ e. cc; guarded = λ e. cc; same = λ e. cc; all = λ e. cc }
@@ -350,18 +358,27 @@ accepts_tags most end job so_far tag (next ∷ others) tokens more h ends =
 -- ---- declarations
 
 -- a first word
-opens_with : (most end : ℕ) (job : Declarations) (now : Now) (tokens : List Token) (word : Word) (more : List Sign) → AreSigns (Any word ∷ more) tokens
-    → opening (heading_of word) ≡ Some now → LeadsTo most end job Start tokens job now more
-opens_with most end job now [] word more h e = absurd h
-opens_with most end job now (t ∷ rest) word more h e = (rest, h.1, Same (begins end job now t rest (ap (λ x. opening (heading_of x)) h.0 ∙ e)))
+opens_with : (most end : ℕ) (job : Declarations) (now : Now) (tokens : List Token) (s : Sign) (more : List Sign) → AreSigns (s ∷ more) tokens
+    → ((t : Token) → IsSign s t → opening t.from (heading_of t.word) ≡ Some now) → LeadsTo most end job Start tokens job now more
+opens_with most end job now [] s more h e = absurd h
+opens_with most end job now (t ∷ rest) s more h e = (rest, h.1, Same (begins end job now t rest (e t h.0)))
 
 cell_name_step : (n : WrittenSpan) (t : Token) → IsSign (Named n) t → step CellName t ≡ Goes (CellForm n)
 unfolding step
 cell_name_step n t h = on_named n t (λ name. CellForm name) h
 
-cell_keyed_step : (n : WrittenSpan) (t : Token) → IsSign (Any (w.Reserved r.Keyed)) t → step (CellForm n) t ≡ Goes (CellSort n true)
+cell_keyed_step : (n : WrittenSpan) (t : Token) → IsSign (Any (w.Reserved r.Keyed)) t → step (CellForm n) t ≡ Goes (CellBy n)
 unfolding step
 cell_keyed_step n t h = rw h refl
+
+cell_by_step : (n : WrittenSpan) (at : ℕ) (t : Token) → IsSign (At (w.Name contextual.By) at) t → step (CellBy n) t ≡ Goes (CellList n at)
+unfolding step
+cell_by_step n at t h = rw (h.0, h.1) refl
+
+cell_list_step : (n : WrittenSpan) (at : ℕ) (list : WrittenSpan) (t : Token) → IsSign (Named list) t
+    → step (CellList n at) t ≡ Goes (CellSort n (cells.By (by_of at list)))
+unfolding step
+cell_list_step n at list t h = on_named list t (λ list. CellSort n (cells.By (by_of at list))) h
 
 sort_is : (s : Sort) → sort_of (sort_word s) ≡ Some s
 unfolding sort_of
@@ -369,23 +386,37 @@ sort_is sort.Sum = refl
 sort_is sort.Max = refl
 sort_is sort.Last = refl
 
-cell_sort_step : (n : WrittenSpan) (keyed : Bool) (s : Sort) (t : Token) → IsSign (Any (sort_word s)) t
-    → step (CellSort n keyed) t ≡ Goes (Declared (Cell n keyed s))
+cell_sort_step : (n : WrittenSpan) (cells : WrittenCells) (s : Sort) (t : Token) → IsSign (Any (sort_word s)) t
+    → step (CellSort n cells) t ≡ Goes (Declared (Cell n cells s))
 unfolding step
-cell_sort_step n keyed s t h = rw (h, sort_is s) refl
+cell_sort_step n cells s t h = rw (h, sort_is s) refl
 
 sort_not_keyed : (s : Sort) → w.Reserved r.Keyed ≢ sort_word s
 sort_not_keyed sort.Sum = λ e. cc
 sort_not_keyed sort.Max = λ e. cc
 sort_not_keyed sort.Last = λ e. cc
 
-accepts_cell_keyed : (most end : ℕ) (job : Declarations) (n : WrittenSpan) (keyed : Bool) (s : Sort) (tokens : List Token) (more : List Sign)
-    → AreSigns ((keyed_signs keyed ++ Any (sort_word s) ∷ []) ++ more) tokens
-    → LeadsTo most end job (CellForm n) tokens job (CellSort n keyed) (Any (sort_word s) ∷ more)
-accepts_cell_keyed most end job n true s tokens more h =
-    takes_sign most end job (CellForm n) (CellSort n true) tokens (Any (w.Reserved r.Keyed)) (Any (sort_word s) ∷ more) h (cell_keyed_step n)
-accepts_cell_keyed most end job n false s tokens more h =
+sort_no_by : (s : Sort) → w.Name contextual.By ≢ sort_word s
+sort_no_by sort.Sum = λ e. cc
+sort_no_by sort.Max = λ e. cc
+sort_no_by sort.Last = λ e. cc
+
+accepts_cells : (most end : ℕ) (job : Declarations) (n : WrittenSpan) (c : WrittenCells) (s : Sort) (tokens : List Token) (more : List Sign)
+    → AreSigns ((cells_signs c ++ Any (sort_word s) ∷ []) ++ more) tokens
+    → LeadsTo most end job (CellForm n) tokens job (CellSort n c) (Any (sort_word s) ∷ more)
+accepts_cells most end job n cells.Alone s tokens more h =
     (tokens, h, Same (run-passed end job tokens (cell_plain n) (not_first _ tokens (Any (sort_word s) ∷ more) h (sort_not_keyed s))))
+accepts_cells most end job n cells.Keyed s tokens more h =
+    let behind = Any (sort_word s) ∷ more in
+    let a = takes_sign most end job (CellForm n) (CellBy n) tokens (Any (w.Reserved r.Keyed)) behind h (cell_keyed_step n) in
+    (a.0, a.1, a.2 then Same (run-passed end job a.0 (cell_listless n) (not_first _ a.0 behind a.1 (sort_no_by s))))
+accepts_cells most end job n (cells.By by) s tokens more h =
+    let behind = Any (sort_word s) ∷ more in
+    let word = At (w.Name contextual.By) by.at in
+    let a = takes_sign most end job (CellForm n) (CellBy n) tokens (Any (w.Reserved r.Keyed)) (word ∷ Named by.list ∷ behind) h (cell_keyed_step n) in
+    let b = takes_sign most end job (CellBy n) (CellList n by.at) a.0 word (Named by.list ∷ behind) a.1 (cell_by_step n by.at) in
+    let c = takes_sign most end job (CellList n by.at) (CellSort n (cells.By by)) b.0 (Named by.list) behind b.1 (cell_list_step n by.at by.list) in
+    (c.0, c.1, a.2 then b.2 then c.2)
 
 tag_name_step : (n : WrittenSpan) (t : Token) → IsSign (Named n) t → step TagName t ≡ Goes (TagForm n)
 unfolding step
@@ -401,11 +432,21 @@ value_is true = refl
 value_is false = refl
 
 tag_item_step : (n : WrittenSpan) (keyed : Bool) (at : ℕ) (t : Token) → IsSign (At (w.Name contextual.Item) at) t
-    → step (TagItem n keyed) t ≡ Goes (TagValue n keyed (Some at))
+    → step (TagItem n keyed) t ≡ Goes (TagBy n keyed at)
 unfolding step
 tag_item_step n keyed at t h = rw (h.0, h.1) refl
 
-tag_value_step : (n : WrittenSpan) (keyed : Bool) (item : Option ℕ) (has_value : Bool) (t : Token) → IsSign (Any (value_word has_value)) t
+tag_by_step : (n : WrittenSpan) (keyed : Bool) (at by_at : ℕ) (t : Token) → IsSign (At (w.Name contextual.By) by_at) t
+    → step (TagBy n keyed at) t ≡ Goes (TagList n keyed at by_at)
+unfolding step
+tag_by_step n keyed at by_at t h = rw (h.0, h.1) refl
+
+tag_list_step : (n : WrittenSpan) (keyed : Bool) (at by_at : ℕ) (list : WrittenSpan) (t : Token) → IsSign (Named list) t
+    → step (TagList n keyed at by_at) t ≡ Goes (TagValue n keyed (Some (item_of at (Some (by_of by_at list)))))
+unfolding step
+tag_list_step n keyed at by_at list t h = on_named list t (λ list. TagValue n keyed (Some (item_of at (Some (by_of by_at list))))) h
+
+tag_value_step : (n : WrittenSpan) (keyed : Bool) (item : Option WrittenItem) (has_value : Bool) (t : Token) → IsSign (Any (value_word has_value)) t
     → step (TagValue n keyed item) t ≡ Goes (Declared (Tag n keyed item has_value))
 unfolding step
 tag_value_step n keyed item has_value t h = rw (h, value_is has_value) refl
@@ -418,15 +459,19 @@ value_no_item : (b : Bool) → w.Name contextual.Item ≢ value_word b
 value_no_item true = λ e. cc
 value_no_item false = λ e. cc
 
+value_no_by : (b : Bool) → w.Name contextual.By ≢ value_word b
+value_no_by true = λ e. cc
+value_no_by false = λ e. cc
+
 -- what stands behind a tag's `keyed`
-abbrev behind_keyed : Option ℕ → Bool → List Sign → List Sign
+abbrev behind_keyed : Option WrittenItem → Bool → List Sign → List Sign
 behind_keyed item has_value more = item_signs item ++ (Any (value_word has_value) ∷ more)
 
-item_not_keyed : (item : Option ℕ) (has_value : Bool) (more : List Sign) → NotWord (w.Reserved r.Keyed) (behind_keyed item has_value more)
+item_not_keyed : (item : Option WrittenItem) (has_value : Bool) (more : List Sign) → NotWord (w.Reserved r.Keyed) (behind_keyed item has_value more)
 item_not_keyed None has_value more = value_not_keyed has_value
-item_not_keyed (Some at) has_value more = λ e. cc
+item_not_keyed (Some item) has_value more = λ e. cc
 
-accepts_tag_keyed : (most end : ℕ) (job : Declarations) (n : WrittenSpan) (keyed : Bool) (item : Option ℕ) (has_value : Bool) (tokens : List Token)
+accepts_tag_keyed : (most end : ℕ) (job : Declarations) (n : WrittenSpan) (keyed : Bool) (item : Option WrittenItem) (has_value : Bool) (tokens : List Token)
     (more : List Sign) → AreSigns (keyed_signs keyed ++ behind_keyed item has_value more) tokens
     → LeadsTo most end job (TagForm n) tokens job (TagItem n keyed) (behind_keyed item has_value more)
 accepts_tag_keyed most end job n true item has_value tokens more h =
@@ -438,7 +483,24 @@ accepts_tag_keyed most end job n false item has_value tokens more h = (
       (not_first _ tokens (behind_keyed item has_value more) h (item_not_keyed item has_value more))),
 )
 
-accepts_tag_item : (most end : ℕ) (job : Declarations) (n : WrittenSpan) (keyed : Bool) (item : Option ℕ) (has_value : Bool) (tokens : List Token)
+accepts_item_by : (most end : ℕ) (job : Declarations) (n : WrittenSpan) (keyed : Bool) (at : ℕ) (by : Option WrittenBy) (has_value : Bool)
+    (tokens : List Token) (more : List Sign) → AreSigns (list_signs by ++ (Any (value_word has_value) ∷ more)) tokens
+    → LeadsTo most end job (TagBy n keyed at) tokens job (TagValue n keyed (Some (item_of at by))) (Any (value_word has_value) ∷ more)
+accepts_item_by most end job n keyed at None has_value tokens more h = (
+  tokens,
+  h,
+  Same (run-passed end job tokens (tag_listless n keyed at)
+      (not_first _ tokens (Any (value_word has_value) ∷ more) h (value_no_by has_value))),
+)
+accepts_item_by most end job n keyed at (Some by) has_value tokens more h =
+    let behind = Any (value_word has_value) ∷ more in
+    let a = takes_sign most end job (TagBy n keyed at) (TagList n keyed at by.at) tokens (At (w.Name contextual.By) by.at) (Named by.list ∷ behind) h
+    (tag_by_step n keyed at by.at) in
+    let b = takes_sign most end job (TagList n keyed at by.at) (TagValue n keyed (Some (item_of at (Some by)))) a.0 (Named by.list) behind a.1
+    (tag_list_step n keyed at by.at by.list) in
+    (b.0, b.1, a.2 then b.2)
+
+accepts_tag_item : (most end : ℕ) (job : Declarations) (n : WrittenSpan) (keyed : Bool) (item : Option WrittenItem) (has_value : Bool) (tokens : List Token)
     (more : List Sign) → AreSigns (behind_keyed item has_value more) tokens
     → LeadsTo most end job (TagItem n keyed) tokens job (TagValue n keyed item) (Any (value_word has_value) ∷ more)
 accepts_tag_item most end job n keyed None has_value tokens more h = (
@@ -447,9 +509,52 @@ accepts_tag_item most end job n keyed None has_value tokens more h = (
   Same (run-passed end job tokens (tag_itemless n keyed)
       (not_first _ tokens (Any (value_word has_value) ∷ more) h (value_no_item has_value))),
 )
-accepts_tag_item most end job n keyed (Some at) has_value tokens more h =
-    takes_sign most end job (TagItem n keyed) (TagValue n keyed (Some at)) tokens (At (w.Name contextual.Item) at) (Any (value_word has_value) ∷ more) h
-    (tag_item_step n keyed at)
+accepts_tag_item most end job n keyed (Some item) has_value tokens more h =
+    let a = takes_sign most end job (TagItem n keyed) (TagBy n keyed item.at) tokens (At (w.Name contextual.Item) item.at)
+    (list_signs item.by ++ (Any (value_word has_value) ∷ more)) h (tag_item_step n keyed item.at) in
+    let b = accepts_item_by most end job n keyed item.at item.by has_value a.0 more a.1 in
+    (b.0, b.1, a.2 then b.2)
+
+names_name_step : (at : ℕ) (n : WrittenSpan) (t : Token) → IsSign (Named n) t → step (NamesName at) t ≡ Goes (NamesColon at n)
+unfolding step
+names_name_step at n t h = on_named n t (λ name. NamesColon at name) h
+
+names_colon_step : (at : ℕ) (n : WrittenSpan) (t : Token) → IsSign (Any (w.Mark m.Colon)) t → step (NamesColon at n) t ≡ Goes (NamesText (listing_of at n))
+unfolding step
+names_colon_step at n t h = rw h refl
+
+names_text_step : (so_far : Listing) (span : WrittenSpan) (t : Token) → IsSign (Spanned w.Text span) t
+    → step (NamesText so_far) t ≡ Goes (NamesEnd (texted so_far span))
+unfolding step
+names_text_step so_far span t h = rw (h.0, h.1, h.2) refl
+
+names_comma_step : (so_far : Listing) (t : Token) → IsSign (Any (w.Mark m.Comma)) t → step (NamesEnd so_far) t ≡ Goes (NamesText so_far)
+unfolding step
+names_comma_step so_far t h = rw h refl
+
+abbrev more_texts : List WrittenSpan → List Sign
+more_texts rest = flat_map (λ (y : WrittenSpan). Any (w.Mark m.Comma) ∷ text y) rest
+
+accepts_texts : (most end : ℕ) (job : Declarations) (so_far : Listing) (span : WrittenSpan) (others : List WrittenSpan) (tokens : List Token)
+    (more : List Sign) → AreSigns (Spanned w.Text span ∷ (more_texts others ++ more)) tokens → Ends more
+    → LeadsTo most end job (NamesText so_far) tokens (job ++ Names so_far.at so_far.name (so_far.texts ++ span ∷ others) ∷ []) Start more
+accepts_texts most end job so_far span [] tokens more h ends =
+    let now = texted so_far span in
+    let a = takes_sign most end job (NamesText so_far) (NamesEnd now) tokens (Spanned w.Text span) more h (names_text_step so_far span) in
+    (a.0, a.1, a.2 then Same (run-closed end job a.0 (names_end now) (not_first _ a.0 more a.1 (ends_comma more ends))))
+accepts_texts most end job so_far span (next ∷ others) tokens more h ends =
+    let now = texted so_far span in
+    let later = Spanned w.Text next ∷ (more_texts others ++ more) in
+    let a = takes_sign most end job (NamesText so_far) (NamesEnd now) tokens (Spanned w.Text span) (Any (w.Mark m.Comma) ∷ later) h
+    (names_text_step so_far span) in
+    let b = takes_sign most end job (NamesEnd now) (NamesText now) a.0 (Any (w.Mark m.Comma)) later a.1 (names_comma_step now) in
+    let c = accepts_texts most end job now next others b.0 more b.1 ends in (
+      c.0,
+      c.1,
+      a.2 then b.2 then c.2
+          then Same (ap (λ (xs : List WrittenSpan). run end (job ++ Names so_far.at so_far.name xs ∷ []) Start c.0)
+          (append_assoc so_far.texts (span ∷ []) (next ∷ others))),
+    )
 
 depends_first_step : (a : WrittenSpan) (t : Token) → IsSign (Named a) t → step DependsFirst t ≡ Goes (DependsSecond a)
 unfolding step
@@ -554,36 +659,40 @@ on_colon_step : (kind : WrittenSpan) (t : Token) → IsSign (Any (w.Mark m.Colon
 unfolding step
 on_colon_step kind t h = rw h refl
 
-heading_cell : opening (heading_of (w.Reserved r.Cell)) ≡ Some CellName
+heading_cell : (t : Token) → IsSign (Any (w.Reserved r.Cell)) t → opening t.from (heading_of t.word) ≡ Some CellName
 unfolding heading_of
-heading_cell = refl
+heading_cell t h = rw h refl
 
-heading_tag : opening (heading_of (w.Reserved r.Tag)) ≡ Some TagName
+heading_tag : (t : Token) → IsSign (Any (w.Reserved r.Tag)) t → opening t.from (heading_of t.word) ≡ Some TagName
 unfolding heading_of
-heading_tag = refl
+heading_tag t h = rw h refl
 
-heading_depends : opening (heading_of (w.Reserved r.Depends)) ≡ Some DependsFirst
+heading_depends : (t : Token) → IsSign (Any (w.Reserved r.Depends)) t → opening t.from (heading_of t.word) ≡ Some DependsFirst
 unfolding heading_of
-heading_depends = refl
+heading_depends t h = rw h refl
 
-heading_on : opening (heading_of (w.Reserved r.On)) ≡ Some OnKind
+heading_on : (t : Token) → IsSign (Any (w.Reserved r.On)) t → opening t.from (heading_of t.word) ≡ Some OnKind
 unfolding heading_of
-heading_on = refl
+heading_on t h = rw h refl
 
-heading_source : opening (heading_of (w.Reserved r.Source)) ≡ Some SourceName
+heading_source : (t : Token) → IsSign (Any (w.Reserved r.Source)) t → opening t.from (heading_of t.word) ≡ Some SourceName
 unfolding heading_of
-heading_source = refl
+heading_source t h = rw h refl
+
+heading_names : (at : ℕ) (t : Token) → IsSign (At (w.Name contextual.Names) at) t → opening t.from (heading_of t.word) ≡ Some (NamesName at)
+unfolding heading_of
+heading_names at t h = rw (h.0, h.1) refl
 
 accepts_declaration : (most end : ℕ) (job : Declarations) (d : Declaration) (tokens : List Token) (more : List Sign)
     → AreSigns (declaration_signs d ++ more) tokens → IsDeclaration most d → Ends more
     → LeadsTo most end job Start tokens (job ++ d ∷ []) Start more
-accepts_declaration most end job (Cell n keyed s) tokens more h is ends =
-    let tail = (keyed_signs keyed ++ Any (sort_word s) ∷ []) ++ more in
-    let a = opens_with most end job CellName tokens (w.Reserved r.Cell) (Named n ∷ tail) h heading_cell in
+accepts_declaration most end job (Cell n cells s) tokens more h is ends =
+    let tail = (cells_signs cells ++ Any (sort_word s) ∷ []) ++ more in
+    let a = opens_with most end job CellName tokens (Any (w.Reserved r.Cell)) (Named n ∷ tail) h heading_cell in
     let b = takes_sign most end job CellName (CellForm n) a.0 (Named n) tail a.1 (cell_name_step n) in
-    let c = accepts_cell_keyed most end job n keyed s b.0 more b.1 in
-    let d = takes_sign most end job (CellSort n keyed) (Declared (Cell n keyed s)) c.0 (Any (sort_word s)) more c.1 (cell_sort_step n keyed s) in
-    (d.0, d.1, a.2 then b.2 then c.2 then d.2 then Same (run-declared end job (Cell n keyed s) d.0))
+    let c = accepts_cells most end job n cells s b.0 more b.1 in
+    let d = takes_sign most end job (CellSort n cells) (Declared (Cell n cells s)) c.0 (Any (sort_word s)) more c.1 (cell_sort_step n cells s) in
+    (d.0, d.1, a.2 then b.2 then c.2 then d.2 then Same (run-declared end job (Cell n cells s) d.0))
 accepts_declaration most end job (Tag n keyed item has_value) tokens more h is ends =
     let value : List Sign = Any (value_word has_value) ∷ [] in
     let tail = keyed_signs keyed ++ behind_keyed item has_value more in
@@ -592,16 +701,24 @@ accepts_declaration most end job (Tag n keyed item has_value) tokens more h is e
     ∙ append_assoc (keyed_signs keyed) (item_signs item) (Any (value_word has_value) ∷ more) in
     let g : AreSigns (Any (w.Reserved r.Tag) ∷ Named n ∷ tail) tokens =
     subst (λ (x : List Sign). AreSigns (Any (w.Reserved r.Tag) ∷ Named n ∷ x) tokens) moves h in
-    let a = opens_with most end job TagName tokens (w.Reserved r.Tag) (Named n ∷ tail) g heading_tag in
+    let a = opens_with most end job TagName tokens (Any (w.Reserved r.Tag)) (Named n ∷ tail) g heading_tag in
     let b = takes_sign most end job TagName (TagForm n) a.0 (Named n) tail a.1 (tag_name_step n) in
     let c = accepts_tag_keyed most end job n keyed item has_value b.0 more b.1 in
     let i = accepts_tag_item most end job n keyed item has_value c.0 more c.1 in
     let d = takes_sign most end job (TagValue n keyed item) (Declared (Tag n keyed item has_value)) i.0 (Any (value_word has_value)) more i.1
     (tag_value_step n keyed item has_value) in
     (d.0, d.1, a.2 then b.2 then c.2 then i.2 then d.2 then Same (run-declared end job (Tag n keyed item has_value) d.0))
+accepts_declaration most end job (Names at n []) tokens more h is ends = absurd (is refl)
+accepts_declaration most end job (Names at n (first ∷ texts)) tokens more h is ends =
+    let tail = Spanned w.Text first ∷ (more_texts texts ++ more) in
+    let x = opens_with most end job (NamesName at) tokens (At (w.Name contextual.Names) at) (Named n ∷ Any (w.Mark m.Colon) ∷ tail) h (heading_names at) in
+    let y = takes_sign most end job (NamesName at) (NamesColon at n) x.0 (Named n) (Any (w.Mark m.Colon) ∷ tail) x.1 (names_name_step at n) in
+    let z = takes_sign most end job (NamesColon at n) (NamesText (listing_of at n)) y.0 (Any (w.Mark m.Colon)) tail y.1 (names_colon_step at n) in
+    let c = accepts_texts most end job (listing_of at n) first texts z.0 more z.1 ends in
+    (c.0, c.1, x.2 then y.2 then z.2 then c.2)
 accepts_declaration most end job (Depends a b how) tokens more h is ends =
     let tail = relation_signs how ++ more in
-    let x = opens_with most end job DependsFirst tokens (w.Reserved r.Depends) (Named a ∷ Named b ∷ tail) h heading_depends in
+    let x = opens_with most end job DependsFirst tokens (Any (w.Reserved r.Depends)) (Named a ∷ Named b ∷ tail) h heading_depends in
     let y = takes_sign most end job DependsFirst (DependsSecond a) x.0 (Named a) (Named b ∷ tail) x.1 (depends_first_step a) in
     let z = takes_sign most end job (DependsSecond a) (DependsHow a b) y.0 (Named b) tail y.1 (depends_second_step a b) in
     let c = accepts_relation most end job a b how z.0 more z.1 ends in
@@ -609,7 +726,7 @@ accepts_declaration most end job (Depends a b how) tokens more h is ends =
 accepts_declaration most end job (On kind []) tokens more h is ends = absurd (is.0 refl)
 accepts_declaration most end job (On kind (first ∷ actions)) tokens more h is ends =
     let tail = (action_signs first ++ more_actions actions) ++ more in
-    let x = opens_with most end job OnKind tokens (w.Reserved r.On) (Named kind ∷ Any (w.Mark m.Colon) ∷ tail) h heading_on in
+    let x = opens_with most end job OnKind tokens (Any (w.Reserved r.On)) (Named kind ∷ Any (w.Mark m.Colon) ∷ tail) h heading_on in
     let y = takes_sign most end job OnKind (OnColon kind) x.0 (Named kind) (Any (w.Mark m.Colon) ∷ tail) x.1 (on_kind_step kind) in
     let z = takes_sign most end job (OnColon kind) (ActionStart (no_actions kind)) y.0 (Any (w.Mark m.Colon)) tail y.1 (on_colon_step kind) in
     let c = accepts_actions most end job (no_actions kind) first actions z.0 more z.1 is.1 ends in
@@ -624,7 +741,7 @@ accepts_declaration most end job (Source n file rate slack (first ∷ tags)) tok
     ∙ append_assoc (rate_signs rate) (slack_signs slack) (Any (w.Mark m.Colon) ∷ tail) in
     let g : AreSigns (Any (w.Reserved r.Source) ∷ Named n ∷ Spanned w.Text file ∷ behind) tokens =
     subst (λ (x : List Sign). AreSigns (Any (w.Reserved r.Source) ∷ Named n ∷ Spanned w.Text file ∷ x) tokens) moves h in
-    let x = opens_with most end job SourceName tokens (w.Reserved r.Source) (Named n ∷ Spanned w.Text file ∷ behind) g heading_source in
+    let x = opens_with most end job SourceName tokens (Any (w.Reserved r.Source)) (Named n ∷ Spanned w.Text file ∷ behind) g heading_source in
     let y = takes_sign most end job SourceName (SourceFile n) x.0 (Named n) (Spanned w.Text file ∷ behind) x.1 (source_name_step n) in
     let z = takes_sign most end job (SourceFile n) (SourceRate n file) y.0 (Spanned w.Text file) behind y.1 (source_file_step n file) in
     let u = accepts_rate most end job n file rate slack z.0 tail z.1 in

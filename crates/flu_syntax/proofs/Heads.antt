@@ -13,7 +13,7 @@ use Rattle.flu_text.specs.declared.written.WrittenSpan.{WrittenSpan}
 use Rattle.flu_text.specs.declared.written.WrittenNumber.{WrittenNumber}
 use Rattle.flu_syntax.specs.declared.tree.WrittenUnit.{WrittenUnit}
 use Rattle.flu_syntax.specs.declared.tree.WrittenHead.{WrittenHead}
-use Rattle.flu_syntax.specs.Tree.{Declaration, Cell, Tag, Depends, On, Source, Declarations, Job}
+use Rattle.flu_syntax.specs.Tree.{Declaration, Cell, Tag, Names, Depends, On, Source, Declarations, Job}
 use Rattle.flu_text.specs.Signs.{Sign, AreSigns, is_name_word, span_of, number_of, place_of}
 use Rattle.flu_syntax.specs.Grammar.{declaration_signs, declarations_signs, head_signs, iso_signs, IsJobWithin, IsJob}
 use Rattle.flu_syntax.specs.Continued.{MayGoOn, CannotTake, IsFirstThatCannotFollow, IsTooDeep}
@@ -171,19 +171,18 @@ ends_more (Some head) front t rest more ends = by head.iso ends
     by None ends = not_more iso_word front t rest more ends
     by (Some unit) ends = tt
 
--- no declaration begins with `version` or with a name
+-- no declaration begins with `version` or with `iso`
 record NoHead (word : Word) : Type 0 where
   version : word ≢ version_word
-  name : is_name_word word ≡ false
+  iso : word ≢ iso_word
 
 no_head : (d : Declaration) (more : List Sign) (t : Token) (tokens : List Token) → AreSigns (declaration_signs d ++ more) (t ∷ tokens) → NoHead t.word
-no_head (Cell n keyed sort) more t tokens are = let first : t.word ≡ w.Reserved r.Cell = are.0 in record { version = λ e. cc; name = rw first refl }
-no_head (Tag n keyed item has_value) more t tokens are =
-    let first : t.word ≡ w.Reserved r.Tag = are.0 in record { version = λ e. cc; name = rw first refl }
-no_head (Depends a b how) more t tokens are = let first : t.word ≡ w.Reserved r.Depends = are.0 in record { version = λ e. cc; name = rw first refl }
-no_head (On kind actions) more t tokens are = let first : t.word ≡ w.Reserved r.On = are.0 in record { version = λ e. cc; name = rw first refl }
-no_head (Source n file rate slack tags) more t tokens are =
-    let first : t.word ≡ w.Reserved r.Source = are.0 in record { version = λ e. cc; name = rw first refl }
+no_head (Cell n cells sort) more t tokens are = let first : t.word ≡ w.Reserved r.Cell = are.0 in record { version = λ e. cc; iso = λ e. cc }
+no_head (Tag n keyed item has_value) more t tokens are = let first : t.word ≡ w.Reserved r.Tag = are.0 in record { version = λ e. cc; iso = λ e. cc }
+no_head (Names at n texts) more t tokens are = let first : t.word ≡ w.Name contextual.Names = are.0.0 in record { version = λ e. cc; iso = λ e. cc }
+no_head (Depends a b how) more t tokens are = let first : t.word ≡ w.Reserved r.Depends = are.0 in record { version = λ e. cc; iso = λ e. cc }
+no_head (On kind actions) more t tokens are = let first : t.word ≡ w.Reserved r.On = are.0 in record { version = λ e. cc; iso = λ e. cc }
+no_head (Source n file rate slack tags) more t tokens are = let first : t.word ≡ w.Reserved r.Source = are.0 in record { version = λ e. cc; iso = λ e. cc }
 
 no_heads : (ds : Declarations) (t : Token) (tokens : List Token) → AreSigns (declarations_signs ds) (t ∷ tokens) → NoHead t.word
 no_heads [] t tokens are = absurd are
@@ -210,10 +209,7 @@ module _ (job : Job) where
   split_unit (Some unit) own (i ∷ []) rest are ends whole = absurd are.1
   split_unit (Some unit) own (i ∷ n ∷ t ∷ front) rest are ends whole = absurd are.1.1
   split_unit (Some unit) None (i ∷ n ∷ []) rest are ends whole =
-      let none = (no_heads job.declarations i (n ∷ rest) whole).name in
-      let is : i.word ≡ iso_word = are.0.0 in
-      let some : is_name_word i.word ≡ true = rw is refl in
-      absurd (let both : true ≡ false = sym some ∙ none in cc)
+      absurd ((no_heads job.declarations i (n ∷ rest) whole).iso are.0.0)
   split_unit (Some unit) (Some own) (i ∷ n ∷ []) rest are ends whole =
       let at : own.at ≡ unit.at = sym whole.0.1 ∙ are.0.1 in
       let from : own.name.from ≡ unit.name.from = sym whole.1.0.1 ∙ are.1.0.1 in
@@ -326,11 +322,7 @@ module _ (n : ℤ) (v t i : Token) (is_version : v.word ≡ version_word) (is_nu
   )
 
   no_declaration : (ds : Declarations) (tokens : List Token) → AreSigns (declarations_signs ds) (i ∷ tokens) → ⊥
-  no_declaration ds tokens are =
-      let none = (no_heads ds i tokens are).name in
-      let some : is_name_word i.word ≡ true = rw is_iso refl in
-      let both : true ≡ false = sym some ∙ none in
-      cc
+  no_declaration ds tokens are = (no_heads ds i tokens are).iso is_iso
 
   iso_then : (x : Token) (tokens : List Token) (ds : Declarations) (iso : Option WrittenUnit) → AreSigns (iso_signs iso ++ declarations_signs ds) (i ∷ x ∷ tokens)
       → is_name_word x.word ≡ true

@@ -26,6 +26,11 @@ use Rattle.flu_lemmas.proofs.Tests.{true_lt, true_le}
 use Rattle.flu_syntax.specs.Tree.{Tree, NumberTree, ValueTree, KeyTree, TimeTree, ReadTree, HasTree, ParenTree, NegTree}
 use Rattle.flu_syntax.specs.Tree.{NotTree, TwoTree, Deed, Writes, Clears, Emits, Flushes, Action, On, Declarations}
 use Rattle.flu_text.specs.Signs.{span_of}
+use Rattle.flu_syntax.specs.declared.tree.WrittenCells.{WrittenCells}
+use Rattle.flu_syntax.specs.declared.tree.WrittenCells.TheVariants as cells
+use Rattle.flu_syntax.specs.declared.tree.WrittenItem.{WrittenItem}
+use Rattle.flu_syntax.specs.Machine.{CellBy, CellList, TagBy, TagList, NamesName, NamesColon, NamesText, NamesEnd, Listing, by_of, item_of, listing_of, texted}
+use Rattle.flu_syntax.specs.Machine.{cell_by_step, tag_by_step, texts_step}
 use Rattle.flu_syntax.specs.Machine.{cell_of, tag_of, Actions, Tags, Context, Amount, Guard, Frame, NegFrame, NotFrame, ParenFrame, RightFrame, Mode, Want}
 use Rattle.flu_syntax.specs.Machine.{Have, Done, Aim, ToWrite, ToClear, ToRead, ToTest, Now, Start, Declared, CellName, CellForm, CellSort, TagName}
 use Rattle.flu_syntax.specs.Machine.{TagForm, TagItem, TagValue, DependsFirst, DependsSecond, DependsHow, SourceName, SourceFile, SourceRate, RateNumber}
@@ -89,6 +94,7 @@ module _ (most : ℕ) where
   abbrev pub Kept : Now → Type 0
   Kept (Declared d) = IsDeclaration most d
   Kept (TagEnd so_far) = so_far.all ≢ []
+  Kept (NamesEnd so_far) = so_far.texts ≢ []
   Kept (ActionStart so_far) = AreActions most so_far.all
   Kept (DeedEnd so_far at deed) = AreActions most so_far.all × IsDeed most deed
   Kept (ActionEnd so_far) = ⊥
@@ -141,21 +147,33 @@ module _ (most : ℕ) where
 
       -- ---- cells, tags, dependencies and sources
 
-      sort_keeps : (n : WrittenSpan) (keyed : Bool) (o : Option Sort) → Keeps (sort_step n keyed o)
-      sort_keeps n keyed None = tt
-      sort_keeps n keyed (Some s) = tt
+      sort_keeps : (n : WrittenSpan) (cells : WrittenCells) (o : Option Sort) → Keeps (sort_step n cells o)
+      sort_keeps n cells None = tt
+      sort_keeps n cells (Some s) = tt
 
       cell_keeps : (n : WrittenSpan) (word : Word) → Keeps (cell_step n word)
       cell_keeps n (w.Reserved r.Keyed) = tt
-      cell_keeps n word = sort_keeps n false (sort_of word)
+      cell_keeps n word = sort_keeps n cells.Alone (sort_of word)
 
-      value_keeps : (n : WrittenSpan) (keyed : Bool) (item : Option ℕ) (o : Option Bool) → Keeps (value_step n keyed item o)
+      cell_by_keeps : (n : WrittenSpan) (t : Token) (word : Word) → Keeps (cell_by_step n t word)
+      cell_by_keeps n t (w.Name contextual.By) = tt
+      cell_by_keeps n t word = sort_keeps n cells.Keyed (sort_of word)
+
+      value_keeps : (n : WrittenSpan) (keyed : Bool) (item : Option WrittenItem) (o : Option Bool) → Keeps (value_step n keyed item o)
       value_keeps n keyed item None = tt
       value_keeps n keyed item (Some s) = tt
 
       item_keeps : (n : WrittenSpan) (keyed : Bool) (t : Token) (word : Word) → Keeps (item_step n keyed t word)
       item_keeps n keyed t (w.Name contextual.Item) = tt
       item_keeps n keyed t word = value_keeps n keyed None (value_of word)
+
+      tag_by_keeps : (n : WrittenSpan) (keyed : Bool) (at : ℕ) (t : Token) (word : Word) → Keeps (tag_by_step n keyed at t word)
+      tag_by_keeps n keyed at t (w.Name contextual.By) = tt
+      tag_by_keeps n keyed at t word = value_keeps n keyed (Some (item_of at None)) (value_of word)
+
+      texts_keeps : (so_far : Listing) (word : Word) → Keeps (texts_step so_far word)
+      texts_keeps so_far (w.Mark m.Comma) = tt
+      texts_keeps so_far _ = tt
 
       tag_keeps : (n : WrittenSpan) (t : Token) (word : Word) → Keeps (tag_step n t word)
       tag_keeps n t (w.Reserved r.Keyed) = tt
@@ -381,11 +399,20 @@ module _ (most : ℕ) where
       step_keeps (Declared d) t h over = tt
       step_keeps CellName t h over = name_keeps t.word (CellForm (span_of t)) tt
       step_keeps (CellForm n) t h over = cell_keeps n t.word
-      step_keeps (CellSort n keyed) t h over = sort_keeps n keyed (sort_of t.word)
+      step_keeps (CellBy n) t h over = cell_by_keeps n t t.word
+      step_keeps (CellList n at) t h over = name_keeps t.word (CellSort n (cells.By (by_of at (span_of t)))) tt
+      step_keeps (CellSort n cells) t h over = sort_keeps n cells (sort_of t.word)
       step_keeps TagName t h over = name_keeps t.word (TagForm (span_of t)) tt
       step_keeps (TagForm n) t h over = tag_keeps n t t.word
       step_keeps (TagItem n keyed) t h over = item_keeps n keyed t t.word
+      step_keeps (TagBy n keyed at) t h over = tag_by_keeps n keyed at t t.word
+      step_keeps (TagList n keyed at by_at) t h over =
+          name_keeps t.word (TagValue n keyed (Some (item_of at (Some (by_of by_at (span_of t)))))) tt
       step_keeps (TagValue n keyed item) t h over = value_keeps n keyed item (value_of t.word)
+      step_keeps (NamesName at) t h over = name_keeps t.word (NamesColon at (span_of t)) tt
+      step_keeps (NamesColon at n) t h over = colon_keeps t.word (NamesText (listing_of at n)) tt
+      step_keeps (NamesText so_far) t h over = text_keeps t.word (NamesEnd (texted so_far (span_of t))) (push_some so_far.texts (span_of t))
+      step_keeps (NamesEnd so_far) t h over = texts_keeps so_far t.word
       step_keeps DependsFirst t h over = name_keeps t.word (DependsSecond (span_of t)) tt
       step_keeps (DependsSecond a) t h over = name_keeps t.word (DependsHow a (span_of t)) tt
       step_keeps (DependsHow a b) t h over = how_keeps a b t t.word
@@ -452,6 +479,7 @@ module _ (most : ℕ) where
     whole_kept (Declared d) h = (h, tt)
     whole_kept (TagKeys so_far kind) h = (push_some so_far.all (tag_of kind keys.Alone), tt)
     whole_kept (TagEnd so_far) h = (h, tt)
+    whole_kept (NamesEnd so_far) h = (h, tt)
     whole_kept (DeedEnd so_far at deed) h = line_kept so_far at deed None h.0 h.1 tt
     whole_kept (ActionEnd so_far) h = absurd h
     whole_kept (CellKeys aim family) h = keys_kept aim (cell_of family key.Alone) h
@@ -467,13 +495,14 @@ module _ (most : ℕ) where
     declarations_more [] one h k = k
     declarations_more (d ∷ job) one h k = (h.0, declarations_more job one h.1 k)
 
-    pub heading_kept : (h : Heading) → IfSome (opening h) Kept
-    heading_kept heading.Cell = tt
-    heading_kept heading.Tag = tt
-    heading_kept heading.Depends = tt
-    heading_kept heading.On = tt
-    heading_kept heading.Source = tt
-    heading_kept heading.Other = tt
+    pub heading_kept : (at : ℕ) (h : Heading) → IfSome (opening at h) Kept
+    heading_kept at heading.Cell = tt
+    heading_kept at heading.Tag = tt
+    heading_kept at heading.Names = tt
+    heading_kept at heading.Depends = tt
+    heading_kept at heading.On = tt
+    heading_kept at heading.Source = tt
+    heading_kept at heading.Other = tt
 
     end_kept : (end : ℕ) (job found : Declarations) (o : Option Declarations) → AreDeclarations most job → IfSome o (AreDeclarations most)
         → ended end job o ≡ Found found
@@ -496,8 +525,8 @@ module _ (most : ℕ) where
     goes_kept end job found now t tokens (Goes next) h k n ih e = ih job next h n e
     goes_kept end job found now t tokens Deep h k n ih e = cc
     goes_kept end job found now t tokens Refused h k n ih e =
-        declares_kept t.from job found (whole now) (opening (heading_of t.word)) (λ job now. run end job now tokens) h (whole_kept now k)
-        (heading_kept (heading_of t.word)) ih e
+        declares_kept t.from job found (whole now) (opening t.from (heading_of t.word)) (λ job now. run end job now tokens) h (whole_kept now k)
+        (heading_kept t.from (heading_of t.word)) ih e
 
     pub any_allowed : (now : Now) (t : Token) → Allows (Unit {0}) now t
     any_allowed (InExpression context (Want level) frames) t = λ inner frame many opened. tt

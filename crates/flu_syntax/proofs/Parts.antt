@@ -16,12 +16,15 @@ use Rattle.flu_syntax.specs.declared.tree.WrittenRef.{WrittenRef}
 use Rattle.flu_text.specs.declared.written.WrittenKeys.{WrittenKeys}
 use Rattle.flu_text.specs.declared.written.WrittenKeys.TheVariants as keys
 use Rattle.flu_syntax.specs.declared.tree.WrittenRelation.TheVariants as relation
+use Rattle.flu_syntax.specs.declared.tree.WrittenCells.{WrittenCells}
+use Rattle.flu_syntax.specs.declared.tree.WrittenCells.TheVariants as cells
+use Rattle.flu_syntax.specs.declared.tree.WrittenItem.{WrittenItem}
 use Rattle.flu_syntax.specs.declared.tokens.Verb.{Verb}
 use Rattle.flu_syntax.specs.declared.tokens.Heading.{Heading}
 use Rattle.flu_syntax.specs.declared.tokens.Doing.{Doing}
 use Rattle.flu_syntax.specs.declared.tokens.Doing.TheVariants as doing
-use Rattle.flu_syntax.specs.Tree.{Deed, Emits, Flushes, Declaration, Cell, Tag, Depends, On, Source, Declarations}
-use Rattle.flu_syntax.specs.Reading.{Tells, NotFirst, IsFirst, IsNumber, NotNumber, IsNamed, NotNamed, no_actions, TakesKeyed, TakesItem}
+use Rattle.flu_syntax.specs.Tree.{Deed, Emits, Flushes, Declaration, Cell, Tag, Names, Depends, On, Source, Declarations}
+use Rattle.flu_syntax.specs.Reading.{Tells, NotFirst, IsFirst, IsNumber, NotNumber, IsNamed, NotNamed, no_actions, TakesKeyed}
 use Rattle.flu_syntax.specs.Reading.{ReadsWriting, ReadsDeed, ReadsDeclaration}
 use Rattle.flu_text.specs.Signs.{is_name_word, span_of, number_of}
 use Rattle.flu_syntax.specs.Machine.{cell_of, tag_of, Actions, Tags, Aim, ToWrite, ToClear, ToRead, ToTest, Guard, InExpression, Want, Now, Start}
@@ -32,6 +35,8 @@ use Rattle.flu_syntax.specs.Machine.{FlushText, CellFamily, CellKeys, CellKey, C
 use Rattle.flu_syntax.specs.Machine.{deed_step, named, named_step, keys_step, key_step, on_name, on_text, on_colon, on_bracket, on_number, sort_of}
 use Rattle.flu_syntax.specs.Machine.{sort_step, cell_step, value_of, value_step, item_step, tag_step, how_step, source_of, rate_step, slack_step, listed}
 use Rattle.flu_syntax.specs.Machine.{tags_step, tag_keys_step, range_step, doing_of, act_step, heading_of, opening, step, whole, run}
+use Rattle.flu_syntax.specs.Machine.{CellBy, CellList, TagBy, TagList, NamesName, NamesColon, NamesText, NamesEnd, Listing, by_of, item_of, listing_of, texted}
+use Rattle.flu_syntax.specs.Machine.{cell_by_step, tag_by_step, texts_step}
 use Rattle.flu_text.specs.Signs.{place_of}
 use Rattle.flu_syntax.proofs.Runs.{run-takes, run-misses, run-ends, run-same, run-same_empty, closes_empty, closes_token, begins, begins_none, Tells-through}
 
@@ -286,30 +291,51 @@ depends_second a = record {
   none = refl;
 }
 
-pub cell_keyed : (name : WrittenSpan) (t : Token) → t.word ≡ w.Reserved r.Keyed → step (CellForm name) t ≡ Goes (CellSort name true)
+pub cell_keyed : (name : WrittenSpan) (t : Token) → t.word ≡ w.Reserved r.Keyed → step (CellForm name) t ≡ Goes (CellBy name)
 unfolding step
 cell_keyed name t e = rw e refl
 
-cell_unkeyed : (name : WrittenSpan) (word : Word) → word ≢ w.Reserved r.Keyed → cell_step name word ≡ sort_step name false (sort_of word)
+cell_unkeyed : (name : WrittenSpan) (word : Word) → word ≢ w.Reserved r.Keyed → cell_step name word ≡ sort_step name cells.Alone (sort_of word)
 cell_unkeyed name (w.Reserved r.Keyed) ne = absurd (ne refl)
 cell_unkeyed name _ ne = refl
 
-pub cell_plain : (name : WrittenSpan) → Passes (CellForm name) (w.Reserved r.Keyed) (CellSort name false)
+pub cell_plain : (name : WrittenSpan) → Passes (CellForm name) (w.Reserved r.Keyed) (CellSort name cells.Alone)
 unfolding step whole
 cell_plain name = record { whole = refl; same = λ t ne. cell_unkeyed name t.word ne }
 
-pub cell_sort : (name : WrittenSpan) (keyed : Bool) (t : Token) (s : Sort) → sort_of t.word ≡ Some s
-    → step (CellSort name keyed) t ≡ Goes (Declared (Cell name keyed s))
+pub cell_by : (name : WrittenSpan) (t : Token) → t.word ≡ w.Name contextual.By → step (CellBy name) t ≡ Goes (CellList name t.from)
 unfolding step
-cell_sort name keyed t s e = rw e refl
+cell_by name t e = rw e refl
 
-pub cell_no_sort : (name : WrittenSpan) (keyed : Bool) (t : Token) → sort_of t.word ≡ None → step (CellSort name keyed) t ≡ Refused
+cell_unlisted : (name : WrittenSpan) (t : Token) (word : Word) → word ≢ w.Name contextual.By
+    → cell_by_step name t word ≡ sort_step name cells.Keyed (sort_of word)
+cell_unlisted name t (w.Name contextual.By) ne = absurd (ne refl)
+cell_unlisted name t _ ne = refl
+
+pub cell_listless : (name : WrittenSpan) → Passes (CellBy name) (w.Name contextual.By) (CellSort name cells.Keyed)
+unfolding step whole
+cell_listless name = record { whole = refl; same = λ t ne. cell_unlisted name t t.word ne }
+
+pub cell_list : (name : WrittenSpan) (at : ℕ) → ExpectsName (CellList name at) (λ list. CellSort name (cells.By (by_of at list)))
+unfolding step whole
+cell_list name at = record {
+  takes = λ t named. name_takes t.word (CellSort name (cells.By (by_of at (span_of t)))) named;
+  refuses = λ t other. name_only t.word (CellSort name (cells.By (by_of at (span_of t)))) other;
+  none = refl;
+}
+
+pub cell_sort : (name : WrittenSpan) (cells : WrittenCells) (t : Token) (s : Sort) → sort_of t.word ≡ Some s
+    → step (CellSort name cells) t ≡ Goes (Declared (Cell name cells s))
 unfolding step
-cell_no_sort name keyed t e = rw e refl
+cell_sort name cells t s e = rw e refl
 
-pub cell_sort_whole : (name : WrittenSpan) (keyed : Bool) → whole (CellSort name keyed) ≡ None
+pub cell_no_sort : (name : WrittenSpan) (cells : WrittenCells) (t : Token) → sort_of t.word ≡ None → step (CellSort name cells) t ≡ Refused
+unfolding step
+cell_no_sort name cells t e = rw e refl
+
+pub cell_sort_whole : (name : WrittenSpan) (cells : WrittenCells) → whole (CellSort name cells) ≡ None
 unfolding whole
-cell_sort_whole name keyed = refl
+cell_sort_whole name cells = refl
 
 pub tag_keyed : (name : WrittenSpan) (t : Token) → t.word ≡ w.Reserved r.Keyed → step (TagForm name) t ≡ Goes (TagItem name true)
 unfolding step
@@ -324,7 +350,7 @@ unfolding step whole
 tag_plain name = record { whole = refl; same = λ t ne. tag_unkeyed name t t.word ne }
 
 pub tag_item : (name : WrittenSpan) (keyed : Bool) (t : Token) → t.word ≡ w.Name contextual.Item
-    → step (TagItem name keyed) t ≡ Goes (TagValue name keyed (Some t.from))
+    → step (TagItem name keyed) t ≡ Goes (TagBy name keyed t.from)
 unfolding step
 tag_item name keyed t e = rw e refl
 
@@ -337,17 +363,41 @@ pub tag_itemless : (name : WrittenSpan) (keyed : Bool) → Passes (TagItem name 
 unfolding step whole
 tag_itemless name keyed = record { whole = refl; same = λ t ne. tag_no_item name keyed t t.word ne }
 
-pub tag_value : (name : WrittenSpan) (keyed : Bool) (item : Option ℕ) (t : Token) (has_value : Bool) → value_of t.word ≡ Some has_value
+pub tag_by : (name : WrittenSpan) (keyed : Bool) (at : ℕ) (t : Token) → t.word ≡ w.Name contextual.By
+    → step (TagBy name keyed at) t ≡ Goes (TagList name keyed at t.from)
+unfolding step
+tag_by name keyed at t e = rw e refl
+
+tag_unlisted : (name : WrittenSpan) (keyed : Bool) (at : ℕ) (t : Token) (word : Word) → word ≢ w.Name contextual.By
+    → tag_by_step name keyed at t word ≡ value_step name keyed (Some (item_of at None)) (value_of word)
+tag_unlisted name keyed at t (w.Name contextual.By) ne = absurd (ne refl)
+tag_unlisted name keyed at t _ ne = refl
+
+pub tag_listless : (name : WrittenSpan) (keyed : Bool) (at : ℕ)
+    → Passes (TagBy name keyed at) (w.Name contextual.By) (TagValue name keyed (Some (item_of at None)))
+unfolding step whole
+tag_listless name keyed at = record { whole = refl; same = λ t ne. tag_unlisted name keyed at t t.word ne }
+
+pub tag_list : (name : WrittenSpan) (keyed : Bool) (at by_at : ℕ)
+    → ExpectsName (TagList name keyed at by_at) (λ list. TagValue name keyed (Some (item_of at (Some (by_of by_at list)))))
+unfolding step whole
+tag_list name keyed at by_at = record {
+  takes = λ t named. name_takes t.word (TagValue name keyed (Some (item_of at (Some (by_of by_at (span_of t)))))) named;
+  refuses = λ t other. name_only t.word (TagValue name keyed (Some (item_of at (Some (by_of by_at (span_of t)))))) other;
+  none = refl;
+}
+
+pub tag_value : (name : WrittenSpan) (keyed : Bool) (item : Option WrittenItem) (t : Token) (has_value : Bool) → value_of t.word ≡ Some has_value
     → step (TagValue name keyed item) t ≡ Goes (Declared (Tag name keyed item has_value))
 unfolding step
 tag_value name keyed item t has_value e = rw e refl
 
-pub tag_no_value : (name : WrittenSpan) (keyed : Bool) (item : Option ℕ) (t : Token) → value_of t.word ≡ None
+pub tag_no_value : (name : WrittenSpan) (keyed : Bool) (item : Option WrittenItem) (t : Token) → value_of t.word ≡ None
     → step (TagValue name keyed item) t ≡ Refused
 unfolding step
 tag_no_value name keyed item t e = rw e refl
 
-pub tag_value_whole : (name : WrittenSpan) (keyed : Bool) (item : Option ℕ) → whole (TagValue name keyed item) ≡ None
+pub tag_value_whole : (name : WrittenSpan) (keyed : Bool) (item : Option WrittenItem) → whole (TagValue name keyed item) ≡ None
 unfolding whole
 tag_value_whole name keyed item = refl
 
@@ -371,6 +421,36 @@ depends_none a b t ne nor = no_how a b t t.word ne nor
 pub depends_whole : (a b : WrittenSpan) → whole (DependsHow a b) ≡ Some (Depends a b relation.None ∷ [])
 unfolding whole
 depends_whole a b = refl
+
+-- ---- lists of names
+
+pub names_name : (at : ℕ) → ExpectsName (NamesName at) (λ name. NamesColon at name)
+unfolding step whole
+names_name at = record {
+  takes = λ t named. name_takes t.word (NamesColon at (span_of t)) named;
+  refuses = λ t other. name_only t.word (NamesColon at (span_of t)) other;
+  none = refl;
+}
+
+pub names_colon : (at : ℕ) (name : WrittenSpan) → Expects (NamesColon at name) (w.Mark m.Colon) (λ t. NamesText (listing_of at name))
+unfolding step whole
+names_colon at name = record { takes = λ t e. rw e refl; refuses = λ t ne. colon_only t.word (NamesText (listing_of at name)) ne; none = refl }
+
+pub names_text : (so_far : Listing) → Expects (NamesText so_far) w.Text (λ t. NamesEnd (texted so_far (span_of t)))
+unfolding step whole
+names_text so_far = record { takes = λ t e. rw e refl; refuses = λ t ne. text_only t.word (NamesEnd (texted so_far (span_of t))) ne; none = refl }
+
+pub names_comma : (so_far : Listing) (t : Token) → t.word ≡ w.Mark m.Comma → step (NamesEnd so_far) t ≡ Goes (NamesText so_far)
+unfolding step
+names_comma so_far t e = rw e refl
+
+no_more_texts : (so_far : Listing) (word : Word) → word ≢ w.Mark m.Comma → texts_step so_far word ≡ Refused
+no_more_texts so_far (w.Mark m.Comma) ne = absurd (ne refl)
+no_more_texts so_far _ ne = refl
+
+pub names_end : (so_far : Listing) → EndsUnless (NamesEnd so_far) (w.Mark m.Comma) (Names so_far.at so_far.name so_far.texts)
+unfolding step whole
+names_end so_far = record { whole = refl; refuses = λ t ne. no_more_texts so_far t.word ne }
 
 -- ---- sources
 
@@ -569,54 +649,47 @@ pub run-word : (end : ℕ) (job : Declarations) (now next : Now) (word : Word) (
     → ((x : Token) → x.word ≡ word → step now x ≡ Goes next) → IsFirst word tokens t rest → run end job now tokens ≡ run end job next rest
 run-word end job now next word tokens rest t takes h = rw h.0 (run-takes end job now next t rest (takes t h.1))
 
--- ---- what a reader does
+-- a token of a word that leads on
+pub run-led : (end : ℕ) (job : Declarations) (now next : Now) (word : Word) (tokens rest : List Token) (t : Token) → IsFirst word tokens t rest
+    → (t.word ≡ word → step now t ≡ Goes next) → run end job now tokens ≡ run end job next rest
+run-led end job now next word tokens rest t h takes = rw h.0 (run-takes end job now next t rest (takes h.1))
 
-pub run-keyed_cell : (end : ℕ) (job : Declarations) (name : WrittenSpan) (keyed : Bool) (tokens rest : List Token) → TakesKeyed tokens keyed rest
-    → run end job (CellForm name) tokens ≡ run end job (CellSort name keyed) rest
-run-keyed_cell end job name true tokens rest h =
-    run-word end job (CellForm name) (CellSort name true) (w.Reserved r.Keyed) tokens rest h.0 (cell_keyed name) h.1
-run-keyed_cell end job name false tokens rest h = rw h.0 (run-passed end job tokens (cell_plain name) h.1)
+-- ---- what a reader does
 
 pub run-keyed_tag : (end : ℕ) (job : Declarations) (name : WrittenSpan) (keyed : Bool) (tokens rest : List Token) → TakesKeyed tokens keyed rest
     → run end job (TagForm name) tokens ≡ run end job (TagItem name keyed) rest
 run-keyed_tag end job name true tokens rest h = run-word end job (TagForm name) (TagItem name true) (w.Reserved r.Keyed) tokens rest h.0 (tag_keyed name) h.1
 run-keyed_tag end job name false tokens rest h = rw h.0 (run-passed end job tokens (tag_plain name) h.1)
 
-pub run-item : (end : ℕ) (job : Declarations) (name : WrittenSpan) (keyed : Bool) (item : Option ℕ) (tokens rest : List Token) → TakesItem tokens item rest
-    → run end job (TagItem name keyed) tokens ≡ run end job (TagValue name keyed item) rest
-run-item end job name keyed (Some at) tokens rest h =
-    rw (h.1.0, h.2) (run-takes end job (TagItem name keyed) (TagValue name keyed (Some h.0.from)) h.0 rest (tag_item name keyed h.0 h.1.1))
-run-item end job name keyed None tokens rest h = rw h.0 (run-passed end job tokens (tag_itemless name keyed) h.1)
-
-pub run-sort : (end : ℕ) (job : Declarations) (name : WrittenSpan) (keyed : Bool) (tokens rest : List Token) (t : Token) (s : Sort) → tokens ≡ t ∷ rest
+pub run-sort : (end : ℕ) (job : Declarations) (name : WrittenSpan) (cells : WrittenCells) (tokens rest : List Token) (t : Token) (s : Sort) → tokens ≡ t ∷ rest
     → Some s ≡ sort_of t.word
-    → run end job (CellSort name keyed) tokens ≡ run end (job ++ Cell name keyed s ∷ []) Start rest
-run-sort end job name keyed tokens rest t s here e =
-    rw here (run-takes end job (CellSort name keyed) (Declared (Cell name keyed s)) t rest (cell_sort name keyed t s (sym e))
-    ∙ run-declared end job (Cell name keyed s) rest)
+    → run end job (CellSort name cells) tokens ≡ run end (job ++ Cell name cells s ∷ []) Start rest
+run-sort end job name cells tokens rest t s here e =
+    rw here (run-takes end job (CellSort name cells) (Declared (Cell name cells s)) t rest (cell_sort name cells t s (sym e))
+    ∙ run-declared end job (Cell name cells s) rest)
 
-pub run-no_sort : (end : ℕ) (job : Declarations) (name : WrittenSpan) (keyed : Bool) (tokens rest : List Token) (t : Token) → tokens ≡ t ∷ rest
-    → None ≡ sort_of t.word → run end job (CellSort name keyed) tokens ≡ Unexpected (place_of end tokens)
-run-no_sort end job name keyed tokens rest t here e =
-    rw here (run-misses end job (CellSort name keyed) t rest (cell_no_sort name keyed t (sym e)) (cell_sort_whole name keyed))
+pub run-no_sort : (end : ℕ) (job : Declarations) (name : WrittenSpan) (cells : WrittenCells) (tokens rest : List Token) (t : Token) → tokens ≡ t ∷ rest
+    → None ≡ sort_of t.word → run end job (CellSort name cells) tokens ≡ Unexpected (place_of end tokens)
+run-no_sort end job name cells tokens rest t here e =
+    rw here (run-misses end job (CellSort name cells) t rest (cell_no_sort name cells t (sym e)) (cell_sort_whole name cells))
 
-pub run-sort_end : (end : ℕ) (job : Declarations) (name : WrittenSpan) (keyed : Bool) (tokens : List Token) → tokens ≡ []
-    → run end job (CellSort name keyed) tokens ≡ Unexpected (place_of end tokens)
-run-sort_end end job name keyed tokens e = rw e (run-ends end job (CellSort name keyed) (cell_sort_whole name keyed))
+pub run-sort_end : (end : ℕ) (job : Declarations) (name : WrittenSpan) (cells : WrittenCells) (tokens : List Token) → tokens ≡ []
+    → run end job (CellSort name cells) tokens ≡ Unexpected (place_of end tokens)
+run-sort_end end job name cells tokens e = rw e (run-ends end job (CellSort name cells) (cell_sort_whole name cells))
 
-pub run-value : (end : ℕ) (job : Declarations) (name : WrittenSpan) (keyed : Bool) (item : Option ℕ) (tokens rest : List Token) (t : Token)
+pub run-value : (end : ℕ) (job : Declarations) (name : WrittenSpan) (keyed : Bool) (item : Option WrittenItem) (tokens rest : List Token) (t : Token)
     (has_value : Bool) → tokens ≡ t ∷ rest → Some has_value ≡ value_of t.word
     → run end job (TagValue name keyed item) tokens ≡ run end (job ++ Tag name keyed item has_value ∷ []) Start rest
 run-value end job name keyed item tokens rest t has_value here e =
     rw here (run-takes end job (TagValue name keyed item) (Declared (Tag name keyed item has_value)) t rest (tag_value name keyed item t has_value (sym e))
     ∙ run-declared end job (Tag name keyed item has_value) rest)
 
-pub run-no_value : (end : ℕ) (job : Declarations) (name : WrittenSpan) (keyed : Bool) (item : Option ℕ) (tokens rest : List Token) (t : Token)
+pub run-no_value : (end : ℕ) (job : Declarations) (name : WrittenSpan) (keyed : Bool) (item : Option WrittenItem) (tokens rest : List Token) (t : Token)
     → tokens ≡ t ∷ rest → None ≡ value_of t.word → run end job (TagValue name keyed item) tokens ≡ Unexpected (place_of end tokens)
 run-no_value end job name keyed item tokens rest t here e =
     rw here (run-misses end job (TagValue name keyed item) t rest (tag_no_value name keyed item t (sym e)) (tag_value_whole name keyed item))
 
-pub run-value_end : (end : ℕ) (job : Declarations) (name : WrittenSpan) (keyed : Bool) (item : Option ℕ) (tokens : List Token) → tokens ≡ []
+pub run-value_end : (end : ℕ) (job : Declarations) (name : WrittenSpan) (keyed : Bool) (item : Option WrittenItem) (tokens : List Token) → tokens ≡ []
     → run end job (TagValue name keyed item) tokens ≡ Unexpected (place_of end tokens)
 run-value_end end job name keyed item tokens e = rw e (run-ends end job (TagValue name keyed item) (tag_value_whole name keyed item))
 
@@ -662,14 +735,14 @@ through_write end tokens others t verb deed rest (Err fault) here is h = λ at. 
 
 pub through_heading : {X : Type 0} (end : ℕ) (tokens others : List Token) (t : Token) (now : Now) (heading : Heading) (declaration : X
     → Declaration) (rest : X → List Token) (result : Result X SyntaxFault) → tokens ≡ t ∷ others
-    → heading ≡ heading_of t.word → opening heading ≡ Some now → ReadsDeclaration end now others declaration rest result
+    → heading ≡ heading_of t.word → opening t.from heading ≡ Some now → ReadsDeclaration end now others declaration rest result
     → ReadsDeclaration end Start tokens declaration rest result
 through_heading end tokens others t now heading declaration rest (Ok x) here is e h =
-    λ job. rw here (begins end job now t others (ap opening (sym is) ∙ e)
+    λ job. rw here (begins end job now t others (ap (opening t.from) (sym is) ∙ e)
     ∙ h job)
 through_heading end tokens others t now heading declaration rest (Err fault) here is e h = λ job. rw here
-    (Tells-through fault _ _ (begins end job now t others (ap opening (sym is) ∙ e)) (h job))
+    (Tells-through fault _ _ (begins end job now t others (ap (opening t.from) (sym is) ∙ e)) (h job))
 
 pub no_heading : (end : ℕ) (job : Declarations) (tokens rest : List Token) (t : Token) (heading : Heading) → tokens ≡ t ∷ rest → heading ≡ heading_of t.word
-    → opening heading ≡ None → run end job Start tokens ≡ Unexpected (place_of end tokens)
-no_heading end job tokens rest t heading here is e = rw here (begins_none end job t rest (ap opening (sym is) ∙ e))
+    → opening t.from heading ≡ None → run end job Start tokens ≡ Unexpected (place_of end tokens)
+no_heading end job tokens rest t heading here is e = rw here (begins_none end job t rest (ap (opening t.from) (sym is) ∙ e))

@@ -66,15 +66,15 @@ after_it place job d (Some now) more = ap (λ (x : Declarations). more x now) (s
 pub closes_token : (end : ℕ) (job : Declarations) (now : Now) (d : Declaration) (t : Token) (tokens : List Token) → whole now ≡ Some (d ∷ [])
     → step now t ≡ Refused → run end job now (t ∷ tokens) ≡ run end (job ++ d ∷ []) Start (t ∷ tokens)
 unfolding run whole step
-closes_token end job now d t tokens h e = rw (e, h) (after_it t.from job d (opening (heading_of t.word)) (λ next rest. run end next rest tokens))
+closes_token end job now d t tokens h e = rw (e, h) (after_it t.from job d (opening t.from (heading_of t.word)) (λ next rest. run end next rest tokens))
 
 -- a declaration begins
-pub begins : (end : ℕ) (job : Declarations) (now : Now) (t : Token) (tokens : List Token) → opening (heading_of t.word) ≡ Some now
+pub begins : (end : ℕ) (job : Declarations) (now : Now) (t : Token) (tokens : List Token) → opening t.from (heading_of t.word) ≡ Some now
     → run end job Start (t ∷ tokens) ≡ run end job now tokens
 unfolding run whole step
 begins end job now t tokens e = rw e (ap (λ (x : Declarations). run end x now tokens) (append-nil job))
 
-pub begins_none : (end : ℕ) (job : Declarations) (t : Token) (tokens : List Token) → opening (heading_of t.word) ≡ None
+pub begins_none : (end : ℕ) (job : Declarations) (t : Token) (tokens : List Token) → opening t.from (heading_of t.word) ≡ None
     → run end job Start (t ∷ tokens) ≡ Unexpected t.from
 unfolding run whole step
 begins_none end job t tokens e = rw e refl

@@ -20,9 +20,12 @@ use Rattle.flu_syntax.specs.declared.tree.WrittenRef.{WrittenRef}
 use Rattle.flu_text.specs.declared.written.WrittenKeys.{WrittenKeys}
 use Rattle.flu_text.specs.declared.written.WrittenKeys.TheVariants as keys
 use Rattle.flu_syntax.specs.declared.tree.WrittenTag.{WrittenTag}
+use Rattle.flu_syntax.specs.declared.tree.WrittenCells.{WrittenCells}
+use Rattle.flu_syntax.specs.declared.tree.WrittenCells.TheVariants as cells
+use Rattle.flu_syntax.specs.declared.tree.WrittenItem.{WrittenItem}
 use Rattle.flu_lemmas.proofs.Elements.{push_some}
 use Rattle.flu_syntax.specs.Tree.{Tree, ReadTree, HasTree, ParenTree, NegTree, NotTree, TwoTree, Deed}
-use Rattle.flu_syntax.specs.Tree.{Writes, Clears, Emits, Flushes, Action, On, Source, Declarations}
+use Rattle.flu_syntax.specs.Tree.{Writes, Clears, Emits, Flushes, Action, Names, On, Source, Declarations}
 use Rattle.flu_text.specs.Signs.{span_of, number_of}
 use Rattle.flu_syntax.specs.Machine.{cell_of, tag_of, Actions, Tags, Context, Amount, Guard, Frame, NegFrame, NotFrame, ParenFrame, RightFrame, Mode, Want}
 use Rattle.flu_syntax.specs.Machine.{Have, Done, Aim, ToWrite, ToClear, ToRead, ToTest, Now, Start, Declared, CellName, CellForm, CellSort, TagName, TagForm}
@@ -34,10 +37,11 @@ use Rattle.flu_syntax.specs.Machine.{listed, source_of, named, named_step, keys_
 use Rattle.flu_syntax.specs.Machine.{sort_step, cell_step, value_of, value_step, item_step, tag_step, how_step, rate_step, slack_step, source_line, tags_step}
 use Rattle.flu_syntax.specs.Machine.{tag_keys_step, range_step, doing_of, act_step, start_of, operator_of, is_within, is_close, level_behind, opens}
 use Rattle.flu_syntax.specs.Machine.{heading_of, opening, done_whole, behind_whole, named_whole, step, whole, Verdict, Found, goes_on, next_declaration}
-use Rattle.flu_syntax.specs.Machine.{ended, run}
+use Rattle.flu_syntax.specs.Machine.{ended, run, CellBy, CellList, TagBy, TagList, NamesName, NamesColon, NamesText, NamesEnd, Listing, by_of, item_of}
+use Rattle.flu_syntax.specs.Machine.{texted, listing_of, cell_by_step, tag_by_step, texts_step}
 use Rattle.flu_text.specs.Signs.{Sign, Any, At, Spanned, Named, IsSign, AreSigns, name, text, number, separated}
 use Rattle.flu_syntax.specs.Grammar.{op_level, op_word, verb_word, key_signs, cell_signs, spelled, deed_signs, guard_signs, action_signs}
-use Rattle.flu_syntax.specs.Grammar.{tag_signs, keyed_signs, item_signs, rate_signs, slack_signs, declaration_signs, declarations_signs}
+use Rattle.flu_syntax.specs.Grammar.{tag_signs, keyed_signs, cells_signs, item_signs, rate_signs, slack_signs, declaration_signs, declarations_signs}
 
 -- ---- what a turn has said
 
@@ -60,6 +64,15 @@ source_head so_far =
 
 abbrev said_tags : Tags → List Sign
 said_tags so_far = source_head so_far ++ mark_ended (w.Mark m.Comma) tag_signs so_far.all
+
+abbrev tag_begun : WrittenSpan → List Sign → List Sign
+tag_begun n more = Any (w.Reserved r.Tag) ∷ Named n ∷ more
+
+abbrev listing_head : Listing → List Sign
+listing_head so_far = At (w.Name contextual.Names) so_far.at ∷ Named so_far.name ∷ Any (w.Mark m.Colon) ∷ []
+
+abbrev said_texts : Listing → List Sign
+said_texts so_far = listing_head so_far ++ mark_ended (w.Mark m.Comma) text so_far.texts
 
 abbrev said_context : Context → List Sign
 said_context (Amount so_far at v cell) = said_actions so_far ++ (At (verb_word v) at ∷ cell_signs cell)
@@ -95,11 +108,20 @@ said Start = []
 said (Declared d) = declaration_signs d
 said CellName = Any (w.Reserved r.Cell) ∷ []
 said (CellForm n) = Any (w.Reserved r.Cell) ∷ name n
-said (CellSort n keyed) = Any (w.Reserved r.Cell) ∷ (name n ++ keyed_signs keyed)
+said (CellBy n) = Any (w.Reserved r.Cell) ∷ (name n ++ cells_signs cells.Keyed)
+said (CellList n at) = Any (w.Reserved r.Cell) ∷ (name n ++ cells_signs cells.Keyed ++ At (w.Name contextual.By) at ∷ [])
+said (CellSort n cells) = Any (w.Reserved r.Cell) ∷ (name n ++ cells_signs cells)
 said TagName = Any (w.Reserved r.Tag) ∷ []
 said (TagForm n) = Any (w.Reserved r.Tag) ∷ name n
 said (TagItem n keyed) = Any (w.Reserved r.Tag) ∷ (name n ++ keyed_signs keyed)
+said (TagBy n keyed at) = Any (w.Reserved r.Tag) ∷ (name n ++ keyed_signs keyed ++ item_signs (Some (item_of at None)))
+said (TagList n keyed at by_at) =
+    Any (w.Reserved r.Tag) ∷ (name n ++ keyed_signs keyed ++ At (w.Name contextual.Item) at ∷ At (w.Name contextual.By) by_at ∷ [])
 said (TagValue n keyed item) = Any (w.Reserved r.Tag) ∷ (name n ++ keyed_signs keyed ++ item_signs item)
+said (NamesName at) = At (w.Name contextual.Names) at ∷ []
+said (NamesColon at n) = At (w.Name contextual.Names) at ∷ name n
+said (NamesText so_far) = said_texts so_far
+said (NamesEnd so_far) = listing_head so_far ++ separated (w.Mark m.Comma) text so_far.texts
 said DependsFirst = Any (w.Reserved r.Depends) ∷ []
 said (DependsSecond a) = Any (w.Reserved r.Depends) ∷ name a
 said (DependsHow a b) = Any (w.Reserved r.Depends) ∷ (name a ++ name b)
@@ -133,11 +155,12 @@ said (InExpression context (Want level) frames) = said_frames context frames
 said (InExpression context (Have low high t) frames) = said_frames context frames ++ spelled t
 said (InExpression context (Done t) frames) = said_frames context frames ++ spelled t
 
--- the turns that a step may lead to: a bracket closes behind something, and there is a tag
+-- the turns that a step may lead to: a bracket closes behind something, and there is a tag, or a text
 abbrev pub Sound : Now → Type 0
 Sound (TagClose so_far kind keys.Alone) = ⊥
 Sound (CellClose aim cell) = cell.key ≢ key.Alone
 Sound (TagEnd so_far) = so_far.all ≢ []
+Sound (NamesEnd so_far) = so_far.texts ≢ []
 Sound (ActionEnd so_far) = ⊥
 Sound _ = Unit {0}
 
@@ -180,18 +203,23 @@ number_says before t _ next e sound h = tt
 
 -- ---- cells, tags and dependencies
 
-sort_says : (n : WrittenSpan) (keyed : Bool) (t : Token) (word : Word) → t.word ≡ word → Says (said (CellSort n keyed)) t (sort_step n keyed (sort_of word))
+sort_says : (n : WrittenSpan) (cells : WrittenCells) (t : Token) (word : Word) → t.word ≡ word
+    → Says (said (CellSort n cells)) t (sort_step n cells (sort_of word))
 unfolding sort_of
-sort_says n keyed t (w.Reserved r.Sum) e = (Any (w.Reserved r.Sum), e, tt, ap (λ (x : List Sign). Any (w.Reserved r.Cell) ∷ Named n ∷ x) refl)
-sort_says n keyed t (w.Reserved r.Max) e = (Any (w.Reserved r.Max), e, tt, refl)
-sort_says n keyed t (w.Reserved r.Last) e = (Any (w.Reserved r.Last), e, tt, refl)
-sort_says n keyed t _ e = tt
+sort_says n cells t (w.Reserved r.Sum) e = (Any (w.Reserved r.Sum), e, tt, ap (λ (x : List Sign). Any (w.Reserved r.Cell) ∷ Named n ∷ x) refl)
+sort_says n cells t (w.Reserved r.Max) e = (Any (w.Reserved r.Max), e, tt, refl)
+sort_says n cells t (w.Reserved r.Last) e = (Any (w.Reserved r.Last), e, tt, refl)
+sort_says n cells t _ e = tt
 
 cell_says : (n : WrittenSpan) (t : Token) (word : Word) → t.word ≡ word → Says (said (CellForm n)) t (cell_step n word)
 cell_says n t (w.Reserved r.Keyed) e = (Any (w.Reserved r.Keyed), e, tt, refl)
-cell_says n t word e = sort_says n false t word e
+cell_says n t word e = sort_says n cells.Alone t word e
 
-value_says : (n : WrittenSpan) (keyed : Bool) (item : Option ℕ) (t : Token) (word : Word) → t.word ≡ word
+cell_by_says : (n : WrittenSpan) (t : Token) (word : Word) → t.word ≡ word → Says (said (CellBy n)) t (cell_by_step n t word)
+cell_by_says n t (w.Name contextual.By) e = (At (w.Name contextual.By) t.from, (e, refl), tt, refl)
+cell_by_says n t word e = sort_says n cells.Keyed t word e
+
+value_says : (n : WrittenSpan) (keyed : Bool) (item : Option WrittenItem) (t : Token) (word : Word) → t.word ≡ word
     → Says (said (TagValue n keyed item)) t (value_step n keyed item (value_of word))
 unfolding value_of
 value_says n keyed item t (w.Reserved r.Int) e = (Any (w.Reserved r.Int), e, tt, refl)
@@ -199,11 +227,21 @@ value_says n keyed item t (w.Reserved r.None) e = (Any (w.Reserved r.None), e, t
 value_says n keyed item t _ e = tt
 
 no_item_said : (n : WrittenSpan) (keyed : Bool) → said (TagItem n keyed) ≡ said (TagValue n keyed None)
-no_item_said n keyed = ap (λ (z : List Sign). Any (w.Reserved r.Tag) ∷ Named n ∷ z) (sym (append-nil (keyed_signs keyed)))
+no_item_said n keyed = ap (tag_begun n) (sym (append-nil (keyed_signs keyed)))
 
 item_says : (n : WrittenSpan) (keyed : Bool) (t : Token) (word : Word) → t.word ≡ word → Says (said (TagItem n keyed)) t (item_step n keyed t word)
 item_says n keyed t (w.Name contextual.Item) e = (At (w.Name contextual.Item) t.from, (e, refl), tt, refl)
 item_says n keyed t word e = moved _ _ t (value_step n keyed None (value_of word)) (no_item_said n keyed) (value_says n keyed None t word e)
+
+tag_by_says : (n : WrittenSpan) (keyed : Bool) (at : ℕ) (t : Token) (word : Word) → t.word ≡ word
+    → Says (said (TagBy n keyed at)) t (tag_by_step n keyed at t word)
+tag_by_says n keyed at t (w.Name contextual.By) e = (
+  At (w.Name contextual.By) t.from,
+  (e, refl),
+  tt,
+  ap (tag_begun n) (sym (append_assoc (keyed_signs keyed) (At (w.Name contextual.Item) at ∷ []) (At (w.Name contextual.By) t.from ∷ []))),
+)
+tag_by_says n keyed at t word e = value_says n keyed (Some (item_of at None)) t word e
 
 tag_says : (n : WrittenSpan) (t : Token) (word : Word) → t.word ≡ word → Says (said (TagForm n)) t (tag_step n t word)
 tag_says n t (w.Reserved r.Keyed) e = (Any (w.Reserved r.Keyed), e, tt, refl)
@@ -264,6 +302,22 @@ marked_last : {X : Type 0} (mark : Word) (item : X → List Sign) (xs : List X) 
     → mark_ended mark item (xs ++ x ∷ []) ≡ mark_ended mark item xs ++ (item x ++ Any mark ∷ [])
 marked_last mark item xs x =
     flat_map-append (λ y. item y ++ Any mark ∷ []) xs (x ∷ []) ∙ ap (λ (z : List Sign). mark_ended mark item xs ++ z) (append-nil (item x ++ Any mark ∷ []))
+
+-- a text is said
+text_said : (so_far : Listing) (span : WrittenSpan) → said (NamesEnd (texted so_far span)) ≡ said_texts so_far ++ text span
+text_said so_far span =
+    ap (λ (z : List Sign). listing_head so_far ++ z) (separated_more (w.Mark m.Comma) text so_far.texts span)
+    ∙ sym (append_assoc (listing_head so_far) (mark_ended (w.Mark m.Comma) text so_far.texts) (text span))
+
+texts_says : (so_far : Listing) (t : Token) (word : Word) → t.word ≡ word → so_far.texts ≢ [] → Says (said (NamesEnd so_far)) t (texts_step so_far word)
+texts_says so_far t (w.Mark m.Comma) e some = (
+  Any (w.Mark m.Comma),
+  e,
+  tt,
+  ap (λ (z : List Sign). listing_head so_far ++ z) (mark_more (w.Mark m.Comma) text so_far.texts some)
+      ∙ sym (append_assoc (listing_head so_far) (separated (w.Mark m.Comma) text so_far.texts) (Any (w.Mark m.Comma) ∷ [])),
+)
+texts_says so_far t _ e some = tt
 
 -- a tag is said
 tag_said : (so_far : Tags) (tag : WrittenTag) → said (TagEnd (listed so_far tag)) ≡ said_tags so_far ++ tag_signs tag
@@ -538,11 +592,24 @@ step_says Start t sound = tt
 step_says (Declared d) t sound = tt
 step_says CellName t sound = name_says (said CellName) t t.word (CellForm (span_of t)) refl tt refl
 step_says (CellForm n) t sound = cell_says n t t.word refl
-step_says (CellSort n keyed) t sound = sort_says n keyed t t.word refl
+step_says (CellBy n) t sound = cell_by_says n t t.word refl
+step_says (CellList n at) t sound = name_says (said (CellList n at)) t t.word (CellSort n (cells.By (by_of at (span_of t)))) refl tt refl
+step_says (CellSort n cells) t sound = sort_says n cells t t.word refl
 step_says TagName t sound = name_says (said TagName) t t.word (TagForm (span_of t)) refl tt refl
 step_says (TagForm n) t sound = tag_says n t t.word refl
 step_says (TagItem n keyed) t sound = item_says n keyed t t.word refl
+step_says (TagBy n keyed at) t sound = tag_by_says n keyed at t t.word refl
+step_says (TagList n keyed at by_at) t sound =
+    name_says (said (TagList n keyed at by_at)) t t.word (TagValue n keyed (Some (item_of at (Some (by_of by_at (span_of t)))))) refl tt
+    (ap (tag_begun n)
+    (sym (append_assoc (keyed_signs keyed) (At (w.Name contextual.Item) at ∷ At (w.Name contextual.By) by_at ∷ []) (name (span_of t)))))
 step_says (TagValue n keyed item) t sound = value_says n keyed item t t.word refl
+step_says (NamesName at) t sound = name_says (said (NamesName at)) t t.word (NamesColon at (span_of t)) refl tt refl
+step_says (NamesColon at n) t sound = colon_says (said (NamesColon at n)) t t.word (NamesText (listing_of at n)) refl tt refl
+step_says (NamesText so_far) t sound =
+    text_says (said (NamesText so_far)) t t.word (NamesEnd (texted so_far (span_of t))) refl (push_some so_far.texts (span_of t))
+    (text_said so_far (span_of t))
+step_says (NamesEnd so_far) t sound = texts_says so_far t t.word refl sound
 step_says DependsFirst t sound = name_says (said DependsFirst) t t.word (DependsSecond (span_of t)) refl tt refl
 step_says (DependsSecond a) t sound = name_says (said (DependsSecond a)) t t.word (DependsHow a (span_of t)) refl tt refl
 step_says (DependsHow a b) t sound = how_says a b t t.word refl
@@ -654,6 +721,7 @@ pub whole_spelt : (now : Now) → Sound now → Spelt (said now) (whole now)
 unfolding whole
 whole_spelt Start sound = refl
 whole_spelt (Declared d) sound = append-nil (declaration_signs d)
+whole_spelt (NamesEnd so_far) sound = append-nil (declaration_signs (Names so_far.at so_far.name so_far.texts))
 whole_spelt (DependsHow a b) sound = refl
 whole_spelt (TagKeys so_far kind) sound = tags_spelt (listed so_far (tag_of kind keys.Alone)) ∙ tag_said so_far (tag_of kind keys.Alone)
 whole_spelt (TagEnd so_far) sound = tags_spelt so_far
@@ -665,11 +733,18 @@ whole_spelt (InExpression context (Have low high t) frames) sound = done_spelt c
 whole_spelt (InExpression context (Done t) frames) sound = done_spelt context t frames
 whole_spelt CellName sound = tt
 whole_spelt (CellForm n) sound = tt
-whole_spelt (CellSort n keyed) sound = tt
+whole_spelt (CellBy n) sound = tt
+whole_spelt (CellList n at) sound = tt
+whole_spelt (CellSort n cells) sound = tt
 whole_spelt TagName sound = tt
 whole_spelt (TagForm n) sound = tt
 whole_spelt (TagItem n keyed) sound = tt
+whole_spelt (TagBy n keyed at) sound = tt
+whole_spelt (TagList n keyed at by_at) sound = tt
 whole_spelt (TagValue n keyed item) sound = tt
+whole_spelt (NamesName at) sound = tt
+whole_spelt (NamesColon at n) sound = tt
+whole_spelt (NamesText so_far) sound = tt
 whole_spelt DependsFirst sound = tt
 whole_spelt (DependsSecond a) sound = tt
 whole_spelt SourceName sound = tt
@@ -698,10 +773,11 @@ whole_spelt (CellClose aim cell) sound = tt
 
 -- the first word of a declaration
 pub heading_says : (t : Token) (word : Word) → t.word ≡ word
-    → IfSome (opening (heading_of word)) (λ now. (s : Sign) × IsSign s t × Sound now × (said now ≡ s ∷ []))
+    → IfSome (opening t.from (heading_of word)) (λ now. (s : Sign) × IsSign s t × Sound now × (said now ≡ s ∷ []))
 unfolding heading_of
 heading_says t (w.Reserved r.Cell) e = (Any (w.Reserved r.Cell), e, tt, refl)
 heading_says t (w.Reserved r.Tag) e = (Any (w.Reserved r.Tag), e, tt, refl)
+heading_says t (w.Name contextual.Names) e = (At (w.Name contextual.Names) t.from, (e, refl), tt, refl)
 heading_says t (w.Reserved r.Depends) e = (Any (w.Reserved r.Depends), e, tt, refl)
 heading_says t (w.Reserved r.On) e = (Any (w.Reserved r.On), e, tt, refl)
 heading_says t (w.Reserved r.Source) e = (Any (w.Reserved r.Source), e, tt, refl)
@@ -770,8 +846,8 @@ goes_says end job found now t tokens (Goes next) sound h ih e =
     spells_more job (said now) next h.0 t tokens found h.1 h.3 (ih job next h.2 e)
 goes_says end job found now t tokens Deep sound h ih e = cc
 goes_says end job found now t tokens Refused sound h ih e =
-    declares_says t.from job found (said now) t tokens (whole now) (opening (heading_of t.word)) (λ job now. run end job now tokens) (whole_spelt now sound)
-    (heading_says t t.word refl) ih e
+    declares_says t.from job found (said now) t tokens (whole now) (opening t.from (heading_of t.word)) (λ job now. run end job now tokens)
+    (whole_spelt now sound) (heading_says t t.word refl) ih e
 
 pub run_says : (end : ℕ) (found : Declarations) (tokens : List Token) (job : Declarations) (now : Now) → Sound now → run end job now tokens ≡ Found found
     → Spells (declarations_signs job ++ said now) tokens found

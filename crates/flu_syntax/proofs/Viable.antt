@@ -1,5 +1,5 @@
 -- What is begun can be ended, so an unexpected token is the first with which the tokens can no longer go on.
-use Rattle.std.proofs.Common.{◌≡◌, ℕ, List, [], ◌∷◌, ◌++◌, Option, Some, None, pos, refl, sym, ap, ◌∙◌}
+use Rattle.std.proofs.Common.{◌≡◌, ℕ, Bool, List, [], ◌∷◌, ◌++◌, Option, Some, None, pos, refl, sym, ap, ◌∙◌}
 use Rattle.flu_text.specs.declared.words.Token.{Token}
 use Rattle.flu_text.specs.declared.words.Word.{Word}
 use Rattle.flu_text.specs.declared.words.Word.TheVariants as w
@@ -10,6 +10,8 @@ use Rattle.flu_text.specs.declared.written.WrittenSpan.{WrittenSpan}
 use Rattle.flu_text.specs.declared.written.WrittenNumber.{WrittenNumber}
 use Rattle.flu_syntax.specs.declared.tree.WrittenKey.TheVariants as key
 use Rattle.flu_syntax.specs.declared.tree.WrittenRef.{WrittenRef}
+use Rattle.flu_syntax.specs.declared.tree.WrittenCells.{WrittenCells}
+use Rattle.flu_syntax.specs.declared.tree.WrittenItem.{WrittenItem}
 use Rattle.flu_text.specs.declared.written.WrittenKeys.{WrittenKeys}
 use Rattle.flu_text.specs.declared.written.WrittenKeys.TheVariants as keys
 use Rattle.flu_syntax.specs.Tree.{Tree, NumberTree, ParenTree, NegTree, NotTree, TwoTree, Deed, Emits, Flushes, Declarations}
@@ -21,7 +23,7 @@ use Rattle.flu_syntax.specs.Machine.{SlackNumber, SourceColon, TagKind, TagKeys,
 use Rattle.flu_syntax.specs.Machine.{DeedEnd, ActionEnd, EmitText, FlushFamily, FlushText, CellFamily, CellKeys, CellKey, CellClose, InExpression, Next, Goes}
 use Rattle.flu_syntax.specs.Machine.{Deep, Refused, operator_of, start_of, doing_of, sort_of, value_of, level_behind, behind, named, source_of, listed}
 use Rattle.flu_syntax.specs.Machine.{heading_of, opening, expression_step, step, whole, Verdict, Found, Unexpected, TooDeep, goes_on, next_declaration, ended}
-use Rattle.flu_syntax.specs.Machine.{run}
+use Rattle.flu_syntax.specs.Machine.{run, CellBy, CellList, TagBy, TagList, NamesName, NamesColon, NamesText, NamesEnd, Listing, listing_of, texted}
 use Rattle.flu_text.specs.Signs.{place_of}
 use Rattle.flu_syntax.specs.Grammar.{op_level}
 use Rattle.flu_syntax.specs.Reading.{no_actions}
@@ -192,6 +194,23 @@ tag_form_can : (end : ℕ) (job : Declarations) (name : WrittenSpan) → Can end
 unfolding step value_of whole
 tag_form_can end job name = via end job _ (Declared _) (token (w.Reserved r.Int)) refl (whole_can end job _ (Declared _) refl)
 
+sort_can : (end : ℕ) (job : Declarations) (name : WrittenSpan) (cells : WrittenCells) → Can end job (CellSort name cells)
+unfolding step sort_of whole
+sort_can end job name cells = via end job _ (Declared _) (token (w.Reserved r.Sum)) refl (whole_can end job _ (Declared _) refl)
+
+value_can : (end : ℕ) (job : Declarations) (name : WrittenSpan) (keyed : Bool) (item : Option WrittenItem) → Can end job (TagValue name keyed item)
+unfolding step value_of whole
+value_can end job name keyed item = via end job _ (Declared _) (token (w.Reserved r.Int)) refl (whole_can end job _ (Declared _) refl)
+
+names_can : (end : ℕ) (job : Declarations) (so_far : Listing) → Can end job (NamesText so_far)
+unfolding step whole
+names_can end job so_far =
+    via end job _ (NamesEnd (texted so_far (span_of (token w.Text)))) (token w.Text) refl (whole_can end job _ (NamesEnd _) refl)
+
+names_colon_can : (end : ℕ) (job : Declarations) (at : ℕ) (name : WrittenSpan) → Can end job (NamesColon at name)
+unfolding step
+names_colon_can end job at name = via end job _ (NamesText (listing_of at name)) (token (w.Mark m.Colon)) refl (names_can end job _)
+
 how_can : (end : ℕ) (job : Declarations) (a b : WrittenSpan) → Can end job (DependsHow a b)
 unfolding whole
 how_can end job a b = whole_can end job _ (DependsHow a b) refl
@@ -208,11 +227,19 @@ can end job Start = whole_can end job _ Start refl
 can end job (Declared d) = whole_can end job _ (Declared d) refl
 can end job CellName = via end job _ (CellForm (span_of a_name)) a_name refl (form_can end job _)
 can end job (CellForm name) = form_can end job name
-can end job (CellSort name keyed) = via end job _ (Declared _) (token (w.Reserved r.Sum)) refl (whole_can end job _ (Declared _) refl)
+can end job (CellBy name) = via end job _ (Declared _) (token (w.Reserved r.Sum)) refl (whole_can end job _ (Declared _) refl)
+can end job (CellList name at) = via end job _ (CellSort name _) a_name refl (sort_can end job _ _)
+can end job (CellSort name cells) = sort_can end job name cells
 can end job TagName = via end job _ (TagForm (span_of a_name)) a_name refl (tag_form_can end job _)
 can end job (TagForm name) = tag_form_can end job name
 can end job (TagItem name keyed) = via end job _ (Declared _) (token (w.Reserved r.Int)) refl (whole_can end job _ (Declared _) refl)
-can end job (TagValue name keyed item) = via end job _ (Declared _) (token (w.Reserved r.Int)) refl (whole_can end job _ (Declared _) refl)
+can end job (TagBy name keyed at) = via end job _ (Declared _) (token (w.Reserved r.Int)) refl (whole_can end job _ (Declared _) refl)
+can end job (TagList name keyed at by_at) = via end job _ (TagValue name keyed _) a_name refl (value_can end job _ _ _)
+can end job (TagValue name keyed item) = value_can end job name keyed item
+can end job (NamesName at) = via end job _ (NamesColon at (span_of a_name)) a_name refl (names_colon_can end job at _)
+can end job (NamesColon at name) = names_colon_can end job at name
+can end job (NamesText so_far) = names_can end job so_far
+can end job (NamesEnd so_far) = whole_can end job _ (NamesEnd so_far) refl
 can end job DependsFirst = via end job _ (DependsSecond (span_of a_name)) a_name refl (second_can end job _)
 can end job (DependsSecond a) = second_can end job a
 can end job (DependsHow a b) = how_can end job a b
@@ -322,13 +349,13 @@ pub goes_at : (end : ℕ) (job : Declarations) (now : Now) (t : Token) (n : Next
 goes_at end job now t n tokens e = unrolled end job now t tokens ∙ ap (λ (x : Next). goes_on t job now x (λ next other. run end next other tokens)) e
 
 pub declares_at : (end : ℕ) (job : Declarations) (now : Now) (t : Token) (o : Option Declarations) (p : Option Now) (tokens : List Token) → step now t ≡ Refused
-    → whole now ≡ o → opening (heading_of t.word) ≡ p
+    → whole now ≡ o → opening t.from (heading_of t.word) ≡ p
     → run end job now (t ∷ tokens) ≡ next_declaration t.from job o p (λ next other. run end next other tokens)
 declares_at end job now t o p tokens s e h = goes_at end job now t Refused tokens s ∙ (rw (e, h) refl)
 
 by_declaration : (end place : ℕ) (job : Declarations) (now : Now) (t : Token) (tokens : List Token) → run end job now (t ∷ tokens) ≡ Unexpected place
     → ((next : Declarations) (other : Now) → run end next other tokens ≡ Unexpected place → IsFirst end next other tokens place)
-    → step now t ≡ Refused → (o : Option Declarations) → whole now ≡ o → (p : Option Now) → opening (heading_of t.word) ≡ p
+    → step now t ≡ Refused → (o : Option Declarations) → whole now ≡ o → (p : Option Now) → opening t.from (heading_of t.word) ≡ p
     → IsFirst end job now (t ∷ tokens) place
 by_declaration end place job now t tokens e ih s None a p b =
     here_it_is end place job now t tokens (same_place t.from place (run end job now (t ∷ tokens)) (declares_at end job now t None p tokens s a b) e)
@@ -347,7 +374,7 @@ by_step end place job now t tokens e ih (Goes other) s =
     later end place job job now other t tokens (λ more. goes_at end job now t (Goes other) more s)
     (ih job other (sym (goes_at end job now t (Goes other) tokens s) ∙ e))
 by_step end place job now t tokens e ih Deep s = absurd (let both : TooDeep ≡ Unexpected place = sym (goes_at end job now t Deep tokens s) ∙ e in cc)
-by_step end place job now t tokens e ih Refused s = by_declaration end place job now t tokens e ih s (whole now) refl (opening (heading_of t.word)) refl
+by_step end place job now t tokens e ih Refused s = by_declaration end place job now t tokens e ih s (whole now) refl (opening t.from (heading_of t.word)) refl
 
 pub first_of_all : (end place : ℕ) (tokens : List Token) (job : Declarations) (now : Now) → run end job now tokens ≡ Unexpected place
     → IsFirst end job now tokens place

@@ -12,14 +12,20 @@ use Rattle.flu_syntax.specs.declared.tree.WrittenRef.{WrittenRef}
 use Rattle.flu_text.specs.declared.written.WrittenKeys.{WrittenKeys}
 use Rattle.flu_text.specs.declared.written.WrittenKeys.TheVariants as keys
 use Rattle.flu_syntax.specs.declared.tree.WrittenTag.{WrittenTag}
+use Rattle.flu_syntax.specs.declared.tree.WrittenBy.{WrittenBy}
+use Rattle.flu_syntax.specs.declared.tree.WrittenCells.{WrittenCells}
+use Rattle.flu_syntax.specs.declared.tree.WrittenCells.TheVariants as cells
+use Rattle.flu_syntax.specs.declared.tree.WrittenItem.{WrittenItem}
 use Rattle.flu_syntax.specs.declared.tree.WrittenUnit.{WrittenUnit}
 use Rattle.flu_syntax.specs.declared.tree.WrittenHead.{WrittenHead}
 use Rattle.flu_syntax.specs.Tree.{Tree, NumberTree, ValueTree, KeyTree, TimeTree, ReadTree, HasTree, ParenTree, NegTree, NotTree, TwoTree, Deed}
-use Rattle.flu_syntax.specs.Tree.{Writes, Clears, Emits, Flushes, Action, Declaration, Cell, Tag, Depends, On, Source, Declarations, Job}
-use Rattle.flu_text.specs.Signs.{Sign, Any, separated, keys_signs}
+use Rattle.flu_syntax.specs.Tree.{Writes, Clears, Emits, Flushes, Action, Declaration, Cell, Tag, Names, Depends, On, Source, Declarations, Job}
+use Rattle.flu_text.specs.Signs.{Sign, Any, text, separated, keys_signs}
+use Rattle.flu_syntax.specs.Grammar.{sort_word, value_word, keyed_signs, list_signs, cells_signs, item_signs}
 use Rattle.flu_syntax.specs.Grammar.{key_signs, cell_signs, spelled, deed_signs, guard_signs, action_signs, tag_signs}
 use Rattle.flu_syntax.specs.Grammar.{rate_signs, slack_signs, iso_signs, head_signs, declaration_signs, declarations_signs, job_signs}
 use Rattle.flu_text.specs.Signs.{Stands}
+use Rattle.flu_syntax.specs.Words.{list_words, cells_words, item_words}
 use Rattle.flu_syntax.specs.Words.{key_words, cell_words, tree_words, deed_words, guard_words, action_words}
 use Rattle.flu_syntax.specs.Words.{keys_words, tag_words, number_words, declaration_words, unit_words, head_words, job_words}
 use Rattle.flu_text.specs.Laws.{SignsStand}
@@ -105,9 +111,25 @@ module _ (P : Sign → Type 0) where
   head_has None all = tt
   head_has (Some head) all = (all.1.0, unit_has head.iso all.1.1)
 
+  cells_have : (cells : WrittenCells) → AllByRecursion P (cells_signs cells) → AllByRecursion P (cells_words cells)
+  cells_have cells.Alone all = tt
+  cells_have cells.Keyed all = tt
+  cells_have (cells.By by) all = all.1.1
+
+  list_has : (by : Option WrittenBy) → AllByRecursion P (list_signs by) → AllByRecursion P (list_words by)
+  list_has None all = tt
+  list_has (Some by) all = all.1
+
+  item_has : (item : Option WrittenItem) → AllByRecursion P (item_signs item) → AllByRecursion P (item_words item)
+  item_has None all = tt
+  item_has (Some item) all = list_has item.by all.1
+
   declaration_has : (d : Declaration) → AllByRecursion P (declaration_signs d) → AllByRecursion P (declaration_words d)
-  declaration_has (Cell n keyed sort) all = (all.1.0, tt)
-  declaration_has (Tag n keyed item has_value) all = (all.1.0, tt)
+  declaration_has (Cell n cells s) all = (all.1.0, cells_have cells (all_front P (cells_signs cells) (Any (sort_word s) ∷ []) all.1.1))
+  declaration_has (Tag n keyed item has_value) all =
+      let both = all_front P (keyed_signs keyed ++ item_signs item) (Any (value_word has_value) ∷ []) all.1.1 in
+      (all.1.0, item_has item (all_back P (keyed_signs keyed) (item_signs item) both))
+  declaration_has (Names at n texts) all = (all.1.0, separated_items (w.Mark m.Comma) text text (λ x has. has) texts all.1.1.1)
   declaration_has (Depends a b relation) all = (all.1.0, (all.1.1.0, tt))
   declaration_has (On kind actions) all = (all.1.0, separated_items (w.Mark m.Semicolon) action_signs action_words action_has actions all.1.1.1)
   declaration_has (Source n file rate slack tags) all =

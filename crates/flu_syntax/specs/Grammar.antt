@@ -19,12 +19,16 @@ use Rattle.flu_syntax.specs.declared.tree.WrittenKey.{WrittenKey}
 use Rattle.flu_syntax.specs.declared.tree.WrittenKey.TheVariants as key
 use Rattle.flu_syntax.specs.declared.tree.WrittenRef.{WrittenRef}
 use Rattle.flu_syntax.specs.declared.tree.WrittenTag.{WrittenTag}
+use Rattle.flu_syntax.specs.declared.tree.WrittenBy.{WrittenBy}
+use Rattle.flu_syntax.specs.declared.tree.WrittenCells.{WrittenCells}
+use Rattle.flu_syntax.specs.declared.tree.WrittenCells.TheVariants as cells
+use Rattle.flu_syntax.specs.declared.tree.WrittenItem.{WrittenItem}
 use Rattle.flu_syntax.specs.declared.tree.WrittenRelation.{WrittenRelation}
 use Rattle.flu_syntax.specs.declared.tree.WrittenRelation.TheVariants as relation
 use Rattle.flu_syntax.specs.declared.tree.WrittenUnit.{WrittenUnit}
 use Rattle.flu_syntax.specs.declared.tree.WrittenHead.{WrittenHead}
 use Rattle.flu_syntax.specs.Tree.{Tree, NumberTree, ValueTree, KeyTree, TimeTree, ReadTree, HasTree, ParenTree, NegTree, NotTree, TwoTree, Deed, Writes, Clears}
-use Rattle.flu_syntax.specs.Tree.{Emits, Flushes, Action, Declaration, Cell, Tag, Depends, On, Source, Declarations, Job}
+use Rattle.flu_syntax.specs.Tree.{Emits, Flushes, Action, Declaration, Cell, Tag, Names, Depends, On, Source, Declarations, Job}
 
 -- ---- the words
 
@@ -171,10 +175,25 @@ abbrev pub keyed_signs : Bool → List Sign
 keyed_signs true = Any (w.Reserved r.Keyed) ∷ []
 keyed_signs false = []
 
--- ["item"], a name that spells it
-abbrev pub item_signs : Option ℕ → List Sign
+-- "by" NAME, where `by` is a name that spells it
+abbrev pub by_signs : WrittenBy → List Sign
+by_signs by = At (w.Name contextual.By) by.at ∷ name by.list
+
+-- ["by" NAME]
+abbrev pub list_signs : Option WrittenBy → List Sign
+list_signs None = []
+list_signs (Some by) = by_signs by
+
+-- [ "keyed" [ "by" NAME ] ]
+abbrev pub cells_signs : WrittenCells → List Sign
+cells_signs cells.Alone = []
+cells_signs cells.Keyed = Any (w.Reserved r.Keyed) ∷ []
+cells_signs (cells.By by) = Any (w.Reserved r.Keyed) ∷ by_signs by
+
+-- [ "item" [ "by" NAME ] ], where `item` is a name that spells it
+abbrev pub item_signs : Option WrittenItem → List Sign
 item_signs None = []
-item_signs (Some at) = At (w.Name contextual.Item) at ∷ []
+item_signs (Some item) = At (w.Name contextual.Item) item.at ∷ list_signs item.by
 
 -- ["same" | "all"]
 abbrev pub relation_signs : WrittenRelation → List Sign
@@ -192,13 +211,15 @@ abbrev pub slack_signs : Option WrittenNumber → List Sign
 slack_signs None = []
 slack_signs (Some n) = Any (w.Reserved r.Slack) ∷ number n
 
--- "cell" NAME ["keyed"] ("sum" | "max" | "last") | "tag" NAME ["keyed"] ["item"] ("int" | "none") | "depends" NAME NAME ["same" | "all"]
---     | "on" NAME ":" action { ";" action }
+-- "cell" NAME [ "keyed" [ "by" NAME ] ] ("sum" | "max" | "last") | "tag" NAME ["keyed"] [ "item" [ "by" NAME ] ] ("int" | "none")
+--     | "names" NAME ":" TEXT { "," TEXT }, where `names` is a name that spells it
+--     | "depends" NAME NAME ["same" | "all"] | "on" NAME ":" action { ";" action }
 --     | "source" NAME TEXT ["rate" NUMBER] ["slack" NUMBER] ":" tagref { "," tagref }
 abbrev pub declaration_signs : Declaration → List Sign
-declaration_signs (Cell n keyed s) = Any (w.Reserved r.Cell) ∷ (name n ++ keyed_signs keyed ++ Any (sort_word s) ∷ [])
+declaration_signs (Cell n cells s) = Any (w.Reserved r.Cell) ∷ (name n ++ cells_signs cells ++ Any (sort_word s) ∷ [])
 declaration_signs (Tag n keyed item has_value) =
     Any (w.Reserved r.Tag) ∷ (name n ++ keyed_signs keyed ++ item_signs item ++ Any (value_word has_value) ∷ [])
+declaration_signs (Names at n texts) = At (w.Name contextual.Names) at ∷ (name n ++ Any (w.Mark m.Colon) ∷ separated (w.Mark m.Comma) text texts)
 declaration_signs (Depends a b how) = Any (w.Reserved r.Depends) ∷ (name a ++ name b ++ relation_signs how)
 declaration_signs (On kind actions) = Any (w.Reserved r.On) ∷ (name kind ++ Any (w.Mark m.Colon) ∷ separated (w.Mark m.Semicolon) action_signs actions)
 declaration_signs (Source n file rate slack tags) =
@@ -206,8 +227,9 @@ declaration_signs (Source n file rate slack tags) =
     (name n ++ text file ++ rate_signs rate ++ slack_signs slack ++ Any (w.Mark m.Colon) ∷ separated (w.Mark m.Comma) tag_signs tags)
 
 abbrev pub IsDeclaration : ℕ → Declaration → Type 0
-IsDeclaration most (Cell n keyed s) = Unit {0}
+IsDeclaration most (Cell n cells s) = Unit {0}
 IsDeclaration most (Tag n keyed item has_value) = Unit {0}
+IsDeclaration most (Names at n texts) = texts ≢ []
 IsDeclaration most (Depends a b how) = Unit {0}
 IsDeclaration most (On kind actions) = (actions ≢ []) × AreActions most actions
 IsDeclaration most (Source n file rate slack tags) = tags ≢ []

@@ -22,6 +22,10 @@ use Rattle.flu_syntax.specs.declared.tree.WrittenRef.{WrittenRef}
 use Rattle.flu_text.specs.declared.written.WrittenKeys.{WrittenKeys}
 use Rattle.flu_text.specs.declared.written.WrittenKeys.TheVariants as keys
 use Rattle.flu_syntax.specs.declared.tree.WrittenTag.{WrittenTag}
+use Rattle.flu_syntax.specs.declared.tree.WrittenBy.{WrittenBy}
+use Rattle.flu_syntax.specs.declared.tree.WrittenCells.{WrittenCells}
+use Rattle.flu_syntax.specs.declared.tree.WrittenCells.TheVariants as cells
+use Rattle.flu_syntax.specs.declared.tree.WrittenItem.{WrittenItem}
 use Rattle.flu_syntax.specs.declared.tree.WrittenRelation.TheVariants as relation
 use Rattle.flu_syntax.specs.declared.tree.WrittenUnit.{WrittenUnit}
 use Rattle.flu_syntax.specs.declared.tree.WrittenHead.{WrittenHead}
@@ -34,7 +38,7 @@ use Rattle.flu_syntax.specs.declared.tokens.Doing.TheVariants as doing
 use Rattle.flu_syntax.specs.declared.tokens.Heading.{Heading}
 use Rattle.flu_syntax.specs.declared.tokens.Heading.TheVariants as heading
 use Rattle.flu_syntax.specs.Tree.{Tree, NumberTree, ValueTree, KeyTree, TimeTree, ReadTree, HasTree, ParenTree, NegTree, NotTree, TwoTree, Deed, Writes, Clears}
-use Rattle.flu_syntax.specs.Tree.{Emits, Flushes, Action, Declaration, Cell, Tag, Depends, On, Source, Declarations, Job}
+use Rattle.flu_syntax.specs.Tree.{Emits, Flushes, Action, Declaration, Cell, Tag, Names, Depends, On, Source, Declarations, Job}
 use Rattle.flu_syntax.specs.Grammar.{op_level}
 
 abbrev pub cell_of : WrittenSpan → WrittenKey → WrittenRef
@@ -57,6 +61,12 @@ pub record Tags : Type 0 where
   pub rate : Option WrittenNumber
   pub slack : Option WrittenNumber
   pub all : List WrittenTag
+
+-- a list of names with its texts so far
+pub record Listing : Type 0 where
+  pub at : ℕ
+  pub name : WrittenSpan
+  pub texts : List WrittenSpan
 
 -- where an expression is: the amount of an action, or its guard; `at` is the place of the action's first token
 pub data Context : Type 0 where
@@ -92,15 +102,24 @@ pub data Now : Type 0 where
   Start : Now
   -- one is there, and nothing more of it may follow
   Declared : (d : Declaration) → Now
-  -- after `cell`, after its name, after `keyed`
+  -- after `cell`, after its name, after `keyed`, after `by`, after the list's name
   CellName : Now
   CellForm : (name : WrittenSpan) → Now
-  CellSort : (name : WrittenSpan) (keyed : Bool) → Now
-  -- after `tag`, after its name, after `keyed`, after `item`
+  CellBy : (name : WrittenSpan) → Now
+  CellList : (name : WrittenSpan) (at : ℕ) → Now
+  CellSort : (name : WrittenSpan) (cells : WrittenCells) → Now
+  -- after `tag`, after its name, after `keyed`, after `item`, after `by`, after the list's name
   TagName : Now
   TagForm : (name : WrittenSpan) → Now
   TagItem : (name : WrittenSpan) (keyed : Bool) → Now
-  TagValue : (name : WrittenSpan) (keyed : Bool) (item : Option ℕ) → Now
+  TagBy : (name : WrittenSpan) (keyed : Bool) (at : ℕ) → Now
+  TagList : (name : WrittenSpan) (keyed : Bool) (at by_at : ℕ) → Now
+  TagValue : (name : WrittenSpan) (keyed : Bool) (item : Option WrittenItem) → Now
+  -- after `names`, after the list's name, where a text is expected, after it
+  NamesName : (at : ℕ) → Now
+  NamesColon : (at : ℕ) (name : WrittenSpan) → Now
+  NamesText : (so_far : Listing) → Now
+  NamesEnd : (so_far : Listing) → Now
   -- after `depends`, after its first name, after its second name
   DependsFirst : Now
   DependsSecond : (a : WrittenSpan) → Now
@@ -330,30 +349,57 @@ sort_of (w.Reserved r.Max) = Some sort.Max
 sort_of (w.Reserved r.Last) = Some sort.Last
 sort_of _ = None
 
-abbrev pub sort_step : WrittenSpan → Bool → Option Sort → Next
-sort_step name keyed None = Refused
-sort_step name keyed (Some s) = Goes (Declared (Cell name keyed s))
+abbrev pub by_of : ℕ → WrittenSpan → WrittenBy
+by_of at list = record { at = at; list = list }
+
+abbrev pub item_of : ℕ → Option WrittenBy → WrittenItem
+item_of at by = record { at = at; by = by }
+
+abbrev pub sort_step : WrittenSpan → WrittenCells → Option Sort → Next
+sort_step name cells None = Refused
+sort_step name cells (Some s) = Goes (Declared (Cell name cells s))
 
 abbrev pub cell_step : WrittenSpan → Word → Next
-cell_step name (w.Reserved r.Keyed) = Goes (CellSort name true)
-cell_step name word = sort_step name false (sort_of word)
+cell_step name (w.Reserved r.Keyed) = Goes (CellBy name)
+cell_step name word = sort_step name cells.Alone (sort_of word)
+
+abbrev pub cell_by_step : WrittenSpan → Token → Word → Next
+cell_by_step name t (w.Name contextual.By) = Goes (CellList name t.from)
+cell_by_step name t word = sort_step name cells.Keyed (sort_of word)
 
 unfoldable pub value_of : Word → Option Bool
 value_of (w.Reserved r.Int) = Some true
 value_of (w.Reserved r.None) = Some false
 value_of _ = None
 
-abbrev pub value_step : WrittenSpan → Bool → Option ℕ → Option Bool → Next
+abbrev pub value_step : WrittenSpan → Bool → Option WrittenItem → Option Bool → Next
 value_step name keyed item None = Refused
 value_step name keyed item (Some has_value) = Goes (Declared (Tag name keyed item has_value))
 
 abbrev pub item_step : WrittenSpan → Bool → Token → Word → Next
-item_step name keyed t (w.Name contextual.Item) = Goes (TagValue name keyed (Some t.from))
+item_step name keyed t (w.Name contextual.Item) = Goes (TagBy name keyed t.from)
 item_step name keyed t word = value_step name keyed None (value_of word)
+
+abbrev pub tag_by_step : WrittenSpan → Bool → ℕ → Token → Word → Next
+tag_by_step name keyed at t (w.Name contextual.By) = Goes (TagList name keyed at t.from)
+tag_by_step name keyed at t word = value_step name keyed (Some (item_of at None)) (value_of word)
 
 abbrev pub tag_step : WrittenSpan → Token → Word → Next
 tag_step name t (w.Reserved r.Keyed) = Goes (TagItem name true)
 tag_step name t word = item_step name false t word
+
+abbrev pub listing_of : ℕ → WrittenSpan → Listing
+listing_of at name = record { at = at; name = name; texts = [] }
+
+abbrev pub texted : Listing → WrittenSpan → Listing
+texted so_far text = record { at = so_far.at; name = so_far.name; texts = so_far.texts ++ text ∷ [] }
+
+abbrev pub names_line : Listing → Declarations
+names_line so_far = Names so_far.at so_far.name so_far.texts ∷ []
+
+abbrev pub texts_step : Listing → Word → Next
+texts_step so_far (w.Mark m.Comma) = Goes (NamesText so_far)
+texts_step so_far _ = Refused
 
 abbrev pub how_step : WrittenSpan → WrittenSpan → Token → Word → Next
 how_step a b t (w.Reserved r.Same) = Goes (Declared (Depends a b (relation.Same t.from)))
@@ -412,11 +458,19 @@ step Start t = Refused
 step (Declared d) t = Refused
 step CellName t = on_name t.word (CellForm (span_of t))
 step (CellForm name) t = cell_step name t.word
-step (CellSort name keyed) t = sort_step name keyed (sort_of t.word)
+step (CellBy name) t = cell_by_step name t t.word
+step (CellList name at) t = on_name t.word (CellSort name (cells.By (by_of at (span_of t))))
+step (CellSort name cells) t = sort_step name cells (sort_of t.word)
 step TagName t = on_name t.word (TagForm (span_of t))
 step (TagForm name) t = tag_step name t t.word
 step (TagItem name keyed) t = item_step name keyed t t.word
+step (TagBy name keyed at) t = tag_by_step name keyed at t t.word
+step (TagList name keyed at by_at) t = on_name t.word (TagValue name keyed (Some (item_of at (Some (by_of by_at (span_of t))))))
 step (TagValue name keyed item) t = value_step name keyed item (value_of t.word)
+step (NamesName at) t = on_name t.word (NamesColon at (span_of t))
+step (NamesColon at name) t = on_colon t.word (NamesText (listing_of at name))
+step (NamesText so_far) t = on_text t.word (NamesEnd (texted so_far (span_of t)))
+step (NamesEnd so_far) t = texts_step so_far t.word
 step DependsFirst t = on_name t.word (DependsSecond (span_of t))
 step (DependsSecond a) t = on_name t.word (DependsHow a (span_of t))
 step (DependsHow a b) t = how_step a b t t.word
@@ -476,6 +530,7 @@ named_whole (ToTest context level frames at) cell = done_whole context (HasTree 
 unfoldable pub whole : Now → Option Declarations
 whole Start = Some []
 whole (Declared d) = Some (d ∷ [])
+whole (NamesEnd so_far) = Some (names_line so_far)
 whole (DependsHow a b) = Some (Depends a b relation.None ∷ [])
 whole (TagKeys so_far kind) = Some (source_line (listed so_far (tag_of kind keys.Alone)))
 whole (TagEnd so_far) = Some (source_line so_far)
@@ -489,18 +544,21 @@ whole _ = None
 unfoldable pub heading_of : Word → Heading
 heading_of (w.Reserved r.Cell) = heading.Cell
 heading_of (w.Reserved r.Tag) = heading.Tag
+heading_of (w.Name contextual.Names) = heading.Names
 heading_of (w.Reserved r.Depends) = heading.Depends
 heading_of (w.Reserved r.On) = heading.On
 heading_of (w.Reserved r.Source) = heading.Source
 heading_of _ = heading.Other
 
-abbrev pub opening : Heading → Option Now
-opening heading.Cell = Some CellName
-opening heading.Tag = Some TagName
-opening heading.Depends = Some DependsFirst
-opening heading.On = Some OnKind
-opening heading.Source = Some SourceName
-opening heading.Other = None
+-- how far a declaration is after its first word, which is at this place
+abbrev pub opening : ℕ → Heading → Option Now
+opening at heading.Cell = Some CellName
+opening at heading.Tag = Some TagName
+opening at heading.Names = Some (NamesName at)
+opening at heading.Depends = Some DependsFirst
+opening at heading.On = Some OnKind
+opening at heading.Source = Some SourceName
+opening at heading.Other = None
 
 -- ---- all declarations
 
@@ -522,7 +580,7 @@ next_declaration place before (Some one) (Some now) more = more (before ++ one) 
 abbrev pub goes_on : Token → Declarations → Now → Next → (Declarations → Now → Verdict Declarations) → Verdict Declarations
 goes_on t before now (Goes next) more = more before next
 goes_on t before now Deep more = TooDeep
-goes_on t before now Refused more = next_declaration t.from before (whole now) (opening (heading_of t.word)) more
+goes_on t before now Refused more = next_declaration t.from before (whole now) (opening t.from (heading_of t.word)) more
 
 abbrev pub ended : ℕ → Declarations → Option Declarations → Verdict Declarations
 ended end before None = Unexpected end

@@ -3,7 +3,6 @@ use Rattle.std.specs.Prelude.{◌≡◌, ◌≢◌, ℕ, ℤ, Bool, true, false,
 use Rattle.flu_text.specs.declared.words.Word.{Word}
 use Rattle.flu_text.specs.declared.words.Word.TheVariants as w
 use Rattle.flu_names.specs.declared.reserved.Reserved.TheVariants as r
-use Rattle.flu_text.specs.declared.words.Contextual.TheVariants as contextual
 use Rattle.flu_text.specs.declared.words.Token.{Token}
 use Rattle.flu_model.specs.declared.jobs.Op.{Op}
 use Rattle.flu_syntax.specs.declared.fault.SyntaxFault.{SyntaxFault}
@@ -15,17 +14,22 @@ use Rattle.flu_syntax.specs.declared.tree.WrittenKey.{WrittenKey}
 use Rattle.flu_syntax.specs.declared.tree.WrittenRef.{WrittenRef}
 use Rattle.flu_text.specs.declared.written.WrittenKeys.{WrittenKeys}
 use Rattle.flu_syntax.specs.declared.tree.WrittenTag.{WrittenTag}
+use Rattle.flu_syntax.specs.declared.tree.WrittenBy.{WrittenBy}
+use Rattle.flu_syntax.specs.declared.tree.WrittenCells.{WrittenCells}
+use Rattle.flu_syntax.specs.declared.tree.WrittenCells.TheVariants as cells
+use Rattle.flu_syntax.specs.declared.tree.WrittenItem.{WrittenItem}
 use Rattle.flu_syntax.specs.declared.tree.WrittenRelation.{WrittenRelation}
 use Rattle.flu_syntax.specs.declared.tree.WrittenUnit.{WrittenUnit}
 use Rattle.flu_syntax.specs.declared.tree.WrittenHead.{WrittenHead}
-use Rattle.flu_syntax.specs.Tree.{Tree, ParenTree, Deed, Action, Declaration, Depends, On, Source, Declarations}
+use Rattle.flu_syntax.specs.Tree.{Tree, ParenTree, Deed, Action, Declaration, Names, Depends, On, Source, Declarations}
 use Rattle.flu_text.specs.Signs.{place_of}
 use Rattle.flu_syntax.specs.Grammar.{op_level}
 use Rattle.flu_text.specs.Signs.{is_name_word, span_of, number_of}
 use Rattle.flu_syntax.specs.Machine.{Now, Start, CellFamily, CellKeys, CellKey, CellClose, InExpression, ActionStart, ActionEnd, DeedEnd, TagKind, TagKeys}
 use Rattle.flu_syntax.specs.Machine.{TagMore, TagClose, TagEnd, SourceRate, SourceSlack, SourceColon, DependsHow, Actions, Tags, Context, Aim, ToWrite, Frame}
 use Rattle.flu_syntax.specs.Machine.{ParenFrame, RightFrame, Mode, Want, Have, Done, opens, named, cell_of, tag_of, listed, source_of, acted, Verdict, Found}
-use Rattle.flu_syntax.specs.Machine.{Unexpected, TooDeep, run, verdict, with_head, head_of, behind_number}
+use Rattle.flu_syntax.specs.Machine.{Unexpected, TooDeep, run, verdict, with_head, head_of, behind_number, CellForm, CellBy, CellSort, TagItem, TagBy}
+use Rattle.flu_syntax.specs.Machine.{TagValue, NamesText, item_of, listing_of}
 
 -- the fault is the verdict, unless memory runs out
 abbrev pub Tells : {X : Type 0} → SyntaxFault → Verdict X → Type 0
@@ -210,10 +214,38 @@ abbrev pub TakesKeyed : List Token → Bool → List Token → Type 0
 TakesKeyed tokens true rest = (t : Token) × IsFirst (w.Reserved r.Keyed) tokens t rest
 TakesKeyed tokens false rest = (rest ≡ tokens) × NotFirst (w.Reserved r.Keyed) tokens
 
--- whether `item` is here, by its place, and what comes after it
-abbrev pub TakesItem : List Token → Option ℕ → List Token → Type 0
-TakesItem tokens (Some at) rest = (t : Token) × IsFirst (w.Name contextual.Item) tokens t rest × (at ≡ t.from)
-TakesItem tokens None rest = (rest ≡ tokens) × NotFirst (w.Name contextual.Item) tokens
+-- the cells of a family that has one for each key
+abbrev pub keyed_by : Option WrittenBy → WrittenCells
+keyed_by None = cells.Keyed
+keyed_by (Some by) = cells.By by
+
+-- the list that names keys, if one is here
+abbrev pub ReadsKeyedBy : {X : Type 0} → ℕ → List Token → (X → Option WrittenBy) → (X → List Token) → Result X SyntaxFault → Type 0
+ReadsKeyedBy end tokens by rest result =
+    Reads (Declarations × WrittenSpan) end tokens (λ here. (here.0, CellBy here.1)) (λ x here. (here.0, CellSort here.1 (keyed_by (by x)))) rest result
+
+-- the list that names items, if one is here
+abbrev pub ReadsItemBy : {X : Type 0} → ℕ → List Token → (X → Option WrittenBy) → (X → List Token) → Result X SyntaxFault → Type 0
+ReadsItemBy end tokens by rest result =
+    Reads (Declarations × WrittenSpan × Bool × ℕ) end tokens (λ here. (here.0, TagBy here.1 here.2 here.3))
+    (λ x here. (here.0, TagValue here.1 here.2 (Some (item_of here.3 (by x))))) rest result
+
+-- which cells a family has
+abbrev pub ReadsCells : {X : Type 0} → ℕ → List Token → (X → WrittenCells) → (X → List Token) → Result X SyntaxFault → Type 0
+ReadsCells end tokens cells rest result =
+    Reads (Declarations × WrittenSpan) end tokens (λ here. (here.0, CellForm here.1)) (λ x here. (here.0, CellSort here.1 (cells x))) rest result
+
+-- `item` and what follows it, if that is here
+abbrev pub ReadsItem : {X : Type 0} → ℕ → List Token → (X → Option WrittenItem) → (X → List Token) → Result X SyntaxFault → Type 0
+ReadsItem end tokens item rest result =
+    Reads (Declarations × WrittenSpan × Bool) end tokens (λ here. (here.0, TagItem here.1 here.2)) (λ x here. (here.0, TagValue here.1 here.2 (item x)))
+    rest result
+
+-- texts to the end of their declaration
+abbrev pub ReadsTexts : {X : Type 0} → ℕ → List Token → (X → List WrittenSpan) → (X → List Token) → Result X SyntaxFault → Type 0
+ReadsTexts end tokens texts rest result =
+    Reads (Declarations × ℕ × WrittenSpan) end tokens (λ here. (here.0, NamesText (listing_of here.1 here.2)))
+    (λ x here. (here.0 ++ Names here.1 here.2 (texts x) ∷ [], Start)) rest result
 
 -- the relation of two kinds, to the end of their declaration
 abbrev pub ReadsRelation : List Token → WrittenRelation → List Token → Type 0

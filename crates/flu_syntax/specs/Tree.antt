@@ -8,6 +8,8 @@ use Rattle.flu_text.specs.declared.written.WrittenSpan.{WrittenSpan}
 use Rattle.flu_text.specs.declared.written.WrittenNumber.{WrittenNumber}
 use Rattle.flu_syntax.specs.declared.tree.WrittenRef.{WrittenRef}
 use Rattle.flu_syntax.specs.declared.tree.WrittenTag.{WrittenTag}
+use Rattle.flu_syntax.specs.declared.tree.WrittenCells.{WrittenCells}
+use Rattle.flu_syntax.specs.declared.tree.WrittenItem.{WrittenItem}
 use Rattle.flu_syntax.specs.declared.tree.WrittenRelation.{WrittenRelation}
 use Rattle.flu_syntax.specs.declared.tree.WrittenExpr.{WrittenExpr}
 use Rattle.flu_syntax.specs.declared.tree.WrittenExpr.TheVariants.{Number, Value, Key, Time, Read, Has, Paren', Neg', Not', Two'}
@@ -69,15 +71,17 @@ action_of a = record { at = a.at; deed = deed_of a.act; guard = option_map view 
 
 -- a declaration
 pub data Declaration : Type 0 where
-  Cell : (name : WrittenSpan) (keyed : Bool) (sort : Sort) → Declaration
-  Tag : (name : WrittenSpan) (keyed : Bool) (item : Option ℕ) (has_value : Bool) → Declaration
+  Cell : (name : WrittenSpan) (cells : WrittenCells) (sort : Sort) → Declaration
+  Tag : (name : WrittenSpan) (keyed : Bool) (item : Option WrittenItem) (has_value : Bool) → Declaration
+  Names : (at : ℕ) (name : WrittenSpan) (texts : List WrittenSpan) → Declaration
   Depends : (a b : WrittenSpan) (relation : WrittenRelation) → Declaration
   On : (kind : WrittenSpan) (actions : List Action) → Declaration
   Source : (name file : WrittenSpan) (rate slack : Option WrittenNumber) (tags : List WrittenTag) → Declaration
 
 abbrev pub declaration_of : WrittenDeclaration → Declaration
-declaration_of (declaration.Cell name keyed sort) = Cell name keyed sort
+declaration_of (declaration.Cell name cells sort) = Cell name cells sort
 declaration_of (declaration.Tag name keyed item has_value) = Tag name keyed item has_value
+declaration_of (declaration.Names at name texts) = Names at name texts
 declaration_of (declaration.Depends a b relation) = Depends a b relation
 declaration_of (declaration.On kind actions) = On kind (map action_of actions)
 declaration_of (declaration.Source name file rate slack tags) = Source name file rate slack tags

@@ -9,10 +9,14 @@ use Rattle.flu_syntax.specs.declared.tree.WrittenRef.{WrittenRef}
 use Rattle.flu_text.specs.declared.written.WrittenKeys.{WrittenKeys}
 use Rattle.flu_text.specs.declared.written.WrittenKeys.TheVariants as keys
 use Rattle.flu_syntax.specs.declared.tree.WrittenTag.{WrittenTag}
+use Rattle.flu_syntax.specs.declared.tree.WrittenBy.{WrittenBy}
+use Rattle.flu_syntax.specs.declared.tree.WrittenCells.{WrittenCells}
+use Rattle.flu_syntax.specs.declared.tree.WrittenCells.TheVariants as cells
+use Rattle.flu_syntax.specs.declared.tree.WrittenItem.{WrittenItem}
 use Rattle.flu_syntax.specs.declared.tree.WrittenUnit.{WrittenUnit}
 use Rattle.flu_syntax.specs.declared.tree.WrittenHead.{WrittenHead}
 use Rattle.flu_syntax.specs.Tree.{Tree, NumberTree, ValueTree, KeyTree, TimeTree, ReadTree, HasTree, ParenTree, NegTree, NotTree, TwoTree, Deed, Writes, Clears}
-use Rattle.flu_syntax.specs.Tree.{Emits, Flushes, Action, Declaration, Cell, Tag, Depends, On, Source, Job}
+use Rattle.flu_syntax.specs.Tree.{Emits, Flushes, Action, Declaration, Cell, Tag, Names, Depends, On, Source, Job}
 use Rattle.flu_text.specs.Signs.{Sign}
 use Rattle.flu_text.specs.Signs.{name, text, number}
 
@@ -67,10 +71,25 @@ abbrev pub number_words : Option WrittenNumber → List Sign
 number_words None = []
 number_words (Some n) = number n
 
+-- the one of the list that names keys or items, if one does
+abbrev pub list_words : Option WrittenBy → List Sign
+list_words None = []
+list_words (Some by) = name by.list
+
+abbrev pub cells_words : WrittenCells → List Sign
+cells_words cells.Alone = []
+cells_words cells.Keyed = []
+cells_words (cells.By by) = name by.list
+
+abbrev pub item_words : Option WrittenItem → List Sign
+item_words None = []
+item_words (Some item) = list_words item.by
+
 -- those of a declaration
 abbrev pub declaration_words : Declaration → List Sign
-declaration_words (Cell n keyed sort) = name n
-declaration_words (Tag n keyed item has_value) = name n
+declaration_words (Cell n cells sort) = name n ++ cells_words cells
+declaration_words (Tag n keyed item has_value) = name n ++ item_words item
+declaration_words (Names at n texts) = name n ++ flat_map text texts
 declaration_words (Depends a b relation) = name a ++ name b
 declaration_words (On kind actions) = name kind ++ flat_map action_words actions
 declaration_words (Source n file rate slack tags) = name n ++ text file ++ number_words rate ++ number_words slack ++ flat_map tag_words tags

@@ -2,9 +2,10 @@
 
 ghost use Rattle.std.specs.Prelude.{◌≡◌, ◌≤◌, ◌<◌, length, map, option_map, IfOk, MatchOption};
 ghost use Rattle.flu_syntax.specs.Tree.{view, deed_of, Writes, action_of, declaration_of};
-ghost use Rattle.flu_syntax.specs.Machine.{Start, CellName, TagName, DependsFirst, OnKind, SourceName};
+ghost use Rattle.flu_syntax.specs.Machine.{Start, CellName, TagName, NamesName, DependsFirst, OnKind, SourceName};
 ghost use Rattle.flu_syntax.specs.Reading.{ReadsWriting, ReadsDeed, ReadsGuard, ReadsAction, ReadsActions, ReadsRange, ReadsKeys, ReadsTag, ReadsTags};
-ghost use Rattle.flu_syntax.specs.Reading.{ReadsRate, ReadsSlack, ReadsRelation, ReadsDeclaration, IsFirst, NotFirst, TakesKeyed, TakesItem};
+ghost use Rattle.flu_syntax.specs.Reading.{ReadsRate, ReadsSlack, ReadsRelation, ReadsDeclaration, IsFirst, NotFirst, TakesKeyed};
+ghost use Rattle.flu_syntax.specs.Reading.{keyed_by, ReadsKeyedBy, ReadsItemBy, ReadsCells, ReadsItem, ReadsTexts};
 
 use crate::cells::cell;
 use crate::expressions::expression;
@@ -14,8 +15,8 @@ use crate::tokens::{
     span_of, take, unexpected, value_of,
 };
 use crate::tree::{
-    WrittenAct, WrittenAction, WrittenDeclaration, WrittenExpr, WrittenKeys, WrittenNumber,
-    WrittenRef, WrittenRelation, WrittenTag,
+    WrittenAct, WrittenAction, WrittenBy, WrittenCells, WrittenDeclaration, WrittenExpr,
+    WrittenItem, WrittenKeys, WrittenNumber, WrittenRef, WrittenRelation, WrittenSpan, WrittenTag,
 };
 use flu_model::List;
 use flu_text::{Contextual, Mark, Reserved, Token, Word};
@@ -31,15 +32,52 @@ fn keyed(tokens: &[Token]) -> (bool, &[Token])
     }
 }
 
-/// Whether `item` is here, by its place, and what comes after it.
-fn item(tokens: &[Token]) -> (Option<usize>, &[Token])
-    ensures taken { TakesItem tokens.now result.0 result.1.now }
-    ensures shorter { length result.1.now ≤ length tokens.now }
+/// The list that names keys or items, if one is written.
+fn by(tokens: &[Token], end: usize) -> Result<(Option<WrittenBy>, &[Token]), SyntaxFault>
+    ensures keys { ReadsKeyedBy end tokens.now (λ x. x.0) (λ x. x.1.now) result }
+    ensures items { ReadsItemBy end tokens.now (λ x. x.0) (λ x. x.1.now) result }
+    ensures shorter { IfOk result (λ x. length x.1.now ≤ length tokens.now) }
 {
-    match take(tokens, Word::Name(Contextual::Item)) {
-        Some((word, rest)) => (Some(word.from), rest),
-        None => (None, tokens),
+    let Some((word, rest)) = take(tokens, Word::Name(Contextual::By)) else {
+        return Ok((None, tokens));
+    };
+    let (list, rest) = name(rest, end)?;
+    let at = word.from;
+    Ok((Some(WrittenBy { at, list }), rest))
+}
+
+fn keyed_by(by: Option<WrittenBy>) -> WrittenCells
+    ensures { result ≡ keyed_by by }
+{
+    match by {
+        Some(by) => WrittenCells::By(by),
+        None => WrittenCells::Keyed,
     }
+}
+
+/// Which cells a family has.
+fn cells(tokens: &[Token], end: usize) -> Result<(WrittenCells, &[Token]), SyntaxFault>
+    ensures run { ReadsCells end tokens.now (λ x. x.0) (λ x. x.1.now) result }
+    ensures shorter { IfOk result (λ x. length x.1.now ≤ length tokens.now) }
+{
+    let Some((_, rest)) = take(tokens, Word::Reserved(Reserved::Keyed)) else {
+        return Ok((WrittenCells::Alone, tokens));
+    };
+    let (by, rest) = by(rest, end)?;
+    Ok((keyed_by(by), rest))
+}
+
+/// The items of a kind, if it has any.
+fn item(tokens: &[Token], end: usize) -> Result<(Option<WrittenItem>, &[Token]), SyntaxFault>
+    ensures run { ReadsItem end tokens.now (λ x. x.0) (λ x. x.1.now) result }
+    ensures shorter { IfOk result (λ x. length x.1.now ≤ length tokens.now) }
+{
+    let Some((word, rest)) = take(tokens, Word::Name(Contextual::Item)) else {
+        return Ok((None, tokens));
+    };
+    let (by, rest) = by(rest, end)?;
+    let at = word.from;
+    Ok((Some(WrittenItem { at, by }), rest))
 }
 
 /// A line of cells, after its first word.
@@ -48,14 +86,14 @@ fn cell_line(tokens: &[Token], end: usize) -> Result<(WrittenDeclaration, &[Toke
     ensures shorter { IfOk result (λ x. length x.1.now < length tokens.now) }
 {
     let (name, rest) = name(tokens, end)?;
-    let (keyed, rest) = keyed(rest);
+    let (cells, rest) = cells(rest, end)?;
     let Some((word, behind)) = next(rest) else {
         return Err(unexpected(rest, end));
     };
     let Some(sort) = sort_of(word.word) else {
         return Err(unexpected(rest, end));
     };
-    Ok((WrittenDeclaration::Cell { name, keyed, sort }, behind))
+    Ok((WrittenDeclaration::Cell { name, cells, sort }, behind))
 }
 
 /// A line of tags, after its first word.
@@ -65,7 +103,7 @@ fn tag_line(tokens: &[Token], end: usize) -> Result<(WrittenDeclaration, &[Token
 {
     let (name, rest) = name(tokens, end)?;
     let (keyed, rest) = keyed(rest);
-    let (item, rest) = item(rest);
+    let (item, rest) = item(rest, end)?;
     let Some((word, behind)) = next(rest) else {
         return Err(unexpected(rest, end));
     };
@@ -81,6 +119,43 @@ fn tag_line(tokens: &[Token], end: usize) -> Result<(WrittenDeclaration, &[Token
         },
         behind,
     ))
+}
+
+/// The texts of a list, with `,` between each two.
+fn texts(
+    alloc: Global,
+    tokens: &[Token],
+    end: usize,
+) -> Result<(List<WrittenSpan>, &[Token]), SyntaxFault>
+    ensures run { ReadsTexts end tokens.now (λ x. x.0) (λ x. x.1.now) result }
+    ensures shorter { IfOk result (λ x. length x.1.now < length tokens.now) }
+{
+    let mut all = Vec::new(alloc);
+    let mut rest = tokens;
+    'each: loop {
+        let (text, behind) = expect(rest, end, Word::Text)?;
+        all.push(span_of(text)).map_err(|_| SyntaxFault::NoMemory)?;
+        let Some((_, more)) = take(behind, Word::Mark(Mark::Comma)) else {
+            return Ok((List::of(all), behind));
+        };
+        rest = more;
+    }
+}
+
+/// A list of names, after its first word, which is at this place.
+fn names_line(
+    alloc: Global,
+    at: usize,
+    tokens: &[Token],
+    end: usize,
+) -> Result<(WrittenDeclaration, &[Token]), SyntaxFault>
+    ensures run { ReadsDeclaration end (NamesName at) tokens.now (λ x. declaration_of x.0) (λ x. x.1.now) result }
+    ensures shorter { IfOk result (λ x. length x.1.now < length tokens.now) }
+{
+    let (name, rest) = name(tokens, end)?;
+    let (_, rest) = expect(rest, end, Word::Mark(Mark::Colon))?;
+    let (texts, rest) = texts(alloc, rest, end)?;
+    Ok((WrittenDeclaration::Names { at, name, texts }, rest))
 }
 
 /// The relation of two kinds, if one is written.
@@ -356,6 +431,7 @@ pub fn declaration(
     match heading_of(token.word) {
         Heading::Cell => cell_line(rest, end),
         Heading::Tag => tag_line(rest, end),
+        Heading::Names => names_line(alloc, token.from, rest, end),
         Heading::Depends => depends_line(rest, end),
         Heading::On => on_line(alloc, rest, end),
         Heading::Source => source_line(alloc, rest, end),

@@ -27,6 +27,7 @@ pub use fault::SyntaxFault;
 pub use flu_text::{WrittenKeys, WrittenNumber, WrittenSpan};
 pub use reading::read_syntax;
 pub use tree::{
-    WrittenAct, WrittenAction, WrittenDeclaration, WrittenExpr, WrittenHead, WrittenJob,
-    WrittenKey, WrittenRef, WrittenRelation, WrittenTag, WrittenUnit,
+    WrittenAct, WrittenAction, WrittenBy, WrittenCells, WrittenDeclaration, WrittenExpr,
+    WrittenHead, WrittenItem, WrittenJob, WrittenKey, WrittenRef, WrittenRelation, WrittenTag,
+    WrittenUnit,
 };

@@ -10,7 +10,7 @@ ghost use Rattle.flu_syntax.specs.Reading.{IsFirst, NotFirst, IsNumber, NotNumbe
 use crate::fault::SyntaxFault;
 use crate::tree::{WrittenNumber, WrittenSpan};
 use flu_model::{Op, Sort};
-use flu_text::{Mark, Reserved, Token, Word};
+use flu_text::{Contextual, Mark, Reserved, Token, Word};
 
 /// The fault of a token that cannot follow, or of an end that comes too early.
 pub fn unexpected(tokens: &[Token], end: usize) -> SyntaxFault
@@ -236,6 +236,7 @@ pub fn doing_of(word: Word) -> Doing
 pub enum Heading {
     Cell,
     Tag,
+    Names,
     Depends,
     On,
     Source,
@@ -256,6 +257,7 @@ pub fn heading_of(word: Word) -> Heading
             Reserved::Source => Heading::Source,
             _ => Heading::Other,
         },
+        Word::Name(Contextual::Names) => Heading::Names,
         _ => Heading::Other,
     }
 }

@@ -109,20 +109,48 @@ pub struct WrittenTag {
     pub keys: WrittenKeys,
 }
 
-/// A declaration. The events of a tag have an item if the word `item` is there, by its place. The relation of a `depends` is `same` if
-/// that word is there, by its place; a written `all` means the same as none, so it is kept only as that word.
+/// The list that names keys or items: the place of the word `by`, and the list's name after it.
+#[derive(Clone, Copy, PartialEq, Eq)]
+pub struct WrittenBy {
+    pub at: usize,
+    pub list: WrittenSpan,
+}
+
+/// Which cells a family has: its only one, one for each key, or one for each key where a list names the keys.
+#[derive(Clone, Copy, PartialEq, Eq)]
+pub enum WrittenCells {
+    Alone,
+    Keyed,
+    By(WrittenBy),
+}
+
+/// The items of a kind: the place of the word `item`, and the list that names them, if one does.
+#[derive(Clone, Copy, PartialEq, Eq)]
+pub struct WrittenItem {
+    pub at: usize,
+    pub by: Option<WrittenBy>,
+}
+
+/// A declaration. The events of a tag have an item if the word `item` is there. The relation of a `depends` is `same` if that word is
+/// there, by its place; a written `all` means the same as none, so it is kept only as that word. A list of names keeps the place of
+/// the word `names`.
 #[derive(Drop)]
 pub enum WrittenDeclaration {
     Cell {
         name: WrittenSpan,
-        keyed: bool,
+        cells: WrittenCells,
         sort: Sort,
     },
     Tag {
         name: WrittenSpan,
         keyed: bool,
-        item: Option<usize>,
+        item: Option<WrittenItem>,
         has_value: bool,
+    },
+    Names {
+        at: usize,
+        name: WrittenSpan,
+        texts: List<WrittenSpan>,
     },
     Depends {
         a: WrittenSpan,

@@ -59,6 +59,10 @@ pub enum Contextual {
     Item,
     /// `iso`
     Iso,
+    /// `names`
+    Names,
+    /// `by`
+    By,
     /// None.
     Other,
 }
@@ -72,6 +76,10 @@ pub fn contextual_of(name: &[u8]) -> Contextual
         Contextual::Item
     } else if name == b"iso".as_slice() {
         Contextual::Iso
+    } else if name == b"names".as_slice() {
+        Contextual::Names
+    } else if name == b"by".as_slice() {
+        Contextual::By
     } else {
         Contextual::Other
     }

@@ -27,6 +27,7 @@ is_demo_job p demo =
     λ i. record {
       version = demo.version i;
       iso = demo.iso i;
+      lists = demo.lists i;
       families = demo.families i;
       kinds = map plain_kind (demo.kinds i);
       depends = demo.depends i;

@@ -20,6 +20,7 @@ use Rattle.flu_deps.specs.Checking.{program_of}
 use Rattle.flu_model.specs.declared.events.Item.{Item}
 use Rattle.flu_model.specs.declared.jobs.Program.{Program}
 use Rattle.flu_model.specs.Contents.{Contents}
+use Rattle.flu_model.specs.Erasure.{job_of}
 use Rattle.flu_rows.specs.Row.{form_of}
 use Rattle.flu_rows.specs.declared.rows.Next.{Next}
 use Rattle.flu_streams.specs.declared.border.Border.{Border}
@@ -283,7 +284,7 @@ failed_behind p o a b d k l m s u had has x z old done before job number told ri
     sound = subst (λ (r : Program). defect_in r.kinds h.source (h.now h.at) ≡ None) job h.sound;
     few = λ n le. subst (λ (r : ℕ). is_enough r old.border h.source (before h.at ++ take n h.more) ≡ false) number (h.few n le);
     place = h.place;
-    form = h.form ∙ ap (λ (r : Program). form_of r.version r.iso) job;
+    form = h.form ∙ ap (λ (r : Program). form_of (job_of r)) job;
     file = h.file;
     undecided = h.undecided;
   };

@@ -18,6 +18,7 @@ use Rattle.flu_model.specs.Reports as reports
 use Rattle.flu_outside.specs.Taking.{TakesFrom}
 use Rattle.flu_lemmas.proofs.Named.{rose_behind}
 use Rattle.flu_lemmas.proofs.Told.{told_both, told_then, told_weaker}
+use Rattle.flu_model.specs.Erasure.{job_of}
 use Rattle.flu_rows.specs.Row.{form_of}
 use Rattle.flu_rows.specs.Reading.{ahead}
 use Rattle.flu_streams.specs.Faults.{StopsWithout}
@@ -405,12 +406,12 @@ report_refusal command p a b c k l m refusals.ReadFault whole accepted none read
       form = is.form;
       file = is.file;
       undecided = is.undecided;
-      told = told_then (IsReady command p) (λ was now. StopsWithout (form_of p.version p.iso) p.kinds is.earlier is.source is.read (ahead is.place now) was)
+      told = told_then (IsReady command p) (λ was now. StopsWithout (form_of (job_of p)) p.kinds is.earlier is.source is.read (ahead is.place now) was)
           (λ was now. HasJob (job_wanted command) was p
-          × StopsWithout (form_of p.version p.iso) p.kinds is.earlier is.source is.read (ahead is.place now) (emptied_each (texts_named command) was)) a b c
+          × StopsWithout (form_of (job_of p)) p.kinds is.earlier is.source is.read (ahead is.place now) (emptied_each (texts_named command) was)) a b c
           (λ x y z first stops. (
             first.has,
-            subst (λ (left : Contents). StopsWithout (form_of p.version p.iso) p.kinds is.earlier is.source is.read (ahead is.place z) left)
+            subst (λ (left : Contents). StopsWithout (form_of (job_of p)) p.kinds is.earlier is.source is.read (ahead is.place z) left)
                 (sym first.texts.behind) stops,
           )) ready is.told;
     })

@@ -47,7 +47,7 @@ pub record NoneFailed (names : List (List ℕ)) (before now : Faults) : Type 0 w
 -- no line of a source has a defect, however many items the sources hold, as when they are read in rounds
 abbrev pub HaveNoDefect : Program → Contents → Type 0
 HaveNoDefect p left =
-    (i : ℕ) (s : Source) → slice_get p.sources i ≡ Some s → defect_in p.kinds s (read_file (form_of p.version p.iso) (bytes_left left s.file)) ≡ None
+    (i : ℕ) (s : Source) → slice_get p.sources i ≡ Some s → defect_in p.kinds s (read_file (form_of (job_of p)) (bytes_left left s.file)) ≡ None
 
 -- the bytes under a name are the text of a plan that is valid for the job
 abbrev pub IsValidPlanText : List ℕ → Contents → Program → Type 0

@@ -11,7 +11,7 @@ use Rattle.flu_lemmas.specs.Totals.{total}
 use Rattle.flu_lemmas.proofs.Tests.{and_left, and_right, both, not_true}
 use Rattle.flu_lemmas.proofs.Loops.{bind_ok, each-keeps, each-counts, each-lists}
 use Rattle.flu_model.specs.declared.jobs.Sort.{Sort}
-use Rattle.flu_model.specs.declared.limits.What.TheVariants.{Families, Kinds, Sources, Depends}
+use Rattle.flu_model.specs.declared.limits.What.TheVariants.{Families, Kinds, Sources, Lists, Depends}
 use Rattle.flu_model.specs.Rules.{are_distinct}
 use Rattle.flu_names.specs.Names.{is_name}
 use Rattle.flu_text.specs.declared.words.Token.{Token}
@@ -26,7 +26,8 @@ use Rattle.flu_parse.specs.declared.faults.JobFault.TheVariants as f
 use Rattle.flu_parse.specs.declared.names.FamilyHead.{FamilyHead}
 use Rattle.flu_parse.specs.declared.names.KindHead.{KindHead}
 use Rattle.flu_parse.specs.Faults.{◌>>◌, room}
-use Rattle.flu_parse.specs.Naming.{Naming, look_up, is_declared, fresh_name, with_family, with_kind, with_source, declare, no_names, naming_of}
+use Rattle.flu_parse.specs.Naming.{Naming, look_up, is_declared, fresh_name, with_family, with_kind, with_source, with_list, has_keys, declare}
+use Rattle.flu_parse.specs.Naming.{no_names, naming_of}
 use Rattle.flu_parse.proofs.Distinct.{distinct_with}
 use Rattle.flu_parse.proofs.NamingLemmas.{undeclared}
 use Rattle.flu_parse.proofs.Looks.{passed, had_room}
@@ -40,13 +41,17 @@ abbrev pub names_in : {X : Type 0} → List (List ℕ × X) → List (List ℕ)
 names_in hs = map (λ h. h.0) hs
 
 abbrev pub all_names : Naming → List (List ℕ)
-all_names n = names_in n.families ++ names_in n.kinds ++ n.sources
+all_names n = names_in n.families ++ names_in n.kinds ++ n.sources ++ n.lists
 
 abbrev pub family_number : FamilyHead → ℕ
 family_number h = h.number
 
 abbrev pub kind_number : KindHead → ℕ
 kind_number h = h.number
+
+-- which families are keyed
+abbrev pub key_heads : Naming → List Bool
+key_heads n = map (λ h. h.1.keyed) n.families
 
 -- which kinds have items
 abbrev pub item_heads : Naming → List Bool
@@ -57,6 +62,7 @@ pub record NamesKeep (n : Naming) : Type 0 where
   pub few_families : length n.families ≤ 64
   pub few_kinds : length n.kinds ≤ 64
   pub few_sources : length n.sources ≤ 64
+  pub few_lists : length n.lists ≤ 64
   pub few_depends : n.depends ≤ 4096
   pub are_names : list_all is_name (all_names n) ≡ true
   pub distinct : are_distinct bytes_eq (all_names n) ≡ true
@@ -102,9 +108,11 @@ any_named name (h ∷ hs) e = by (bytes_eq name h.0) e (any_named name hs)
 none_has : (n : Naming) (name : List ℕ) → is_declared n name ≡ false → list_any (bytes_eq name) (all_names n) ≡ false
 none_has n name e =
     let none = undeclared n name e in
-    list_any-append (bytes_eq name) (names_in n.families ++ names_in n.kinds) n.sources
-    ∙ ap (λ b. b || list_any (bytes_eq name) n.sources) (list_any-append (bytes_eq name) (names_in n.families) (names_in n.kinds))
-    ∙ (λ i. (any_named name n.families none.0 i || any_named name n.kinds none.1 i) || none.2 i)
+    list_any-append (bytes_eq name) (names_in n.families ++ names_in n.kinds ++ n.sources) n.lists
+    ∙ ap (λ b. b || list_any (bytes_eq name) n.lists) (list_any-append (bytes_eq name) (names_in n.families ++ names_in n.kinds) n.sources)
+    ∙ ap (λ b. (b || list_any (bytes_eq name) n.sources) || list_any (bytes_eq name) n.lists)
+    (list_any-append (bytes_eq name) (names_in n.families) (names_in n.kinds))
+    ∙ (λ i. ((any_named name n.families none.0 i || any_named name n.kinds none.1 i) || none.2 i) || none.3 i)
 
 abbrev AreOwnNames : List (List ℕ) → Type 0
 AreOwnNames all = (list_all is_name all ≡ true) × (are_distinct bytes_eq all ≡ true)
@@ -124,28 +132,40 @@ module _ (n : Naming) (name : List ℕ) (keep : NamesKeep n) (free : is_declared
           both (is_name x) (list_all is_name (front ++ name ∷ back)) (and_left (is_name x) (list_all is_name (front ++ back)) all)
           (put_passes front back (and_right (is_name x) (list_all is_name (front ++ back)) all))
 
-  family_put : (head : FamilyHead) → AreOwnNames (names_in (n.families ++ (name, head) ∷ []) ++ names_in n.kinds ++ n.sources)
+  family_put : (head : FamilyHead) → AreOwnNames (names_in (n.families ++ (name, head) ∷ []) ++ names_in n.kinds ++ n.sources ++ n.lists)
   family_put head =
       let fs = names_in n.families in
-      let more : names_in (n.families ++ (name, head) ∷ []) ++ names_in n.kinds ++ n.sources ≡ fs ++ name ∷ (names_in n.kinds ++ n.sources) =
-      ap (λ l. l ++ names_in n.kinds ++ n.sources) (map-append (λ h. h.0) n.families ((name, head) ∷ []))
-      ∙ ap (λ l. l ++ n.sources) (append_assoc fs (name ∷ []) (names_in n.kinds)) ∙ append_assoc fs (name ∷ names_in n.kinds) n.sources in
-      subst AreOwnNames (sym more) (put fs (names_in n.kinds ++ n.sources) (append_assoc fs (names_in n.kinds) n.sources))
+      let ks = names_in n.kinds in
+      let more : names_in (n.families ++ (name, head) ∷ []) ++ ks ++ n.sources ++ n.lists ≡ fs ++ name ∷ (ks ++ n.sources ++ n.lists) =
+      ap (λ l. l ++ ks ++ n.sources ++ n.lists) (map-append (λ h. h.0) n.families ((name, head) ∷ []))
+      ∙ ap (λ l. l ++ n.sources ++ n.lists) (append_assoc fs (name ∷ []) ks) ∙ ap (λ l. l ++ n.lists) (append_assoc fs (name ∷ ks) n.sources)
+      ∙ append_assoc fs (name ∷ (ks ++ n.sources)) n.lists in
+      let parts : all_names n ≡ fs ++ (ks ++ n.sources ++ n.lists) =
+      ap (λ l. l ++ n.lists) (append_assoc fs ks n.sources) ∙ append_assoc fs (ks ++ n.sources) n.lists in
+      subst AreOwnNames (sym more) (put fs (ks ++ n.sources ++ n.lists) parts)
 
-  kind_put : (head : KindHead) → AreOwnNames (names_in n.families ++ names_in (n.kinds ++ (name, head) ∷ []) ++ n.sources)
+  kind_put : (head : KindHead) → AreOwnNames (names_in n.families ++ names_in (n.kinds ++ (name, head) ∷ []) ++ n.sources ++ n.lists)
   kind_put head =
       let fs = names_in n.families in
       let ks = names_in n.kinds in
-      let more : fs ++ names_in (n.kinds ++ (name, head) ∷ []) ++ n.sources ≡ (fs ++ ks) ++ name ∷ n.sources =
-      ap (λ l. fs ++ l ++ n.sources) (map-append (λ h. h.0) n.kinds ((name, head) ∷ []))
-      ∙ ap (λ l. l ++ n.sources) (sym (append_assoc fs ks (name ∷ []))) ∙ append_assoc (fs ++ ks) (name ∷ []) n.sources in
-      subst AreOwnNames (sym more) (put (fs ++ ks) n.sources refl)
+      let more : fs ++ names_in (n.kinds ++ (name, head) ∷ []) ++ n.sources ++ n.lists ≡ (fs ++ ks) ++ name ∷ (n.sources ++ n.lists) =
+      ap (λ l. fs ++ l ++ n.sources ++ n.lists) (map-append (λ h. h.0) n.kinds ((name, head) ∷ []))
+      ∙ ap (λ l. l ++ n.sources ++ n.lists) (sym (append_assoc fs ks (name ∷ [])))
+      ∙ ap (λ l. l ++ n.lists) (append_assoc (fs ++ ks) (name ∷ []) n.sources) ∙ append_assoc (fs ++ ks) (name ∷ n.sources) n.lists in
+      subst AreOwnNames (sym more) (put (fs ++ ks) (n.sources ++ n.lists) (append_assoc (fs ++ ks) n.sources n.lists))
 
-  source_put : AreOwnNames (names_in n.families ++ names_in n.kinds ++ (n.sources ++ name ∷ []))
+  source_put : AreOwnNames (names_in n.families ++ names_in n.kinds ++ (n.sources ++ name ∷ []) ++ n.lists)
   source_put =
       let front = names_in n.families ++ names_in n.kinds in
-      let none : all_names n ≡ (front ++ n.sources) ++ [] = sym (append-nil (front ++ n.sources)) in
-      subst AreOwnNames (append_assoc front n.sources (name ∷ [])) (put (front ++ n.sources) [] none)
+      let more : front ++ (n.sources ++ name ∷ []) ++ n.lists ≡ (front ++ n.sources) ++ name ∷ n.lists =
+      ap (λ l. l ++ n.lists) (sym (append_assoc front n.sources (name ∷ []))) ∙ append_assoc (front ++ n.sources) (name ∷ []) n.lists in
+      subst AreOwnNames (sym more) (put (front ++ n.sources) n.lists refl)
+
+  list_put : AreOwnNames (names_in n.families ++ names_in n.kinds ++ n.sources ++ (n.lists ++ name ∷ []))
+  list_put =
+      let front = names_in n.families ++ names_in n.kinds ++ n.sources in
+      let none : all_names n ≡ (front ++ n.lists) ++ [] = sym (append-nil (front ++ n.lists)) in
+      subst AreOwnNames (append_assoc front n.lists (name ∷ [])) (put (front ++ n.lists) [] none)
 
 -- a name that was free
 was_free : (text : List ℕ) (n : Naming) (s : WrittenSpan) (name : List ℕ) → fresh_name text n s ≡ Ok name
@@ -200,64 +220,99 @@ module _ (text : List ℕ) where
       let r = had_room Sources 64 (length n.sources) _ m b.2 in
       (free.0, r.0, ap (λ (name : List ℕ). record n { sources = n.sources ++ name ∷ [] }) free.1 ∙ cc)
 
+  added_list : (n : Naming) (s : WrittenSpan) (m : Naming) → with_list text n s ≡ Ok m
+      → (is_declared n (name_of text s) ≡ false) × (length n.lists < 64) × (record n { lists = n.lists ++ name_of text s ∷ [] } ≡ m)
+  unfolding with_list
+  added_list n s m e =
+      let b = bind_ok (fresh_name text n s) _ m e in
+      let free = was_free text n s b.0 b.1 in
+      let r = had_room Lists 64 (length n.lists) _ m b.2 in
+      (free.0, r.0, ap (λ (name : List ℕ). record n { lists = n.lists ++ name ∷ [] }) free.1 ∙ cc)
+
   added_depend : (n : Naming) (m : Naming) → (room Depends 4096 n.depends >> Ok (record n { depends = n.depends + 1 })) ≡ Ok m
       → (n.depends < 4096) × (record n { depends = n.depends + 1 } ≡ m)
   added_depend n m e = let r = had_room Depends 4096 n.depends _ m e in (r.0, cc)
 
-  -- how many dependencies a declaration is, and what it declares: names of families, whether kinds have items, and names of sources
+  -- how many dependencies a declaration is, and what it declares: names of families and whether they are keyed,
+  -- whether kinds have items, and names of sources and of lists
   abbrev pub depends_in : Declaration → ℕ
-  depends_in (d.Cell s keyed sort) = 0
+  depends_in (d.Cell s cells sort) = 0
   depends_in (d.Tag s keyed item has_value) = 0
+  depends_in (d.Names at s texts) = 0
   depends_in (d.Depends a b relation) = 1
   depends_in (d.On kind actions) = 0
   depends_in (d.Source s file rate slack tags) = 0
 
   abbrev pub sources_in : Declaration → List (List ℕ)
-  sources_in (d.Cell s keyed sort) = []
+  sources_in (d.Cell s cells sort) = []
   sources_in (d.Tag s keyed item has_value) = []
+  sources_in (d.Names at s texts) = []
   sources_in (d.Depends a b relation) = []
   sources_in (d.On kind actions) = []
   sources_in (d.Source s file rate slack tags) = name_of text s ∷ []
 
   abbrev pub families_in : Declaration → List (List ℕ)
-  families_in (d.Cell s keyed sort) = name_of text s ∷ []
+  families_in (d.Cell s cells sort) = name_of text s ∷ []
   families_in (d.Tag s keyed item has_value) = []
+  families_in (d.Names at s texts) = []
   families_in (d.Depends a b relation) = []
   families_in (d.On kind actions) = []
   families_in (d.Source s file rate slack tags) = []
 
+  abbrev pub keys_in : Declaration → List Bool
+  keys_in (d.Cell s cells sort) = has_keys cells ∷ []
+  keys_in (d.Tag s keyed item has_value) = []
+  keys_in (d.Names at s texts) = []
+  keys_in (d.Depends a b relation) = []
+  keys_in (d.On kind actions) = []
+  keys_in (d.Source s file rate slack tags) = []
+
+  abbrev pub lists_in : Declaration → List (List ℕ)
+  lists_in (d.Cell s cells sort) = []
+  lists_in (d.Tag s keyed item has_value) = []
+  lists_in (d.Names at s texts) = name_of text s ∷ []
+  lists_in (d.Depends a b relation) = []
+  lists_in (d.On kind actions) = []
+  lists_in (d.Source s file rate slack tags) = []
+
   abbrev pub items_in : Declaration → List Bool
-  items_in (d.Cell s keyed sort) = []
+  items_in (d.Cell s cells sort) = []
   items_in (d.Tag s keyed item has_value) = is_some item ∷ []
+  items_in (d.Names at s texts) = []
   items_in (d.Depends a b relation) = []
   items_in (d.On kind actions) = []
   items_in (d.Source s file rate slack tags) = []
 
   counted : (n : Naming) (w : Declaration) (m : Naming) → declare text n w ≡ Ok m → m.depends ≡ n.depends + depends_in w
   unfolding declare
-  counted n (d.Cell s keyed sort) m e = ap (λ (k : Naming). k.depends) (sym (added_family n s keyed sort m e).2) ∙ sym (add-zero n.depends)
+  counted n (d.Cell s cells sort) m e = ap (λ (k : Naming). k.depends) (sym (added_family n s (has_keys cells) sort m e).2) ∙ sym (add-zero n.depends)
   counted n (d.Tag s keyed item has_value) m e =
       ap (λ (k : Naming). k.depends) (sym (added_kind n s keyed (is_some item) has_value m e).2) ∙ sym (add-zero n.depends)
+  counted n (d.Names at s texts) m e = ap (λ (k : Naming). k.depends) (sym (added_list n s m e).2) ∙ sym (add-zero n.depends)
   counted n (d.Depends a b relation) m e = ap (λ (k : Naming). k.depends) (sym (added_depend n m e).1)
   counted n (d.On kind actions) m e = let same : n ≡ m = cc in ap (λ (k : Naming). k.depends) (sym same) ∙ sym (add-zero n.depends)
   counted n (d.Source s file rate slack tags) m e = ap (λ (k : Naming). k.depends) (sym (added_source n s m e).2) ∙ sym (add-zero n.depends)
 
   listed : (n : Naming) (w : Declaration) (m : Naming) → declare text n w ≡ Ok m → m.sources ≡ n.sources ++ sources_in w
   unfolding declare
-  listed n (d.Cell s keyed sort) m e = ap (λ (k : Naming). k.sources) (sym (added_family n s keyed sort m e).2) ∙ sym (append-nil n.sources)
+  listed n (d.Cell s cells sort) m e = ap (λ (k : Naming). k.sources) (sym (added_family n s (has_keys cells) sort m e).2) ∙ sym (append-nil n.sources)
   listed n (d.Tag s keyed item has_value) m e =
       ap (λ (k : Naming). k.sources) (sym (added_kind n s keyed (is_some item) has_value m e).2) ∙ sym (append-nil n.sources)
+  listed n (d.Names at s texts) m e = ap (λ (k : Naming). k.sources) (sym (added_list n s m e).2) ∙ sym (append-nil n.sources)
   listed n (d.Depends a b relation) m e = ap (λ (k : Naming). k.sources) (sym (added_depend n m e).1) ∙ sym (append-nil n.sources)
   listed n (d.On kind actions) m e = let same : n ≡ m = cc in ap (λ (k : Naming). k.sources) (sym same) ∙ sym (append-nil n.sources)
   listed n (d.Source s file rate slack tags) m e = ap (λ (k : Naming). k.sources) (sym (added_source n s m e).2)
 
   families_listed : (n : Naming) (w : Declaration) (m : Naming) → declare text n w ≡ Ok m → names_in m.families ≡ names_in n.families ++ families_in w
   unfolding declare
-  families_listed n (d.Cell s keyed sort) m e =
-      let head : FamilyHead = record { number = length n.families; keyed = keyed; sort = sort } in
-      ap (λ (k : Naming). names_in k.families) (sym (added_family n s keyed sort m e).2) ∙ map-append (λ h. h.0) n.families ((name_of text s, head) ∷ [])
+  families_listed n (d.Cell s cells sort) m e =
+      let head : FamilyHead = record { number = length n.families; keyed = has_keys cells; sort = sort } in
+      ap (λ (k : Naming). names_in k.families) (sym (added_family n s (has_keys cells) sort m e).2)
+      ∙ map-append (λ h. h.0) n.families ((name_of text s, head) ∷ [])
   families_listed n (d.Tag s keyed item has_value) m e =
       ap (λ (k : Naming). names_in k.families) (sym (added_kind n s keyed (is_some item) has_value m e).2) ∙ sym (append-nil (names_in n.families))
+  families_listed n (d.Names at s texts) m e =
+      ap (λ (k : Naming). names_in k.families) (sym (added_list n s m e).2) ∙ sym (append-nil (names_in n.families))
   families_listed n (d.Depends a b relation) m e =
       ap (λ (k : Naming). names_in k.families) (sym (added_depend n m e).1) ∙ sym (append-nil (names_in n.families))
   families_listed n (d.On kind actions) m e =
@@ -267,13 +322,37 @@ module _ (text : List ℕ) where
 
   items_listed : (n : Naming) (w : Declaration) (m : Naming) → declare text n w ≡ Ok m → item_heads m ≡ item_heads n ++ items_in w
   unfolding declare
-  items_listed n (d.Cell s keyed sort) m e = ap item_heads (sym (added_family n s keyed sort m e).2) ∙ sym (append-nil (item_heads n))
+  items_listed n (d.Cell s cells sort) m e = ap item_heads (sym (added_family n s (has_keys cells) sort m e).2) ∙ sym (append-nil (item_heads n))
   items_listed n (d.Tag s keyed item has_value) m e =
       let head : KindHead = record { number = length n.kinds; keyed = keyed; has_item = is_some item; has_value = has_value } in
       ap item_heads (sym (added_kind n s keyed (is_some item) has_value m e).2) ∙ map-append (λ h. h.1.has_item) n.kinds ((name_of text s, head) ∷ [])
+  items_listed n (d.Names at s texts) m e = ap item_heads (sym (added_list n s m e).2) ∙ sym (append-nil (item_heads n))
   items_listed n (d.Depends a b relation) m e = ap item_heads (sym (added_depend n m e).1) ∙ sym (append-nil (item_heads n))
   items_listed n (d.On kind actions) m e = let same : n ≡ m = cc in ap item_heads (sym same) ∙ sym (append-nil (item_heads n))
   items_listed n (d.Source s file rate slack tags) m e = ap item_heads (sym (added_source n s m e).2) ∙ sym (append-nil (item_heads n))
+
+  keys_listed : (n : Naming) (w : Declaration) (m : Naming) → declare text n w ≡ Ok m → key_heads m ≡ key_heads n ++ keys_in w
+  unfolding declare
+  keys_listed n (d.Cell s cells sort) m e =
+      let head : FamilyHead = record { number = length n.families; keyed = has_keys cells; sort = sort } in
+      ap key_heads (sym (added_family n s (has_keys cells) sort m e).2) ∙ map-append (λ h. h.1.keyed) n.families ((name_of text s, head) ∷ [])
+  keys_listed n (d.Tag s keyed item has_value) m e =
+      ap key_heads (sym (added_kind n s keyed (is_some item) has_value m e).2) ∙ sym (append-nil (key_heads n))
+  keys_listed n (d.Names at s texts) m e = ap key_heads (sym (added_list n s m e).2) ∙ sym (append-nil (key_heads n))
+  keys_listed n (d.Depends a b relation) m e = ap key_heads (sym (added_depend n m e).1) ∙ sym (append-nil (key_heads n))
+  keys_listed n (d.On kind actions) m e = let same : n ≡ m = cc in ap key_heads (sym same) ∙ sym (append-nil (key_heads n))
+  keys_listed n (d.Source s file rate slack tags) m e = ap key_heads (sym (added_source n s m e).2) ∙ sym (append-nil (key_heads n))
+
+  lists_listed : (n : Naming) (w : Declaration) (m : Naming) → declare text n w ≡ Ok m → m.lists ≡ n.lists ++ lists_in w
+  unfolding declare
+  lists_listed n (d.Cell s cells sort) m e =
+      ap (λ (k : Naming). k.lists) (sym (added_family n s (has_keys cells) sort m e).2) ∙ sym (append-nil n.lists)
+  lists_listed n (d.Tag s keyed item has_value) m e =
+      ap (λ (k : Naming). k.lists) (sym (added_kind n s keyed (is_some item) has_value m e).2) ∙ sym (append-nil n.lists)
+  lists_listed n (d.Names at s texts) m e = ap (λ (k : Naming). k.lists) (sym (added_list n s m e).2)
+  lists_listed n (d.Depends a b relation) m e = ap (λ (k : Naming). k.lists) (sym (added_depend n m e).1) ∙ sym (append-nil n.lists)
+  lists_listed n (d.On kind actions) m e = let same : n ≡ m = cc in ap (λ (k : Naming). k.lists) (sym same) ∙ sym (append-nil n.lists)
+  lists_listed n (d.Source s file rate slack tags) m e = ap (λ (k : Naming). k.lists) (sym (added_source n s m e).2) ∙ sym (append-nil n.lists)
 
   pub naming_counts : (ds : List Declaration) (n : Naming) → naming_of text ds ≡ Ok n → n.depends ≡ total depends_in ds
   naming_counts ds n e =
@@ -286,21 +365,28 @@ module _ (text : List ℕ) where
   pub naming_families : (ds : List Declaration) (n : Naming) → naming_of text ds ≡ Ok n → names_in n.families ≡ flat_map families_in ds
   naming_families ds n e = each-lists (declare text) (λ (k : Naming). names_in k.families) families_in families_listed no_names ds n e
 
+  pub naming_keys : (ds : List Declaration) (n : Naming) → naming_of text ds ≡ Ok n → key_heads n ≡ flat_map keys_in ds
+  naming_keys ds n e = each-lists (declare text) key_heads keys_in keys_listed no_names ds n e
+
+  pub naming_named_lists : (ds : List Declaration) (n : Naming) → naming_of text ds ≡ Ok n → n.lists ≡ flat_map lists_in ds
+  naming_named_lists ds n e = each-lists (declare text) (λ (k : Naming). k.lists) lists_in lists_listed no_names ds n e
+
   pub naming_items : (ds : List Declaration) (n : Naming) → naming_of text ds ≡ Ok n → item_heads n ≡ flat_map items_in ds
   naming_items ds n e = each-lists (declare text) item_heads items_in items_listed no_names ds n e
 
   module _ (ts : List Token) (read : AreRead text ts) where
     stays : (n : Naming) (w : Declaration) (m : Naming) → NamesKeep n → AllByRecursion (Stands ts) (declaration_words w) → declare text n w ≡ Ok m → NamesKeep m
     unfolding declare
-    stays n (d.Cell s keyed sort) m keep words e =
-        let head : FamilyHead = record { number = length n.families; keyed = keyed; sort = sort } in
-        let a = added_family n s keyed sort m e in
+    stays n (d.Cell s cells sort) m keep words e =
+        let head : FamilyHead = record { number = length n.families; keyed = has_keys cells; sort = sort } in
+        let a = added_family n s (has_keys cells) sort m e in
         let p = family_put n (name_of text s) keep a.0 (read.names s words.0) head in
         subst NamesKeep a.2 (
         record {
           few_families = omega (arith, a.1, length-append n.families ((name_of text s, head) ∷ []));
           few_kinds = keep.few_kinds;
           few_sources = keep.few_sources;
+          few_lists = keep.few_lists;
           few_depends = keep.few_depends;
           are_names = p.0;
           distinct = p.1;
@@ -317,11 +403,28 @@ module _ (text : List ℕ) where
           few_families = keep.few_families;
           few_kinds = omega (arith, a.1, length-append n.kinds ((name_of text s, head) ∷ []));
           few_sources = keep.few_sources;
+          few_lists = keep.few_lists;
           few_depends = keep.few_depends;
           are_names = p.0;
           distinct = p.1;
           families = keep.families;
           kinds = numbered_more kind_number 0 n.kinds (name_of text s) head keep.kinds (omega arith);
+        }
+        )
+    stays n (d.Names at s texts) m keep words e =
+        let a = added_list n s m e in
+        let p = list_put n (name_of text s) keep a.0 (read.names s words.0) in
+        subst NamesKeep a.2 (
+        record {
+          few_families = keep.few_families;
+          few_kinds = keep.few_kinds;
+          few_sources = keep.few_sources;
+          few_lists = omega (arith, a.1, length-append n.lists (name_of text s ∷ []));
+          few_depends = keep.few_depends;
+          are_names = p.0;
+          distinct = p.1;
+          families = keep.families;
+          kinds = keep.kinds;
         }
         )
     stays n (d.Depends a b relation) m keep words e =
@@ -331,6 +434,7 @@ module _ (text : List ℕ) where
           few_families = keep.few_families;
           few_kinds = keep.few_kinds;
           few_sources = keep.few_sources;
+          few_lists = keep.few_lists;
           few_depends = omega (arith, r.0);
           are_names = keep.are_names;
           distinct = keep.distinct;
@@ -347,6 +451,7 @@ module _ (text : List ℕ) where
           few_families = keep.few_families;
           few_kinds = keep.few_kinds;
           few_sources = omega (arith, a.1, length-append n.sources (name_of text s ∷ []));
+          few_lists = keep.few_lists;
           few_depends = keep.few_depends;
           are_names = p.0;
           distinct = p.1;
@@ -364,6 +469,7 @@ module _ (text : List ℕ) where
           few_families = omega arith;
           few_kinds = omega arith;
           few_sources = omega arith;
+          few_lists = omega arith;
           few_depends = omega arith;
           are_names = refl;
           distinct = refl;

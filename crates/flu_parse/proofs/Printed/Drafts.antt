@@ -1,46 +1,62 @@
 -- The declarations of a printed job, looked at again, make that job.
-use Rattle.std.proofs.Common.{◌≡◌, ◌≤◌, ◌+◌, ℕ, pos, Bool, true, false, ◌||◌, List, [], ◌∷◌, ◌++◌, map, length, Option, Some, None, Ok, refl, sym, ap}
+use Rattle.std.proofs.Common.{◌≡◌, ◌<◌, ◌≤◌, ◌+◌, ℕ, zero, suc, pos, Bool, true, false, ◌||◌, List, [], ◌∷◌, ◌++◌, map, length, Option, Some, None, Ok, refl}
+use Rattle.std.proofs.Common.{sym, ap}
 use Rattle.std.proofs.Common.{subst, ◌∙◌, append_assoc, length-append, arith}
-use Rattle.std.specs.Prelude.{nat_lt, nat_le, not, ◌==◌, ◌&&◌, is_some, codes, slice_get}
+use Rattle.std.specs.Prelude.{nat_lt, nat_le, not, ◌==◌, ◌&&◌, is_some, codes, slice_get, position, option_map, cond}
 use Rattle.std.specs.List.{list_all, list_any}
 use Rattle.std.specs.Str.{IsUtf8, bytes_eq}
 use Rattle.std.proofs.lemmas.Grind.{common_steps}
 use Rattle.std.proofs.lemmas.List.{append-nil, length-map, map-append}
 use Rattle.std.proofs.lemmas.List.Folds.{list_any-append}
-use Rattle.flu_lemmas.proofs.Tests.{and_left, and_right, true_le, not_true}
-use Rattle.flu_lemmas.proofs.Places.{slice_get-behind}
+use Rattle.flu_lemmas.proofs.Tests.{and_left, and_right, lt_true, true_lt, true_le, not_true}
+use Rattle.flu_lemmas.proofs.Places.{slice_get-behind, position-cons}
+use Rattle.flu_lemmas.proofs.Elements.{fails_at}
+use Rattle.flu_lemmas.specs.Items.{Pairs}
 use Rattle.flu_lemmas.proofs.Searches.{list_any-map}
-use Rattle.flu_lemmas.proofs.Booleans.{or_false, or_false_left, or_false_right, three_middle}
-use Rattle.flu_model.specs.declared.limits.What.TheVariants.{Rate}
+use Rattle.flu_lemmas.proofs.Booleans.{or_false, or_front, or_false_left, or_false_right, three_middle}
+use Rattle.flu_model.specs.declared.limits.What.TheVariants.{Rate, Names as TextsLimit}
 use Rattle.flu_model.specs.declared.events.Tag.{Tag as TagOf}
 use Rattle.flu_model.specs.declared.jobs.Family.{Family}
 use Rattle.flu_model.specs.declared.jobs.Depend.{Depend}
 use Rattle.flu_model.specs.declared.jobs.Source.{Source}
 use Rattle.flu_model.specs.Erasure.{PlainAction, PlainKind}
+use Rattle.flu_model.specs.Numberings.{Numbering}
+use Rattle.flu_model.specs.ListRules.{is_listed_text, is_list, is_declared_list, family_list_fits}
 use Rattle.flu_model.specs.Listing.{tags_of_source, itags_of_sources}
 use Rattle.flu_model.specs.Rules.{is_same_text, are_distinct}
 use Rattle.flu_model.specs.Versions.{is_named_item}
 use Rattle.flu_rules.specs.Keys.{TagsMeet, TagsDiffer}
-use Rattle.flu_syntax.specs.Tree.{Declaration, Cell, Tag, Depends, Source as SourceLine}
+use Rattle.flu_text.specs.declared.written.WrittenSpan.{WrittenSpan}
+use Rattle.flu_syntax.specs.declared.tree.WrittenBy.{WrittenBy}
+use Rattle.flu_syntax.specs.declared.tree.WrittenItem.{WrittenItem}
+use Rattle.flu_syntax.specs.Tree.{Declaration, Cell, Tag, Names, Depends, Source as SourceLine}
 use Rattle.flu_syntax.specs.Tree.{Action as WrittenDo}
 use Rattle.flu_names.specs.Names.{is_name}
 use Rattle.flu_layout.specs.Spelling.{name_of}
 use Rattle.flu_parse.specs.declared.faults.JobFault.TheVariants as f
 use Rattle.flu_parse.specs.declared.names.KindHead.{KindHead}
-use Rattle.flu_parse.specs.Faults.{Found, ◌>>=◌, ◌>>◌, unless, each}
-use Rattle.flu_parse.specs.Naming.{Naming, is_version_3, look_up, known, kind_of}
+use Rattle.flu_parse.specs.Faults.{Found, ◌>>=◌, ◌>>◌, unless, room, each}
+use Rattle.flu_parse.specs.Naming.{Naming, is_version_3, look_up, known, kind_of, keys_by, items_by}
+use Rattle.flu_parse.specs.Lists.{with_text, texts_of, list_of}
+use Rattle.flu_parse.specs.Printing.{name_of_list}
 use Rattle.flu_parse.specs.Listings.{Listed, tags_of, rate_of, slack_of, file_of}
-use Rattle.flu_parse.specs.Resolving.{Drafted, same_of, with_depend, with_actions, with_on, with_source, cell_name_fits, item_word_fits, with_declaration}
+use Rattle.flu_parse.specs.Resolving.{Drafted, same_of, with_depend, with_actions, with_on, with_source, item_word_fits, with_cell, with_tag, with_names}
+use Rattle.flu_parse.specs.Resolving.{with_declaration}
 use Rattle.flu_parse.proofs.Printed.Rules.{plain_source_fits}
 use Rattle.flu_parse.proofs.Printed.LaidLines.{source_facts}
 use Rattle.flu_parse.proofs.Printed.ReadTerms.{FamiliesKnown}
 use Rattle.flu_parse.proofs.Printed.ReadActions.{do_all}
 use Rattle.flu_parse.proofs.Printed.ReadTags.{kind_head, KindsKnown, all_tags, list_all_tags}
-use Rattle.flu_parse.proofs.Printed.ReadLines.{Lines, CellIs, TagIs, DependsIs, SourceIs, ActionsAre, Ons}
-use Rattle.flu_parse.proofs.Printed.Names.{differs_too}
+use Rattle.flu_parse.proofs.Printed.ReadLines.{Lines, TextIs, ByIs, CellIs, TagIs, NamesIs, DependsIs, SourceIs, ActionsAre, Ons}
+use Rattle.flu_parse.proofs.Printed.Names.{same_itself, differs_too}
+use Rattle.flu_parse.proofs.Printed.ListFits.{plain_kind_list_fits, list_facts, list_at_number}
 use Rattle.flu_parse.specs.Actions.{resolved_actions}
 use Rattle.flu_parse.proofs.Kept.Plain.{plain_action_fits, plain_kind_fits}
 use Rattle.flu_parse.proofs.Kept.Versions.{items_suit}
+
+-- a kind whose list is not known
+abbrev pub without_list : PlainKind → PlainKind
+without_list k = record k { list = None }
 
 -- a kind whose actions are not met yet
 abbrev pub without_actions : PlainKind → PlainKind
@@ -48,6 +64,15 @@ without_actions k = record k { actions = [] }
 
 abbrev pub with_kinds : Drafted → List PlainKind → List ℕ → Drafted
 with_kinds d kinds given = record d { kinds = kinds; given = given }
+
+abbrev pub with_all_lists : Drafted → List Numbering → Drafted
+with_all_lists d lists = record d { lists = lists }
+
+abbrev pub with_family_lists : Drafted → List (Option ℕ) → Drafted
+with_family_lists d lists = record d { family_lists = lists }
+
+abbrev pub with_kind_lists : Drafted → List (Option ℕ) → Drafted
+with_kind_lists d lists = record d { kind_lists = lists }
 
 abbrev pub with_all_depends : Drafted → List Depend → Drafted
 with_all_depends d depends = record d { depends = depends }
@@ -88,6 +113,28 @@ not_before (d ∷ done) x rest h =
     (or_false_right (list_any (is_same_text d) done) (is_same_text d x || list_any (is_same_text d) rest) split) in
     ap (λ b. b || list_any (is_same_text x) done) (differs_too d x here) ∙ not_before done x rest (and_right (not later) apart h)
 
+-- the place of a list's own name, where the names of lists differ
+own_place : (lists : List Numbering) (i : ℕ) (l : Numbering) → are_distinct is_same_text (map (λ (l : Numbering). l.name) lists) ≡ true
+    → slice_get lists i ≡ Some l → position (bytes_eq l.name) (map (λ (l : Numbering). l.name) lists) ≡ Some i
+own_place [] i l apart found = absurd cc
+own_place (m ∷ lists) zero l apart found =
+    let same : m ≡ l = cc in
+    let names : List (List ℕ) = map (λ (l : Numbering). l.name) lists in
+    position-cons (bytes_eq l.name) m.name names
+    ∙ ap (λ b. cond b (Some 0) (option_map (λ i. i + 1) (position (bytes_eq l.name) names)))
+    (ap (λ (k : Numbering). bytes_eq l.name k.name) same ∙ same_itself l.name)
+own_place (m ∷ lists) (suc i) l apart found =
+    let names : List (List ℕ) = map (λ (l : Numbering). l.name) lists in
+    let again : Bool = list_any (is_same_text m.name) names in
+    let none : again ≡ false = not_true again (and_left (not again) (are_distinct is_same_text names) apart) in
+    let other : bytes_eq l.name m.name ≡ false = differs_too m.name l.name
+    (fails_at (λ (l : Numbering). is_same_text m.name l.name) lists i l (sym (list_any-map (is_same_text m.name) (λ (l : Numbering). l.name) lists) ∙ none)
+    found) in
+    position-cons (bytes_eq l.name) m.name names
+    ∙ ap (λ b. cond b (Some 0) (option_map (λ i. i + 1) (position (bytes_eq l.name) names))) other
+    ∙ ap (λ o. option_map (λ i. i + 1) o) (own_place lists i l (and_right (not again) (are_distinct is_same_text names) apart) found)
+    ∙ ap Some (let same : i + 1 ≡ suc i = omega arith in same)
+
 -- of no part of an alternative
 neither : (newer here others : Bool) → (newer && (here || others)) ≡ false → ((newer && here) ≡ false) × ((newer && others) ≡ false)
 neither false here others e = (refl, refl)
@@ -106,35 +153,129 @@ module _ (whole : List ℕ) (utf8 : IsUtf8 whole) (n : Naming) where
   nothing : (d : Drafted) (ds more : List Declaration) → ds ≡ [] → each (with_declaration whole n) d (ds ++ more) ≡ each (with_declaration whole n) d more
   nothing d ds more none = ap (λ l. each (with_declaration whole n) d (l ++ more)) none
 
-  pub skip_cells : (fs : List Family) (d : Drafted) (ds more : List Declaration) → (is_version_3 n && list_any is_named_item fs) ≡ false
-      → Lines (CellIs whole utf8) fs ds → each (with_declaration whole n) d (ds ++ more) ≡ each (with_declaration whole n) d more
-  unfolding with_declaration
-  skip_cells [] d ds more none lines = nothing d ds more lines
-  skip_cells (g ∷ fs) d ds more none lines =
-      let line = lines.3 in
-      let s = line.0 in
-      let parts = neither (is_version_3 n) (is_named_item g) (list_any is_named_item fs) none in
-      let found : (unless (cell_name_fits whole n s) (f.WrongShape s.from) >> Ok d) ≡ Ok d =
-      ap (λ name. unless (not (is_version_3 n && bytes_eq name (codes "item"))) (f.WrongShape s.from) >> Ok d) line.2
-      ∙ ap (λ b. unless (not b) (f.WrongShape s.from) >> Ok d) parts.0 in
-      one d d ds lines.0 lines.1 more (Cell s g.keyed g.sort) lines.2 line.1 found ∙ skip_cells fs d lines.1 more parts.1 lines.4
+  -- the texts of a list, one after another
+  all_texts : (done ts : List (List ℕ)) (ss : List WrittenSpan) → Pairs (TextIs whole utf8) ts ss → list_all is_listed_text ts ≡ true
+      → are_distinct is_same_text (done ++ ts) ≡ true → length done + length ts ≤ 65536
+      → each (with_text whole) done ss ≡ Ok (done ++ ts)
+  unfolding each with_text
+  all_texts done [] [] are listed apart few = ap Ok (sym (append-nil done))
+  all_texts done [] (s ∷ ss) are listed apart few = absurd are
+  all_texts done (t ∷ ts) [] are listed apart few = absurd are
+  all_texts done (t ∷ ts) (s ∷ ss) are listed apart few =
+      let size = length-append done (t ∷ []) in
+      let end : List ℕ → Found (List (List ℕ)) = λ b. room TextsLimit 65536 (length done) >> (unless (not (list_any (bytes_eq b) done))
+      (f.TwiceNamed s.from) >> Ok (done ++ b ∷ [])) in
+      let found : with_text whole done s ≡ Ok (done ++ t ∷ []) =
+      ap (λ b. unless (is_listed_text b) (f.WrongShape s.from) >> end b) are.0
+      ∙ ap (λ b. unless b (f.WrongShape s.from) >> end t) (and_left (is_listed_text t) (list_all is_listed_text ts) listed)
+      ∙ ap (λ b. unless b (f.OverLimit TextsLimit 65537) >> (unless (not (list_any (bytes_eq t) done)) (f.TwiceNamed s.from) >> Ok (done ++ t ∷ [])))
+      (lt_true (length done) 65536 (omega (arith, few)))
+      ∙ ap (λ b. unless (not b) (f.TwiceNamed s.from) >> Ok (done ++ t ∷ [])) (not_before done t ts apart) in
+      ap (λ (r : Found (List (List ℕ))). r >>= λ next. each (with_text whole) next ss) found
+      ∙ all_texts (done ++ t ∷ []) ts ss are.1 (and_right (is_listed_text t) (list_all is_listed_text ts) listed)
+      (ap (are_distinct is_same_text) (append_assoc done (t ∷ []) ts) ∙ apart) (omega (arith, few, size))
+      ∙ ap Ok (append_assoc done (t ∷ []) ts)
 
-  item_fits : (item : Option ℕ) → (is_version_3 n || not (is_some item)) ≡ true → item_word_fits n item ≡ Ok tt
+  -- only version 3 has lists
+  lists_newer : (lists : List Numbering) (i : ℕ) → (is_version_3 n || length lists == 0) ≡ true → nat_lt i (length lists) ≡ true → is_version_3 n ≡ true
+  lists_newer [] i some there = absurd (let below : i < 0 = true_lt i 0 there in omega arith)
+  lists_newer (l ∷ lists) i some there =
+      let full : (length (l ∷ lists) == 0) ≡ false = grind (arith, common_steps) in
+      or_front (is_version_3 n) (length (l ∷ lists) == 0) some full
+
+  pub add_names : (ls : List Numbering) (d : Drafted) (ds more : List Declaration) → list_all is_list ls ≡ true
+      → (is_version_3 n || length ls == 0) ≡ true → Lines (NamesIs whole utf8) ls ds
+      → each (with_declaration whole n) d (ds ++ more) ≡ each (with_declaration whole n) (with_all_lists d (d.lists ++ ls)) more
+  unfolding with_declaration with_names
+  add_names [] d ds more fit newer lines = nothing d ds more lines ∙ ap (λ l. each (with_declaration whole n) (with_all_lists d l) more)
+      (sym (append-nil d.lists))
+  add_names (l ∷ ls) d ds more fit some lines =
+      let line = lines.3 in
+      let facts = list_facts l (and_left (is_list l) (list_all is_list ls) fit) in
+      let newer : is_version_3 n ≡ true = lists_newer (l ∷ ls) 0 some (lt_true 0 (length (l ∷ ls)) (omega arith)) in
+      let few = true_le (length l.texts) 65536 facts.few in
+      let texts : texts_of whole line.texts ≡ Ok l.texts = all_texts [] l.texts line.texts line.are facts.texts facts.apart (omega (arith, few)) in
+      let next : Drafted = with_all_lists d (d.lists ++ l ∷ []) in
+      let end : List ℕ → List (List ℕ) → Found Drafted = λ name texts. Ok (with_all_lists d (d.lists ++ record { name = name; texts = texts } ∷ [])) in
+      let found : with_names whole n d line.at line.named line.texts ≡ Ok next =
+      ap (λ b. unless b (f.WrongShape line.at) >> (texts_of whole line.texts >>= end (name_of whole line.named))) newer
+      ∙ ap (λ (r : Found (List (List ℕ))). r >>= end (name_of whole line.named)) texts
+      ∙ ap (λ name. end name l.texts) line.name_is in
+      one d next ds lines.0 lines.1 more (Names line.at line.named line.texts) lines.2 line.is found
+      ∙ add_names ls next lines.1 more (and_right (is_list l) (list_all is_list ls) fit) (ap (λ b. b || length ls == 0) newer) lines.4
+      ∙ ap (λ l. each (with_declaration whole n) (with_all_lists d l) more) (append_assoc d.lists (l ∷ []) ls)
+
+  item_fits : (item : Option WrittenItem) → (is_version_3 n || not (is_some item)) ≡ true → item_word_fits n item ≡ Ok tt
   item_fits None e = refl
-  item_fits (Some at) e = ap (λ b. unless b (f.WrongShape at)) (sym (or_false (is_version_3 n)) ∙ e)
+  item_fits (Some item) e = ap (λ b. unless b (f.WrongShape item.at)) (sym (or_false (is_version_3 n)) ∙ e)
 
-  pub skip_tags : (ks : List PlainKind) (d : Drafted) (ds more : List Declaration) → list_all (items_suit (is_version_3 n)) ks ≡ true
-      → Lines (TagIs whole utf8) ks ds → each (with_declaration whole n) d (ds ++ more) ≡ each (with_declaration whole n) d more
-  unfolding with_declaration
-  skip_tags [] d ds more items lines = nothing d ds more lines
-  skip_tags (k ∷ ks) d ds more items lines =
-      let line = lines.3 in
-      let newer : Bool = is_version_3 n in
-      let has : (newer || not (is_some line.1)) ≡ true =
-      ap (λ b. newer || not b) line.4 ∙ and_left (items_suit newer k) (list_all (items_suit newer) ks) items in
-      let found : (item_word_fits n line.1 >> Ok d) ≡ Ok d = ap (λ (r : Found (Unit {0})). r >> Ok d) (item_fits line.1 has) in
-      one d d ds lines.0 lines.1 more (Tag line.0 k.keyed line.1 k.has_value) lines.2 line.2 found
-      ∙ skip_tags ks d lines.1 more (and_right (items_suit newer k) (list_all (items_suit newer) ks) items) lines.4
+  module _ (lists : List Numbering) (known_lists : n.lists ≡ map (λ (l : Numbering). l.name) lists)
+      (apart : are_distinct is_same_text (map (λ (l : Numbering). l.name) lists) ≡ true) (newer : (is_version_3 n || length lists == 0) ≡ true) where
+    -- the list that is named
+    list_found : (list : Option ℕ) (by : Option WrittenBy) → is_declared_list lists list ≡ true → ByIs whole utf8 lists list by → list_of whole n by ≡ Ok list
+    list_found None by declared is = ap (list_of whole n) is
+    list_found (Some number) by declared is =
+        let at = list_at_number lists number declared in
+        let s : WrittenSpan = is.0.list in
+        let place : position (bytes_eq (name_of whole s)) n.lists ≡ Some number =
+        ap (λ name. position (bytes_eq name) n.lists) (is.2 ∙ ap name_of_list at.found)
+        ∙ ap (position (bytes_eq at.list.name)) known_lists
+        ∙ own_place lists number at.list apart at.found in
+        ap (list_of whole n) is.1
+        ∙ ap (λ b. unless b (f.WrongShape is.0.at) >> (known s.from (position (bytes_eq (name_of whole s)) n.lists) >>= λ number. Ok (Some number)))
+        (lists_newer lists number newer declared)
+        ∙ ap (λ o. known s.from o >>= λ number. Ok (Some number)) place
+
+    pub add_cells : (fs : List Family) (d : Drafted) (ds more : List Declaration) → (is_version_3 n && list_any is_named_item fs) ≡ false
+        → list_all (family_list_fits lists) fs ≡ true → Lines (CellIs whole utf8 lists) fs ds
+        → each (with_declaration whole n) d (ds ++ more)
+        ≡ each (with_declaration whole n) (with_family_lists d (d.family_lists ++ map (λ (g : Family). g.list) fs)) more
+    unfolding with_declaration with_cell
+    add_cells [] d ds more none fit lines =
+        nothing d ds more lines ∙ ap (λ l. each (with_declaration whole n) (with_family_lists d l) more) (sym (append-nil d.family_lists))
+    add_cells (g ∷ fs) d ds more none fit lines =
+        let line = lines.3 in
+        let s = line.named in
+        let parts = neither (is_version_3 n) (is_named_item g) (list_any is_named_item fs) none in
+        let here : family_list_fits lists g ≡ true = and_left (family_list_fits lists g) (list_all (family_list_fits lists) fs) fit in
+        let list : list_of whole n (keys_by line.cells) ≡ Ok g.list =
+        list_found g.list (keys_by line.cells) (and_left (is_declared_list lists g.list) (g.keyed || not (is_some g.list)) here) line.by in
+        let next : Drafted = with_family_lists d (d.family_lists ++ g.list ∷ []) in
+        let end : Option ℕ → Found Drafted = λ list. Ok (with_family_lists d (d.family_lists ++ list ∷ [])) in
+        let found : with_cell whole n d s line.cells ≡ Ok next =
+        ap (λ name. unless (not (is_version_3 n && bytes_eq name (codes "item"))) (f.WrongShape s.from) >> (list_of whole n (keys_by line.cells) >>= end))
+        line.name_is
+        ∙ ap (λ b. unless (not b) (f.WrongShape s.from) >> (list_of whole n (keys_by line.cells) >>= end)) parts.0
+        ∙ ap (λ (r : Found (Option ℕ)). r >>= end) list in
+        one d next ds lines.0 lines.1 more (Cell s line.cells g.sort) lines.2 line.is found
+        ∙ add_cells fs next lines.1 more parts.1 (and_right (family_list_fits lists g) (list_all (family_list_fits lists) fs) fit) lines.4
+        ∙ ap (λ l. each (with_declaration whole n) (with_family_lists d l) more) (append_assoc d.family_lists (g.list ∷ []) (map (λ (g : Family). g.list) fs))
+
+    pub add_tags : (ks : List PlainKind) (d : Drafted) (ds more : List Declaration) → list_all (items_suit (is_version_3 n)) ks ≡ true
+        → list_all (plain_kind_list_fits lists) ks ≡ true → Lines (TagIs whole utf8 lists) ks ds
+        → each (with_declaration whole n) d (ds ++ more)
+        ≡ each (with_declaration whole n) (with_kind_lists d (d.kind_lists ++ map (λ (k : PlainKind). k.list) ks)) more
+    unfolding with_declaration with_tag
+    add_tags [] d ds more items fit lines =
+        nothing d ds more lines ∙ ap (λ l. each (with_declaration whole n) (with_kind_lists d l) more) (sym (append-nil d.kind_lists))
+    add_tags (k ∷ ks) d ds more items fit lines =
+        let line = lines.3 in
+        let item : Option WrittenItem = line.item in
+        let newer : Bool = is_version_3 n in
+        let has : (newer || not (is_some item)) ≡ true =
+        ap (λ b. newer || not b) line.has_item ∙ and_left (items_suit newer k) (list_all (items_suit newer) ks) items in
+        let here : plain_kind_list_fits lists k ≡ true = and_left (plain_kind_list_fits lists k) (list_all (plain_kind_list_fits lists) ks) fit in
+        let list : list_of whole n (items_by item) ≡ Ok k.list =
+        list_found k.list (items_by item) (and_left (is_declared_list lists k.list) (k.has_item || not (is_some k.list)) here) line.by in
+        let next : Drafted = with_kind_lists d (d.kind_lists ++ k.list ∷ []) in
+        let end : Option ℕ → Found Drafted = λ list. Ok (with_kind_lists d (d.kind_lists ++ list ∷ [])) in
+        let found : with_tag whole n d item ≡ Ok next =
+        ap (λ (r : Found (Unit {0})). r >> (list_of whole n (items_by item) >>= end)) (item_fits item has)
+        ∙ ap (λ (r : Found (Option ℕ)). r >>= end) list in
+        one d next ds lines.0 lines.1 more (Tag line.named k.keyed item k.has_value) lines.2 line.is found
+        ∙ add_tags ks next lines.1 more (and_right (items_suit newer k) (list_all (items_suit newer) ks) items)
+        (and_right (plain_kind_list_fits lists k) (list_all (plain_kind_list_fits lists) ks) fit) lines.4
+        ∙ ap (λ l. each (with_declaration whole n) (with_kind_lists d l) more) (append_assoc d.kind_lists (k.list ∷ []) (map (λ (k : PlainKind). k.list) ks))
 
   module _ (kinds : List PlainKind) (named_kinds : list_all (λ (k : PlainKind). is_name k.name) kinds ≡ true) (known_kinds : KindsKnown kinds n) where
     pub add_depends : (deps : List Depend) (d : Drafted) (ds more : List Declaration) → Lines (DependsIs whole utf8 kinds named_kinds n known_kinds) deps ds

@@ -1,12 +1,15 @@
 -- The normal form of a job is read as that job.
-use Rattle.std.proofs.Common.{◌≡◌, ◌≤◌, ◌+◌, ℕ, pos, Bool, true, false, Option, None, List, [], ◌∷◌, ◌++◌, map, length, Some, Ok, refl, sym, ap, subst, ◌∙◌}
+use Rattle.std.proofs.Common.{◌≡◌, ◌≤◌, ◌+◌, ℕ, zero, suc, pos, Bool, true, false, Option, None, List, [], ◌∷◌, ◌++◌, map, length, Some, Ok, refl, sym, ap}
+use Rattle.std.proofs.Common.{subst, ◌∙◌}
 use Rattle.std.proofs.Common.{append_assoc, arith}
 use Rattle.std.specs.Prelude.{◌==◌, ◌&&◌, ◌||◌, not, slice_get, if◌then◌else◌, codes}
 use Rattle.std.specs.List.{list_all, list_any}
 use Rattle.std.specs.Str.{IsUtf8}
+use Rattle.std.proofs.lemmas.List.{append-nil}
 use Rattle.std.proofs.lemmas.List.Concat.{flat_map-append}
-use Rattle.flu_lemmas.proofs.Tests.{le_true, true_eq, not_true}
-use Rattle.flu_lemmas.proofs.Booleans.{or_front, three_left, three_middle, three_right}
+use Rattle.std.proofs.lemmas.List.Folds.{list_any-append}
+use Rattle.flu_lemmas.proofs.Tests.{le_true, true_eq, and_left, and_right, not_true}
+use Rattle.flu_lemmas.proofs.Booleans.{or_front, or_turns, three_left, three_middle, three_right}
 use Rattle.flu_lemmas.proofs.Elements.{fails_at}
 use Rattle.flu_lemmas.specs.Items.{Begins}
 use Rattle.flu_lemmas.proofs.Items.{begins_append, Took, took_none}
@@ -16,14 +19,18 @@ use Rattle.flu_text.specs.Reading.{Reading as TokenReading}
 use Rattle.flu_model.specs.declared.limits.What.TheVariants.{Bytes}
 use Rattle.flu_model.specs.declared.jobs.Family.{Family}
 use Rattle.flu_model.specs.declared.jobs.Source.{Source}
+use Rattle.flu_model.specs.declared.jobs.Piece.{Piece}
+use Rattle.flu_model.specs.declared.jobs.Piece.TheVariants as piece
 use Rattle.flu_model.specs.Erasure.{PlainKind, Job}
+use Rattle.flu_model.specs.Numberings.{Numbering}
+use Rattle.flu_model.specs.ListRules.{is_list, family_list_fits}
+use Rattle.flu_model.specs.Templates.{family_name, written_key, written_piece, written_template}
 use Rattle.flu_model.specs.Rules.{is_same_text, are_distinct}
 use Rattle.flu_model.specs.Texts.{Unit as TimeUnit}
 use Rattle.flu_calendar.specs.declared.unit.Unit.TheVariants.{Seconds, Milliseconds, Microseconds}
 use Rattle.flu_model.specs.Versions.{is_named_item, iso_fits}
 use Rattle.flu_names.specs.declared.reserved.Reserved.TheVariants as r
 use Rattle.flu_rules.specs.Keys.{TagsMeet, TagsDiffer}
-use Rattle.flu_text.specs.declared.written.WrittenNumber.{WrittenNumber}
 use Rattle.flu_syntax.specs.declared.tree.WrittenUnit.{WrittenUnit}
 use Rattle.flu_syntax.specs.declared.tree.WrittenHead.{WrittenHead}
 use Rattle.flu_syntax.specs.Tree.{Declaration, Job as WrittenJob}
@@ -40,37 +47,97 @@ use Rattle.flu_layout.specs.Stands.{Stand}
 use Rattle.flu_layout.specs.Laws.{LaidIsRead, BegunAreSigns, KeysAreSpelled, KeysAreLaid}
 use Rattle.flu_parse.specs.declared.faults.JobFault.TheVariants as f
 use Rattle.flu_parse.specs.Faults.{Found, ◌>>=◌, ◌>>◌, unless, each}
-use Rattle.flu_parse.specs.Naming.{Naming, in_version, family, no_names, naming_of}
-use Rattle.flu_parse.specs.Resolving.{Drafted, with_declaration, idle_kind, draft_of, version_of, unit_named, found_unit, unit_of, iso_of, job_with as draft_with}
+use Rattle.flu_parse.specs.Naming.{Naming, in_version, family, look_up, no_names, naming_of}
+use Rattle.flu_parse.specs.Lists.{listed_families, listed_kinds}
+use Rattle.flu_parse.specs.Resolving.{Drafted, with_declaration, idle_kind, draft_of, version_of, unit_named, found_unit, unit_of, iso_of}
+use Rattle.flu_parse.specs.Resolving.{job_with as draft_with}
 use Rattle.flu_parse.specs.Resolving.{resolved}
 use Rattle.flu_parse.specs.Reading.{text_in, found_tokens, tokens_in, found_job, written_in, job_in}
 use Rattle.flu_parse.specs.Printing.{unit_name, normal_form}
-use Rattle.flu_parse.proofs.Distinct.{distinct_front, distinct_back}
+use Rattle.flu_parse.proofs.Distinct.{distinct_front, distinct_back, distinct_with}
 use Rattle.flu_parse.proofs.ReadingLemmas.{text_in-utf8}
+use Rattle.flu_parse.proofs.Kept.Plain.{plain_kind_fits}
 use Rattle.flu_parse.proofs.Kept.Versions.{items_suit, actions_suit}
+use Rattle.flu_parse.proofs.Printed.ListFits.{plain_kind_list_fits, families_listed, plain_kinds_listed, lists_known}
 use Rattle.flu_parse.proofs.Printed.Rules.{plain_depend_fits, plain_source_fits, names_of_job, JobFits}
-use Rattle.flu_parse.proofs.Printed.Words.{iso_words, version_words, cell_line_words, tag_line_words, depends_line_words, source_line_words, job_words, job_layout}
+use Rattle.flu_parse.proofs.Printed.Words.{iso_words, version_words, names_line_words, cell_line_words, tag_line_words, depends_line_words, source_line_words}
+use Rattle.flu_parse.proofs.Printed.Words.{job_words, job_layout}
 use Rattle.flu_parse.proofs.Printed.LaidLines.{names_of_kinds, job_laid}
 use Rattle.flu_parse.proofs.Printed.ReadTerms.{family_head, FamiliesKnown}
 use Rattle.flu_parse.proofs.Printed.ReadTags.{kind_head, KindsKnown}
-use Rattle.flu_parse.proofs.Printed.ReadLines.{Lines, CellIs, TagIs, DependsIs, SourceIs, Ons, declarations-append, read_lines, read_cell_line, read_tag_line}
+use Rattle.flu_parse.proofs.Printed.ReadLines.{Lines, CellIs, TagIs, NamesIs, DependsIs, SourceIs, Ons, declarations-append, read_lines, read_names_line}
+use Rattle.flu_parse.proofs.Printed.ReadLines.{read_cell_line, read_tag_line}
 use Rattle.flu_parse.proofs.Printed.ReadLines.{read_depends_line, read_ons, read_source_line}
-use Rattle.flu_parse.proofs.Printed.Names.{family_heads, kind_heads, naming_of_job, own_head, Left, all_fresh, declare_cells, declare_tags, declare_depends}
-use Rattle.flu_parse.proofs.Printed.Names.{declare_ons, declare_sources, counted}
-use Rattle.flu_parse.proofs.Printed.Drafts.{without_actions, itags_counted, total_itags, skip_cells, skip_tags, add_depends, add_ons, add_sources}
+use Rattle.flu_parse.proofs.Printed.Names.{family_heads, kind_heads, naming_of_job, own_head, Left, all_fresh, declare_lists, declare_cells, declare_tags}
+use Rattle.flu_parse.proofs.Printed.Names.{turned_text, declare_depends, declare_ons, declare_sources, counted}
+use Rattle.flu_parse.proofs.Printed.Drafts.{without_list, without_actions, itags_counted, total_itags, add_names, add_cells, add_tags, add_depends, add_ons}
+use Rattle.flu_parse.proofs.Printed.Drafts.{add_sources}
 
-families_back : (i : ℕ) (fs : List Family) → map family (family_heads i fs) ≡ fs
+families_back : (i : ℕ) (fs : List Family) → listed_families (map family (family_heads i fs)) (map (λ (g : Family). g.list) fs) ≡ fs
 families_back i [] = refl
 families_back i (g ∷ fs) = ap (λ l. g ∷ l) (families_back (i + 1) fs)
 
-kinds_idle : (i : ℕ) (ks : List PlainKind) → map idle_kind (kind_heads i ks) ≡ map without_actions ks
-kinds_idle i [] = refl
-kinds_idle i (k ∷ ks) = ap (λ l. without_actions k ∷ l) (kinds_idle (i + 1) ks)
+kinds_back : (ks : List PlainKind) → listed_kinds (map without_list ks) (map (λ (k : PlainKind). k.list) ks) ≡ ks
+kinds_back [] = refl
+kinds_back (k ∷ ks) = ap (λ l. k ∷ l) (kinds_back ks)
 
--- the names of families, and those of kinds, differ
+kinds_idle : (i : ℕ) (ks : List PlainKind) → map idle_kind (kind_heads i ks) ≡ map without_actions (map without_list ks)
+kinds_idle i [] = refl
+kinds_idle i (k ∷ ks) = ap (λ l. without_actions (without_list k) ∷ l) (kinds_idle (i + 1) ks)
+
+-- ---- families and kinds, before it is known what their lists are
+
+-- a template is written with the names of families alone
+names_back : (i : ℕ) (fs : List Family) (j : ℕ) → family_name (slice_get (map family (family_heads i fs)) j) ≡ family_name (slice_get fs j)
+names_back i [] j = refl
+names_back i (g ∷ fs) zero = refl
+names_back i (g ∷ fs) (suc j) = names_back (i + 1) fs j
+
+module _ (fs gs : List Family) (same : (j : ℕ) → family_name (slice_get fs j) ≡ family_name (slice_get gs j)) where
+  same_piece : (p : Piece) → written_piece fs p ≡ written_piece gs p
+  same_piece (piece.Plain t) = refl
+  same_piece piece.Value = refl
+  same_piece piece.Key = refl
+  same_piece piece.Item = refl
+  same_piece piece.Time = refl
+  same_piece (piece.Read c) = ap (λ name. codes "{" ++ (name ++ written_key c.at) ++ codes "}") (same c.family)
+  same_piece piece.CellValue = refl
+  same_piece (piece.FamilyCell j) = ap (λ name. codes "{" ++ name ++ codes "}") (same j)
+
+  same_template : (ps : List Piece) → written_template fs ps ≡ written_template gs ps
+  same_template [] = refl
+  same_template (p ∷ ps) = λ i. same_piece p i ++ same_template ps i
+
+heads_bare : (i : ℕ) (ks : List PlainKind) → kind_heads i ks ≡ kind_heads i (map without_list ks)
+heads_bare i [] = refl
+heads_bare i (k ∷ ks) = ap (λ l. (k.name, kind_head i k) ∷ l) (heads_bare (i + 1) ks)
+
+names_bare : (ks : List PlainKind) → map (λ (k : PlainKind). k.name) (map without_list ks) ≡ map (λ (k : PlainKind). k.name) ks
+names_bare [] = refl
+names_bare (k ∷ ks) = ap (λ l. k.name ∷ l) (names_bare ks)
+
+fit_bare : (families : List Family) (ks : List PlainKind)
+    → list_all (plain_kind_fits families) (map without_list ks) ≡ list_all (plain_kind_fits families) ks
+fit_bare families [] = refl
+fit_bare families (k ∷ ks) = ap (λ b. plain_kind_fits families k && b) (fit_bare families ks)
+
+-- elements that differ do so in another order of two parts
+distinct_swap : (xs ys : List (List ℕ)) → are_distinct is_same_text (xs ++ ys) ≡ true → are_distinct is_same_text (ys ++ xs) ≡ true
+distinct_swap [] ys h = ap (are_distinct is_same_text) (append-nil ys) ∙ h
+distinct_swap (x ∷ xs) ys h =
+    let again : Bool = list_any (is_same_text x) (xs ++ ys) in
+    let none : again ≡ false = not_true again (and_left (not again) (are_distinct is_same_text (xs ++ ys)) h) in
+    let other : list_any (is_same_text x) (ys ++ xs) ≡ false =
+    list_any-append (is_same_text x) ys xs ∙ or_turns (list_any (is_same_text x) ys) (list_any (is_same_text x) xs)
+    ∙ sym (list_any-append (is_same_text x) xs ys) ∙ none in
+    distinct_with is_same_text turned_text ys xs x
+    (distinct_swap xs ys (and_right (not again) (are_distinct is_same_text (xs ++ ys)) h)) other
+
+-- the names of families, those of kinds and those of lists differ
 record Apart (job : Job) : Type 0 where
-  all : are_distinct is_same_text (map (λ (g : Family). g.name) job.families ++ (map (λ (k : PlainKind). k.name) job.kinds ++ map
-      (λ (s : Source). s.name) job.sources)) ≡ true
+  all : are_distinct is_same_text (map (λ (l : Numbering). l.name) job.lists ++ (map (λ (g : Family). g.name) job.families ++
+      (map (λ (k : PlainKind). k.name) job.kinds ++ map (λ (s : Source). s.name) job.sources))) ≡ true
+  lists : are_distinct is_same_text (map (λ (l : Numbering). l.name) job.lists) ≡ true
   families : are_distinct is_same_text (map (λ (g : Family). g.name) job.families) ≡ true
   kinds : are_distinct is_same_text (map (λ (k : PlainKind). k.name) job.kinds) ≡ true
 
@@ -79,9 +146,11 @@ apart job h =
     let a : List (List ℕ) = map (λ (g : Family). g.name) job.families in
     let b : List (List ℕ) = map (λ (k : PlainKind). k.name) job.kinds in
     let c : List (List ℕ) = map (λ (s : Source). s.name) job.sources in
-    let front = distinct_front is_same_text (a ++ b) c h in
+    let d : List (List ℕ) = map (λ (l : Numbering). l.name) job.lists in
+    let front = distinct_front is_same_text (a ++ b) c (distinct_front is_same_text (a ++ b ++ c) d h) in
     record {
-      all = ap (are_distinct is_same_text) (sym (append_assoc a b c)) ∙ h;
+      all = ap (λ l. are_distinct is_same_text (d ++ l)) (sym (append_assoc a b c)) ∙ distinct_swap (a ++ b ++ c) d h;
+      lists = distinct_back is_same_text (a ++ b ++ c) d h;
       families = distinct_front is_same_text a b front;
       kinds = distinct_back is_same_text a b front;
     }
@@ -119,7 +188,7 @@ module _ (begun : BegunAreSigns) (meet : TagsMeet) (differ : TagsDiffer) (job : 
         own_head (λ (g : Family). g.name) family_head 0 job.families i g (apart job fits.own_names).families found
         ∙ ap (λ k. Some (family_head k g)) (let same : 0 + i ≡ i = omega arith in same);
     not_item = λ i g found. none_at newer i g unnamed found;
-    all = families_back 0 job.families;
+    all = same_template (map family (family_heads 0 job.families)) job.families (names_back 0 job.families);
   }
 
   known_kinds : KindsKnown job.kinds n
@@ -128,24 +197,45 @@ module _ (begun : BegunAreSigns) (meet : TagsMeet) (differ : TagsDiffer) (job : 
       own_head (λ (k : PlainKind). k.name) kind_head 0 job.kinds i k (apart job fits.own_names).kinds found
       ∙ ap (λ j. Some (kind_head j k)) (let same : 0 + i ≡ i = omega arith in same)
 
+  -- kinds as they are before their lists are known
+  abbrev bare : List PlainKind
+  bare = map without_list job.kinds
+
+  known_bare : KindsKnown bare n
+  unfolding n
+  known_bare i k found =
+      let apart_bare : are_distinct is_same_text (map (λ (k : PlainKind). k.name) bare) ≡ true =
+      ap (are_distinct is_same_text) (names_bare job.kinds) ∙ (apart job fits.own_names).kinds in
+      ap (look_up k.name) (heads_bare 0 job.kinds)
+      ∙ own_head (λ (k : PlainKind). k.name) kind_head 0 bare i k apart_bare found
+      ∙ ap (λ j. Some (kind_head j k)) (let same : 0 + i ≡ i = omega arith in same)
+
   named_kinds : list_all (λ (k : PlainKind). is_name k.name) job.kinds ≡ true
   named_kinds = names_of_kinds job.families job.kinds fits.kinds
 
+  families_fit : list_all (family_list_fits job.lists) job.families ≡ true
+  families_fit = families_listed job.version job.lists job.families job.kinds fits.lists_fit
+
+  kinds_fit : list_all (plain_kind_list_fits job.lists) job.kinds ≡ true
+  kinds_fit = plain_kinds_listed job.version job.lists job.families job.kinds fits.lists_fit
+
   -- the declarations, part by part
   record Parts : Type 0 where
+    names : List Declaration
     cells : List Declaration
     tags : List Declaration
     deps : List Declaration
     ons : List Declaration
     sources : List Declaration
-    are_cells : Lines (CellIs whole utf8) job.families cells
-    are_tags : Lines (TagIs whole utf8) job.kinds tags
+    are_names : Lines (NamesIs whole utf8) job.lists names
+    are_cells : Lines (CellIs whole utf8 job.lists) job.families cells
+    are_tags : Lines (TagIs whole utf8 job.lists) job.kinds tags
     are_deps : Lines (DependsIs whole utf8 job.kinds named_kinds n known_kinds) job.depends deps
     are_ons : Ons whole utf8 job.families fits.families n known_families 0 job.kinds ons
     are_sources : Lines (SourceIs whole utf8 job.kinds named_kinds n known_kinds) job.sources sources
 
   abbrev all_parts : Parts → List Declaration
-  all_parts p = p.cells ++ (p.tags ++ (p.deps ++ (p.ons ++ (p.sources ++ []))))
+  all_parts p = p.names ++ (p.cells ++ (p.tags ++ (p.deps ++ (p.ons ++ (p.sources ++ [])))))
 
   -- the tokens are these declarations
   record IsRead (ts : List Token) : Type 0 where
@@ -253,21 +343,24 @@ module _ (begun : BegunAreSigns) (meet : TagsMeet) (differ : TagsDiffer) (job : 
   read_parts tokens h =
       let head = read_head _ tokens h in
       let ts = head.took.rest in
-      let cells = read_lines whole cell_line_words (CellIs whole utf8) (λ (g : Family). is_name g.name)
-      (read_cell_line whole utf8) job.families _ ts fits.families head.took.stand in
-      let tags = read_lines whole tag_line_words (TagIs whole utf8) (λ (k : PlainKind). is_name k.name)
-      (read_tag_line whole utf8) job.kinds _ cells.took.rest named_kinds cells.took.stand in
+      let names = read_lines whole names_line_words (NamesIs whole utf8) is_list (read_names_line whole utf8) job.lists _ ts fits.lists head.took.stand in
+      let cells = read_lines whole (cell_line_words job.lists) (CellIs whole utf8 job.lists) (family_list_fits job.lists)
+      (read_cell_line whole utf8 job.lists) job.families _ names.took.rest families_fit names.took.stand in
+      let tags = read_lines whole (tag_line_words job.lists) (TagIs whole utf8 job.lists) (plain_kind_list_fits job.lists)
+      (read_tag_line whole utf8 job.lists) job.kinds _ cells.took.rest kinds_fit cells.took.stand in
       let deps = read_lines whole (depends_line_words job.kinds) (DependsIs whole utf8 job.kinds named_kinds n known_kinds) (plain_depend_fits job.kinds)
       (read_depends_line whole utf8 job.kinds named_kinds n known_kinds) job.depends _ tags.took.rest fits.depends tags.took.stand in
       let ons = read_ons whole utf8 job.families fits.families n known_families 0 job.kinds _ deps.took.rest fits.kinds items suits deps.took.stand in
       let sources = read_lines whole (source_line_words job.kinds) (SourceIs whole utf8 job.kinds named_kinds n known_kinds) (plain_source_fits job.kinds)
       (read_source_line whole utf8 job.kinds named_kinds n known_kinds) job.sources [] ons.took.rest fits.sources ons.took.stand in
       let p : Parts = record {
+        names = names.written;
         cells = cells.written;
         tags = tags.written;
         deps = deps.written;
         ons = ons.written;
         sources = sources.written;
+        are_names = names.means;
         are_cells = cells.means;
         are_tags = tags.means;
         are_deps = deps.means;
@@ -280,10 +373,12 @@ module _ (begun : BegunAreSigns) (meet : TagsMeet) (differ : TagsDiffer) (job : 
       let second = begin_more tags.written
       (deps.written ++ (ons.written ++ (sources.written ++ []))) cells.took.rest tags.took.rest sources.took.rest tags.took.begins third in
       let first = begin_more cells.written
-      (tags.written ++ (deps.written ++ (ons.written ++ (sources.written ++ [])))) ts cells.took.rest sources.took.rest cells.took.begins second in
+      (tags.written ++ (deps.written ++ (ons.written ++ (sources.written ++ [])))) names.took.rest cells.took.rest sources.took.rest cells.took.begins second in
+      let lists = begin_more names.written (cells.written ++ (tags.written ++ (deps.written ++ (ons.written ++ (sources.written ++ [])))))
+      ts names.took.rest sources.took.rest names.took.begins first in
       let written : WrittenJob = record { head = head.written; declarations = all_parts p } in
       let whole_job = begins_append IsSign (head_signs head.written)
-      (declarations_signs (all_parts p)) tokens ts sources.took.rest head.took.begins first in
+      (declarations_signs (all_parts p)) tokens ts sources.took.rest head.took.begins lists in
       record {
         head = head.written;
         parts = p;
@@ -291,8 +386,9 @@ module _ (begun : BegunAreSigns) (meet : TagsMeet) (differ : TagsDiffer) (job : 
         iso_is = head.iso_is;
         is = record {
           grammar =
-              declarations-append cells.written _ cells.are (declarations-append tags.written _ tags.are (declarations-append deps.written _ deps.are
-              (declarations-append ons.written _ ons.are (declarations-append sources.written [] sources.are tt))));
+              declarations-append names.written _ names.are (declarations-append cells.written _ cells.are (declarations-append tags.written _ tags.are
+              (declarations-append deps.written _ deps.are (declarations-append ons.written _ ons.are
+              (declarations-append sources.written [] sources.are tt)))));
           spelled = begun (job_signs written) tokens (subst (λ l. Begins IsSign (job_signs written) tokens l) sources.took.stand whole_job);
         };
       }
@@ -304,13 +400,16 @@ module _ (begun : BegunAreSigns) (meet : TagsMeet) (differ : TagsDiffer) (job : 
   named p =
       let source_names : List (List ℕ) = map (λ (s : Source). s.name) job.sources in
       let rest : List (List ℕ) = map (λ (k : PlainKind). k.name) job.kinds ++ source_names in
-      let left : Left no_names (map (λ (g : Family). g.name) job.families ++ rest) =
-      record { fresh = all_fresh (map (λ (g : Family). g.name) job.families ++ rest); apart = (apart job fits.own_names).all } in
-      let with_cells : Naming = record { families = family_heads 0 job.families; kinds = []; sources = []; depends = 0; version = 1 } in
+      let list_names : List (List ℕ) = map (λ (l : Numbering). l.name) job.lists in
+      let left : Left no_names (list_names ++ (map (λ (g : Family). g.name) job.families ++ rest)) =
+      record { fresh = all_fresh (list_names ++ (map (λ (g : Family). g.name) job.families ++ rest)); apart = (apart job fits.own_names).all } in
+      let with_names : Naming = record { families = []; kinds = []; sources = []; lists = list_names; depends = 0; version = 1 } in
+      let with_cells : Naming = record { families = family_heads 0 job.families; kinds = []; sources = []; lists = list_names; depends = 0; version = 1 } in
       let with_tags : Naming = record {
         families = family_heads 0 job.families;
         kinds = kind_heads 0 job.kinds;
         sources = [];
+        lists = list_names;
         depends = 0;
         version = 1;
       } in
@@ -318,15 +417,20 @@ module _ (begun : BegunAreSigns) (meet : TagsMeet) (differ : TagsDiffer) (job : 
         families = family_heads 0 job.families;
         kinds = kind_heads 0 job.kinds;
         sources = [];
+        lists = list_names;
         depends =
             0 + length job.depends;
         version = 1;
       } in
-      let cells = declare_cells whole utf8 job.families no_names p.cells (p.tags ++ (p.deps ++ (p.ons ++ (p.sources ++ [])))) rest p.are_cells left
+      let behind_cells : List Declaration = p.tags ++ (p.deps ++ (p.ons ++ (p.sources ++ []))) in
+      let lists = declare_lists whole utf8 job.lists no_names p.names (p.cells ++ behind_cells)
+      (map (λ (g : Family). g.name) job.families ++ rest) p.are_names left (omega (arith, fits.few_lists)) in
+      let cells = declare_cells whole utf8 job.lists job.families with_names p.cells behind_cells rest p.are_cells lists.left
       (omega (arith, fits.few_families)) in
-      let tags = declare_tags whole utf8 job.kinds with_cells p.tags (p.deps ++ (p.ons ++ (p.sources ++ []))) source_names p.are_tags cells.left
+      let tags = declare_tags whole utf8 job.lists job.kinds with_cells p.tags (p.deps ++ (p.ons ++ (p.sources ++ []))) source_names p.are_tags cells.left
       (omega (arith, fits.few_kinds)) in
-      cells.leads
+      lists.leads
+      ∙ cells.leads
       ∙ tags.leads
       ∙ declare_depends whole utf8 job.kinds named_kinds n known_kinds job.depends with_tags p.deps (p.ons ++ (p.sources ++ [])) p.are_deps
       (omega (arith, fits.few_depends))
@@ -337,30 +441,63 @@ module _ (begun : BegunAreSigns) (meet : TagsMeet) (differ : TagsDiffer) (job : 
         families = family_heads 0 job.families;
         kinds = kind_heads 0 job.kinds;
         sources = source_names;
+        lists = list_names;
         depends =
             k;
         version = 1;
       } in m)) (let same : 0 + length job.depends ≡ length job.depends = omega arith in same)
 
-  drafted : (p : Parts) → (given : List ℕ) × (itags : ℕ)
-      × (draft_of whole n (all_parts p) ≡ Ok (record { kinds = job.kinds; given = given; depends = job.depends; sources = job.sources; itags = itags }))
+  abbrev draft : List ℕ → ℕ → Drafted
+  draft given itags = record {
+    lists = job.lists;
+    family_lists = map (λ (g : Family). g.list) job.families;
+    kind_lists = map (λ (k : PlainKind). k.list) job.kinds;
+    kinds = bare;
+    given = given;
+    depends = job.depends;
+    sources = job.sources;
+    itags = itags;
+  }
+
+  bare_ons : (i : ℕ) (ks : List PlainKind) (ds : List Declaration) → Ons whole utf8 job.families fits.families n known_families i ks ds
+      → Ons whole utf8 job.families fits.families n known_families i (map without_list ks) ds
+  bare_ons i [] ds lines = lines
+  bare_ons i (k ∷ ks) ds lines = (lines.0, lines.1, lines.2, lines.3, bare_ons (i + 1) ks lines.1 lines.4)
+
+  drafted : (p : Parts) → (given : List ℕ) × (itags : ℕ) × (draft_of whole n (all_parts p) ≡ Ok (draft given itags))
   unfolding n each
   drafted p =
-      let idle : List PlainKind = map without_actions job.kinds in
+      let idle : List PlainKind = map without_actions bare in
+      let family_lists : List (Option ℕ) = map (λ (g : Family). g.list) job.families in
+      let kind_lists : List (Option ℕ) = map (λ (k : PlainKind). k.list) job.kinds in
       let behind_tags : List Declaration = p.deps ++ (p.ons ++ (p.sources ++ [])) in
-      let start : Drafted = record { kinds = idle; given = []; depends = []; sources = []; itags = 0 } in
-      let with_deps : Drafted = record { kinds = idle; given = []; depends = job.depends; sources = []; itags = 0 } in
-      let ons = add_ons whole utf8 n job.families fits.families known_families job.kinds known_kinds [] job.kinds with_deps [] p.ons
-      (p.sources ++ []) refl fits.kinds (λ j le. refl) p.are_ons in
-      let with_ons : Drafted = record { kinds = job.kinds; given = ons.now; depends = job.depends; sources = []; itags = 0 } in
-      let few : 0 + total_itags job.sources ≤ 256 = omega (arith, fits.few_itags, itags_counted 0 job.sources) in (
+      let start : Drafted = record {
+        lists = [];
+        family_lists = [];
+        kind_lists = [];
+        kinds = idle;
+        given = [];
+        depends = [];
+        sources = [];
+        itags = 0;
+      } in
+      let with_names : Drafted = record start { lists = job.lists } in
+      let with_cells : Drafted = record with_names { family_lists = family_lists } in
+      let with_tags : Drafted = record with_cells { kind_lists = kind_lists } in
+      let with_deps : Drafted = record with_tags { depends = job.depends } in
+      let ons = add_ons whole utf8 n job.families fits.families known_families bare known_bare [] bare with_deps [] p.ons
+      (p.sources ++ []) refl (fit_bare job.families job.kinds ∙ fits.kinds) (λ j le. refl) (bare_ons 0 job.kinds p.ons p.are_ons) in
+      let with_ons : Drafted = record with_deps { kinds = bare; given = ons.now } in
+      let few : 0 + total_itags job.sources ≤ 256 = omega (arith, fits.few_itags, itags_counted 0 job.sources) in
+      let newer = lists_known job.version job.lists job.families job.kinds fits.lists_fit in
+      let apart_lists = (apart job fits.own_names).lists in (
         ons.now,
         0 + total_itags job.sources,
-        ap (λ ks. each (with_declaration whole n) (let d : Drafted = record { kinds = ks; given = []; depends = []; sources = []; itags = 0 } in d)
-            (all_parts p)) (kinds_idle 0 job.kinds)
-            ∙ skip_cells whole utf8 n job.families start p.cells (p.tags ++ behind_tags) unnamed p.are_cells
-            ∙ skip_tags whole utf8 n job.kinds start p.tags behind_tags items p.are_tags
-            ∙ add_depends whole utf8 n job.kinds named_kinds known_kinds job.depends start p.deps (p.ons ++ (p.sources ++ [])) p.are_deps
+        ap (λ ks. each (with_declaration whole n) (let d : Drafted = record start { kinds = ks } in d) (all_parts p)) (kinds_idle 0 job.kinds)
+            ∙ add_names whole utf8 n job.lists start p.names (p.cells ++ (p.tags ++ behind_tags)) fits.lists newer p.are_names
+            ∙ add_cells whole utf8 n job.lists refl apart_lists newer job.families with_names p.cells (p.tags ++ behind_tags) unnamed families_fit p.are_cells
+            ∙ add_tags whole utf8 n job.lists refl apart_lists newer job.kinds with_cells p.tags behind_tags items kinds_fit p.are_tags
+            ∙ add_depends whole utf8 n job.kinds named_kinds known_kinds job.depends with_tags p.deps (p.ons ++ (p.sources ++ [])) p.are_deps
             ∙ ons.leads
             ∙ add_sources whole utf8 n job.kinds named_kinds known_kinds meet differ [] job.sources with_ons p.sources []
             p.are_sources refl fits.sources fits.own_files few,
@@ -378,8 +515,24 @@ module _ (begun : BegunAreSigns) (meet : TagsMeet) (differ : TagsDiffer) (job : 
       λ d. Ok (draft_with iso (in_version names v) d)) known
       ∙ ap (λ (r : Found (Option TimeUnit)). r >>= λ iso. draft_of whole n (all_parts p) >>= λ d. Ok (draft_with iso n d)) unit
       ∙ ap (λ (r : Found Drafted). r >>= λ d. Ok (draft_with job.iso n d)) d.2
-      ∙ ap (λ fs. Ok (let j : Job = record { version = job.version; iso = job.iso; families = fs; kinds = job.kinds; depends = job.depends; sources = job.sources } in j))
-      (families_back 0 job.families)
+      ∙ ap (λ fs. Ok (let j : Job = record {
+        version = job.version;
+        iso = job.iso;
+        lists = job.lists;
+        families = fs;
+        kinds = listed_kinds bare (map (λ (k : PlainKind). k.list) job.kinds);
+        depends = job.depends;
+        sources = job.sources;
+      } in j)) (families_back 0 job.families)
+      ∙ ap (λ ks. Ok (let j : Job = record {
+        version = job.version;
+        iso = job.iso;
+        lists = job.lists;
+        families = job.families;
+        kinds = ks;
+        depends = job.depends;
+        sources = job.sources;
+      } in j)) (kinds_back job.kinds)
 
 -- the words of the normal form are read as the job
 laid_is_read : LaidIsRead → BegunAreSigns → KeysAreLaid → FoundIsJob → TagsMeet → TagsDiffer → (job : Job) → JobFits job → IsUtf8 (layout (job_words job))

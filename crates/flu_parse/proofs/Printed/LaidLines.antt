@@ -1,10 +1,10 @@
 -- The laying out of declarations, and of a whole job.
 use Rattle.std.proofs.Common.{◌≡◌, ◌<◌, ◌≤◌, ◌^◌, ℕ, zero, suc, pos, Bool, true, false, ◌&&◌, ◌||◌, List, [], ◌∷◌, length, Option, Some, None, refl, ap, ◌∙◌}
 use Rattle.std.proofs.Common.{arith}
-use Rattle.std.specs.Prelude.{nat_le, nat_lt, not, ◌==◌, if◌then◌else◌, slice_get, codes}
+use Rattle.std.specs.Prelude.{nat_le, nat_lt, not, ◌==◌, if◌then◌else◌, is_some, slice_get, codes}
 use Rattle.std.specs.List.{list_all}
 use Rattle.flu_lemmas.proofs.Booleans.{three_left, three_middle, three_right}
-use Rattle.flu_lemmas.proofs.Elements.{list_all_weaker, passes_at}
+use Rattle.flu_lemmas.proofs.Elements.{list_all_weaker, list_all_both, passes_at}
 use Rattle.flu_lemmas.proofs.Items.{items_hold, lines_hold}
 use Rattle.flu_lemmas.proofs.Tests.{and_left, and_right, both, true_le, true_lt, lt_true}
 use Rattle.flu_names.specs.declared.reserved.Reserved.{Reserved}
@@ -19,6 +19,8 @@ use Rattle.flu_model.specs.declared.jobs.Keys.TheVariants as keys
 use Rattle.flu_model.specs.declared.jobs.TagRef.{TagRef}
 use Rattle.flu_model.specs.declared.jobs.Source.{Source}
 use Rattle.flu_model.specs.Contents.{key_count}
+use Rattle.flu_model.specs.Numberings.{Numbering}
+use Rattle.flu_model.specs.ListRules.{is_listed_text, is_list, is_declared_list, family_list_fits}
 use Rattle.flu_model.specs.Texts.{Unit}
 use Rattle.flu_calendar.specs.declared.unit.Unit.TheVariants.{Seconds, Milliseconds, Microseconds}
 use Rattle.flu_model.specs.Listing.{tags_of_source}
@@ -29,10 +31,12 @@ use Rattle.flu_layout.specs.Laid.{blank, line_end, reserved, name, number, EndsN
 use Rattle.flu_layout.specs.Laid.{laid_text, laid_mark, laid_spaced, Follows}
 use Rattle.flu_layout.specs.Lists.{between, behind_kind, keys_words}
 use Rattle.flu_layout.specs.Laws.{KeysAreLaid}
-use Rattle.flu_parse.specs.Printing.{kind_name, unit_name}
+use Rattle.flu_parse.specs.Printing.{list_name, kind_name, unit_name}
 use Rattle.flu_parse.proofs.Kept.Plain.{plain_action_fits, plain_kind_fits}
 use Rattle.flu_parse.proofs.Printed.Rules.{plain_kind_is_keyed, plain_depend_fits, plain_listed_fits, plain_tag_fits, plain_source_fits, JobFits}
-use Rattle.flu_parse.proofs.Printed.Words.{action_words, iso_words, version_words, keyed_words, sort_reserved, cell_line_words, item_words, value_reserved}
+use Rattle.flu_parse.proofs.Printed.ListFits.{plain_kind_list_fits, families_listed, plain_kinds_listed, list_facts, list_named, listed_bytes, listed_short}
+use Rattle.flu_parse.proofs.Printed.Words.{action_words, iso_words, version_words, text_words, texts_words, names_line_words, by_words}
+use Rattle.flu_parse.proofs.Printed.Words.{keyed_words, sort_reserved, cell_line_words, item_words, value_reserved}
 use Rattle.flu_parse.proofs.Printed.Words.{tag_line_words, behind_depends, same_words, depends_line_words, actions_words, on_line_words, tag_words}
 use Rattle.flu_parse.proofs.Printed.Words.{listed_words, behind_rate, slack_words, source_line_words, job_words}
 use Rattle.flu_parse.proofs.Printed.LaidActions.{laid_action}
@@ -45,22 +49,59 @@ laid_item_word : (has_item : Bool) (rest : List Laid) → AreLaid rest → AreLa
 laid_item_word true rest laid = laid_item blank rest refl refl laid
 laid_item_word false rest laid = laid
 
-laid_head : (word last : Reserved) (n : List ℕ) (keyed has_item : Bool) (rest : List Laid) → is_name n ≡ true → AreLaid rest
-    → AreLaid (reserved word blank ∷ name n blank ∷ keyed_words keyed (item_words has_item (reserved last line_end ∷ rest)))
-laid_head word last n keyed has_item rest named laid =
-    let end = laid_item_word has_item (reserved last line_end ∷ rest) (laid_reserved last line_end rest refl refl laid) in
-    let middle = laid_keyed keyed (item_words has_item (reserved last line_end ∷ rest)) end in
-    laid_reserved word blank _ refl refl (laid_name n blank _ named refl refl middle)
+-- the texts of a list of names, of which there are some
+laid_text_word : (t behind : List ℕ) (rest : List Laid) → is_listed_text t ≡ true → Follows behind rest → AreLaid (text_words t behind rest)
+laid_text_word t behind rest fits f = laid_text t behind rest (listed_bytes t fits) (listed_short t fits) f.blank f.laid
 
-laid_cell_line : (f : Family) (rest : List Laid) → is_name f.name ≡ true → AreLaid rest → AreLaid (cell_line_words f rest)
-laid_cell_line f rest named laid = laid_head r.Cell (sort_reserved f.sort) f.name f.keyed false rest named laid
+laid_texts : (ts : List (List ℕ)) (rest : List Laid) → list_all is_listed_text ts ≡ true → AreLaid rest → AreLaid (texts_words ts rest)
+laid_texts [] rest fits laid = laid_mark m.Colon (32 ∷ 10 ∷ []) rest (λ b. refl) refl laid
+laid_texts (t ∷ ts) rest fits laid =
+    laid_mark m.Colon blank _ (λ b. refl) refl
+    (items_hold text_words [] (between m.Comma) is_listed_text AreLaid Follows laid_text_word
+    (λ rest laid. record { blank = refl; ends = refl; laid = laid_spaced m.Comma rest laid }) t ts line_end rest fits
+    (record { blank = refl; ends = refl; laid = laid }))
+
+texts_end : (ts : List (List ℕ)) (rest : List Laid) → EndsName [] (texts_words ts rest)
+texts_end [] rest = refl
+texts_end (t ∷ ts) rest = refl
+
+laid_names_line : (l : Numbering) (rest : List Laid) → is_list l ≡ true → AreLaid rest → AreLaid (names_line_words l rest)
+laid_names_line l rest fits laid =
+    let facts = list_facts l fits in
+    let named = laid_name l.name [] (texts_words l.texts rest) facts.name refl (texts_end l.texts rest) (laid_texts l.texts rest facts.texts laid) in
+    laid_name (codes "names") blank _ refl refl refl named
+
+module _ (lists : List Numbering) (are : list_all is_list lists ≡ true) where
+  laid_by : (l : Option ℕ) (rest : List Laid) → is_declared_list lists l ≡ true → AreLaid rest → AreLaid (by_words lists l rest)
+  laid_by None rest declared laid = laid
+  laid_by (Some number) rest declared laid =
+      laid_name (codes "by") blank _ refl refl refl
+      (laid_name (list_name lists (Some number)) blank rest (list_named lists number are declared) refl refl laid)
+
+  laid_head : (word last : Reserved) (n : List ℕ) (keyed has_item : Bool) (l : Option ℕ) (rest : List Laid) → is_name n ≡ true
+      → is_declared_list lists l ≡ true → AreLaid rest
+      → AreLaid (reserved word blank ∷ name n blank ∷ keyed_words keyed (item_words has_item (by_words lists l (reserved last line_end ∷ rest))))
+  laid_head word last n keyed has_item l rest named declared laid =
+      let words : List Laid = by_words lists l (reserved last line_end ∷ rest) in
+      let end = laid_by l (reserved last line_end ∷ rest) declared (laid_reserved last line_end rest refl refl laid) in
+      let middle = laid_keyed keyed (item_words has_item words) (laid_item_word has_item words end) in
+      laid_reserved word blank _ refl refl (laid_name n blank _ named refl refl middle)
+
+  laid_cell_line : (f : Family) (rest : List Laid) → (is_name f.name && family_list_fits lists f) ≡ true → AreLaid rest
+      → AreLaid (cell_line_words lists f rest)
+  laid_cell_line f rest fits laid =
+      let listed = and_right (is_name f.name) (family_list_fits lists f) fits in
+      laid_head r.Cell (sort_reserved f.sort) f.name f.keyed false f.list rest (and_left (is_name f.name) (family_list_fits lists f) fits)
+      (and_left (is_declared_list lists f.list) (f.keyed || not (is_some f.list)) listed) laid
+
+  laid_tag_line : (k : PlainKind) (rest : List Laid) → (is_name k.name && plain_kind_list_fits lists k) ≡ true → AreLaid rest
+      → AreLaid (tag_line_words lists k rest)
+  laid_tag_line k rest fits laid =
+      let listed = and_right (is_name k.name) (plain_kind_list_fits lists k) fits in
+      laid_head r.Tag (value_reserved k.has_value) k.name k.keyed k.has_item k.list rest (and_left (is_name k.name) (plain_kind_list_fits lists k) fits)
+      (and_left (is_declared_list lists k.list) (k.has_item || not (is_some k.list)) listed) laid
 
 module _ (families : List Family) (named_families : list_all (λ (f : Family). is_name f.name) families ≡ true) where
-  laid_tag_line : (k : PlainKind) (rest : List Laid) → plain_kind_fits families k ≡ true → AreLaid rest → AreLaid (tag_line_words k rest)
-  laid_tag_line k rest fits laid =
-      laid_head r.Tag (value_reserved k.has_value) k.name k.keyed k.has_item rest
-      (three_left (is_name k.name) (nat_le (length k.actions) 32) (list_all (plain_action_fits families k.keyed k.has_value) k.actions) fits) laid
-
   laid_actions : (keyed has_value : Bool) (n : List ℕ) (actions : List PlainAction) (rest : List Laid) → is_name n ≡ true
       → list_all (plain_action_fits families keyed has_value) actions ≡ true → AreLaid rest → AreLaid (actions_words families n actions rest)
   laid_actions keyed has_value n [] rest named fits laid = laid
@@ -268,5 +309,12 @@ job_laid laid_keys job fits =
     (laid_on_line job.families fits.families) job.kinds _ fits.kinds sources in
     let depends = lines_hold (depends_line_words job.kinds) (plain_depend_fits job.kinds) AreLaid
     (laid_depends_line job.kinds named) job.depends _ fits.depends ons in
-    let tags = lines_hold tag_line_words (plain_kind_fits job.families) AreLaid (laid_tag_line job.families fits.families) job.kinds _ fits.kinds depends in
-    laid_version job.version job.iso _ (lines_hold cell_line_words (λ (f : Family). is_name f.name) AreLaid laid_cell_line job.families _ fits.families tags)
+    let kinds_listed = plain_kinds_listed job.version job.lists job.families job.kinds fits.lists_fit in
+    let families_fit = families_listed job.version job.lists job.families job.kinds fits.lists_fit in
+    let tags = lines_hold (tag_line_words job.lists) (λ (k : PlainKind). is_name k.name && plain_kind_list_fits job.lists k) AreLaid
+    (laid_tag_line job.lists fits.lists) job.kinds _
+    (list_all_both (λ (k : PlainKind). is_name k.name) (plain_kind_list_fits job.lists) job.kinds named kinds_listed) depends in
+    let cells = lines_hold (cell_line_words job.lists) (λ (f : Family). is_name f.name && family_list_fits job.lists f) AreLaid
+    (laid_cell_line job.lists fits.lists) job.families _
+    (list_all_both (λ (f : Family). is_name f.name) (family_list_fits job.lists) job.families fits.families families_fit) tags in
+    laid_version job.version job.iso _ (lines_hold names_line_words is_list AreLaid laid_names_line job.lists _ fits.lists cells)

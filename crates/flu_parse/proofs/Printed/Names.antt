@@ -10,13 +10,14 @@ use Rattle.std.proofs.lemmas.Slice.Eq.{bytes_eq-Decides}
 use Rattle.flu_lemmas.proofs.Tests.{and_left, and_right, lt_true, not_true, false_if_not, not_both}
 use Rattle.flu_lemmas.proofs.Booleans.{or_false_left, or_false_right}
 use Rattle.flu_lemmas.proofs.Elements.{fails_at}
-use Rattle.flu_model.specs.declared.limits.What.TheVariants.{Families, Kinds, Sources, Depends as DependsLimit}
+use Rattle.flu_model.specs.declared.limits.What.TheVariants.{Families, Kinds, Sources, Lists as ListsLimit, Depends as DependsLimit}
 use Rattle.flu_model.specs.declared.jobs.Family.{Family}
 use Rattle.flu_model.specs.declared.jobs.Depend.{Depend}
 use Rattle.flu_model.specs.declared.jobs.Source.{Source}
 use Rattle.flu_model.specs.Erasure.{PlainAction, PlainKind, Job}
+use Rattle.flu_model.specs.Numberings.{Numbering}
 use Rattle.flu_model.specs.Rules.{is_same_text, are_distinct}
-use Rattle.flu_syntax.specs.Tree.{Declaration, Cell, Tag, Depends, Source as SourceLine}
+use Rattle.flu_syntax.specs.Tree.{Declaration, Cell, Tag, Names, Depends, Source as SourceLine}
 use Rattle.flu_text.specs.declared.written.WrittenSpan.{WrittenSpan}
 use Rattle.flu_names.specs.Names.{is_name}
 use Rattle.flu_layout.specs.Spelling.{name_of}
@@ -24,10 +25,10 @@ use Rattle.flu_parse.specs.declared.faults.JobFault.TheVariants as f
 use Rattle.flu_parse.specs.declared.names.FamilyHead.{FamilyHead}
 use Rattle.flu_parse.specs.declared.names.KindHead.{KindHead}
 use Rattle.flu_parse.specs.Faults.{Found, ◌>>=◌, ◌>>◌, unless, room, each}
-use Rattle.flu_parse.specs.Naming.{Naming, look_up, is_declared, fresh_name, with_family, with_kind, with_source, declare, no_names}
+use Rattle.flu_parse.specs.Naming.{Naming, look_up, is_declared, fresh_name, with_family, with_kind, with_source, with_list, declare, no_names}
 use Rattle.flu_parse.proofs.Printed.ReadTerms.{family_head, FamiliesKnown}
 use Rattle.flu_parse.proofs.Printed.ReadTags.{kind_head, KindsKnown}
-use Rattle.flu_parse.proofs.Printed.ReadLines.{Lines, CellIs, TagIs, DependsIs, SourceIs, ActionsAre, Ons}
+use Rattle.flu_parse.proofs.Printed.ReadLines.{Lines, CellIs, TagIs, NamesIs, DependsIs, SourceIs, ActionsAre, Ons}
 
 -- ---- the heads of declarations, numbered
 
@@ -48,17 +49,25 @@ naming_of_job job = record {
   kinds = kind_heads 0 job.kinds;
   sources =
       map (λ (s : Source). s.name) job.sources;
+  lists = map (λ (l : Numbering). l.name) job.lists;
   depends = length job.depends;
   version = 1;
 }
 
 -- ---- names that differ
 
-same_itself : (a : List ℕ) → bytes_eq a a ≡ true
+pub same_itself : (a : List ℕ) → bytes_eq a a ≡ true
 same_itself a = (bytes_eq-Decides a a).1 refl
 
 pub differs_too : (a b : List ℕ) → bytes_eq a b ≡ false → bytes_eq b a ≡ false
 differs_too a b h = false_if_not (bytes_eq b a) (λ e. not_both (bytes_eq a b) ((bytes_eq-Decides a b).1 (sym ((bytes_eq-Decides b a).0 e))) h)
+
+pub turned_text : (a b : List ℕ) → is_same_text a b ≡ is_same_text b a
+turned_text a b = by (bytes_eq a b) refl
+  where
+    by : (same : Bool) → bytes_eq a b ≡ same → bytes_eq a b ≡ bytes_eq b a
+    by true e = e ∙ sym ((bytes_eq-Decides b a).1 (sym ((bytes_eq-Decides a b).0 e)))
+    by false e = e ∙ sym (differs_too a b e)
 
 -- where names differ, a name is looked up to its own head
 module _ {X H : Type 0} (name : X → List ℕ) (head : ℕ → X → H) where
@@ -93,6 +102,7 @@ pub record Fresh (m : Naming) (y : List ℕ) : Type 0 where
   pub family : look_up y m.families ≡ None
   pub kind : look_up y m.kinds ≡ None
   pub source : list_any (bytes_eq y) m.sources ≡ false
+  pub list : list_any (bytes_eq y) m.lists ≡ false
 
 abbrev pub AllFresh : Naming → List (List ℕ) → Type 0
 AllFresh m [] = Unit {0}
@@ -100,9 +110,10 @@ AllFresh m (y ∷ ys) = Fresh m y × AllFresh m ys
 
 not_declared : (m : Naming) (y : List ℕ) → Fresh m y → is_declared m y ≡ false
 not_declared m y h =
-    ap (λ o. is_some o || is_some (look_up y m.kinds) || list_any (bytes_eq y) m.sources) h.family
-    ∙ ap (λ o. is_some o || list_any (bytes_eq y) m.sources) h.kind
-    ∙ h.source
+    ap (λ o. is_some o || is_some (look_up y m.kinds) || list_any (bytes_eq y) m.sources || list_any (bytes_eq y) m.lists) h.family
+    ∙ ap (λ o. is_some o || list_any (bytes_eq y) m.sources || list_any (bytes_eq y) m.lists) h.kind
+    ∙ ap (λ b. b || list_any (bytes_eq y) m.lists) h.source
+    ∙ h.list
 
 look_up_more : {H : Type 0} (y x : List ℕ) (h : H) (hs : List (List ℕ × H)) → look_up y hs ≡ None → bytes_eq y x ≡ false → look_up y (hs ++ (x, h) ∷ []) ≡ None
 look_up_more {H} y x h [] none other = ap (λ b. let o : Option H = if b then Some h else None in o) other
@@ -125,7 +136,7 @@ still_fresh m next x (y ∷ ys) step fresh none = (
 
 pub all_fresh : (ys : List (List ℕ)) → AllFresh no_names ys
 all_fresh [] = tt
-all_fresh (y ∷ ys) = (record { family = refl; kind = refl; source = refl }, all_fresh ys)
+all_fresh (y ∷ ys) = (record { family = refl; kind = refl; source = refl; list = refl }, all_fresh ys)
 
 -- the names that are left, after some declarations
 pub record Left (m : Naming) (ys : List (List ℕ)) : Type 0 where
@@ -158,12 +169,15 @@ module _ (whole : List ℕ) (utf8 : IsUtf8 whole) where
   abbrev pub with_sources : Naming → List (List ℕ) → Naming
   with_sources m ns = record m { sources = ns }
 
+  abbrev pub with_lists : Naming → List (List ℕ) → Naming
+  with_lists m ns = record m { lists = ns }
+
   abbrev pub with_count : Naming → ℕ → Naming
   with_count m count = record m { depends = count }
 
   counted_fresh : (m : Naming) (count : ℕ) (ys : List (List ℕ)) → AllFresh m ys → AllFresh (with_count m count) ys
   counted_fresh m count [] h = tt
-  counted_fresh m count (y ∷ ys) h = (record { family = h.0.family; kind = h.0.kind; source = h.0.source }, counted_fresh m count ys h.1)
+  counted_fresh m count (y ∷ ys) h = (record { family = h.0.family; kind = h.0.kind; source = h.0.source; list = h.0.list }, counted_fresh m count ys h.1)
 
   -- names are left as they are where `depends` are counted
   pub counted : (m : Naming) (count : ℕ) (ys : List (List ℕ)) → Left m ys → Left (with_count m count) ys
@@ -204,29 +218,31 @@ module _ (whole : List ℕ) (utf8 : IsUtf8 whole) where
   family_fresh m g y h other = record {
     family = look_up_more y g.name (family_head (length m.families) g) m.families h.family other;
     kind = h.kind;
-    source =
-        h.source;
+    source = h.source;
+    list = h.list;
   }
 
-  pub declare_cells : (fs : List Family) (m : Naming) (ds more : List Declaration) (ys : List (List ℕ)) → Lines (CellIs whole utf8) fs ds
+  pub declare_cells : (lists : List Numbering) (fs : List Family) (m : Naming) (ds more : List Declaration) (ys : List (List ℕ))
+      → Lines (CellIs whole utf8 lists) fs ds
       → Left m (map (λ (g : Family). g.name) fs ++ ys) → length m.families + length fs ≤ 64
       → Declares m (with_families m (m.families ++ family_heads (length m.families) fs)) ds more ys
   unfolding declare
-  declare_cells [] m ds more ys lines left few =
+  declare_cells lists [] m ds more ys lines left few =
       let same : m ≡ with_families m (m.families ++ []) = ap (with_families m) (sym (append-nil m.families)) in
       record { leads = nothing m ds more lines ∙ ap (λ n. each (declare whole) n more) same; left = subst (λ n. Left n ys) same left }
-  declare_cells (g ∷ fs) m ds more ys lines left few =
+  declare_cells lists (g ∷ fs) m ds more ys lines left few =
       let line = lines.3 in
       let next : Naming = with_families m (m.families ++ (g.name, family_head (length m.families) g) ∷ []) in
       let size = length-append m.families ((g.name, family_head (length m.families) g) ∷ []) in
-      let rest = declare_cells fs next lines.1 more ys lines.4 (left_after m next g.name (map (λ (g : Family). g.name) fs ++ ys) (family_fresh m g) left)
+      let rest = declare_cells lists fs next lines.1 more ys lines.4 (left_after m next g.name (map (λ (g : Family). g.name) fs ++ ys) (family_fresh m g) left)
       (omega (arith, few, size)) in
       let same : with_families m (next.families ++ family_heads (length next.families) fs) ≡ with_families m
       (m.families ++ family_heads (length m.families) (g ∷ fs)) =
       ap (with_families m) (one_more m.families (g.name, family_head (length m.families) g) (λ k. family_heads k fs)) in
       record {
-        leads = one m next ds lines.0 lines.1 more (Cell line.0 g.keyed g.sort) lines.2 line.1
-            (one_family m line.0 g line.2 left.fresh.0 (omega (arith, few))) ∙ rest.leads ∙ ap (λ n. each (declare whole) n more) same;
+        leads = one m next ds lines.0 lines.1 more (Cell line.named line.cells g.sort) lines.2 line.is
+            (ap (λ b. with_family whole m line.named b g.sort) line.keyed
+            ∙ one_family m line.named g line.name_is left.fresh.0 (omega (arith, few))) ∙ rest.leads ∙ ap (λ n. each (declare whole) n more) same;
         left = subst (λ n. Left n ys) same rest.left;
       }
 
@@ -241,27 +257,29 @@ module _ (whole : List ℕ) (utf8 : IsUtf8 whole) where
 
   kind_fresh : (m : Naming) (k : PlainKind) (y : List ℕ) → Fresh m y → bytes_eq y k.name ≡ false
       → Fresh (with_kinds m (m.kinds ++ (k.name, kind_head (length m.kinds) k) ∷ [])) y
-  kind_fresh m k y h other = record { family = h.family; kind = look_up_more y k.name (kind_head (length m.kinds) k) m.kinds h.kind other; source = h.source }
+  kind_fresh m k y h other =
+      record { family = h.family; kind = look_up_more y k.name (kind_head (length m.kinds) k) m.kinds h.kind other; source = h.source; list = h.list }
 
-  pub declare_tags : (ks : List PlainKind) (m : Naming) (ds more : List Declaration) (ys : List (List ℕ)) → Lines (TagIs whole utf8) ks ds
+  pub declare_tags : (lists : List Numbering) (ks : List PlainKind) (m : Naming) (ds more : List Declaration) (ys : List (List ℕ))
+      → Lines (TagIs whole utf8 lists) ks ds
       → Left m (map (λ (k : PlainKind). k.name) ks ++ ys) → length m.kinds + length ks ≤ 64
       → Declares m (with_kinds m (m.kinds ++ kind_heads (length m.kinds) ks)) ds more ys
   unfolding declare
-  declare_tags [] m ds more ys lines left few =
+  declare_tags lists [] m ds more ys lines left few =
       let same : m ≡ with_kinds m (m.kinds ++ []) = ap (with_kinds m) (sym (append-nil m.kinds)) in
       record { leads = nothing m ds more lines ∙ ap (λ n. each (declare whole) n more) same; left = subst (λ n. Left n ys) same left }
-  declare_tags (k ∷ ks) m ds more ys lines left few =
+  declare_tags lists (k ∷ ks) m ds more ys lines left few =
       let line = lines.3 in
       let next : Naming = with_kinds m (m.kinds ++ (k.name, kind_head (length m.kinds) k) ∷ []) in
       let size = length-append m.kinds ((k.name, kind_head (length m.kinds) k) ∷ []) in
-      let rest = declare_tags ks next lines.1 more ys lines.4 (left_after m next k.name (map (λ (k : PlainKind). k.name) ks ++ ys) (kind_fresh m k) left)
+      let rest = declare_tags lists ks next lines.1 more ys lines.4 (left_after m next k.name (map (λ (k : PlainKind). k.name) ks ++ ys) (kind_fresh m k) left)
       (omega (arith, few, size)) in
       let same : with_kinds m (next.kinds ++ kind_heads (length next.kinds) ks) ≡ with_kinds m (m.kinds ++ kind_heads (length m.kinds) (k ∷ ks)) =
       ap (with_kinds m) (one_more m.kinds (k.name, kind_head (length m.kinds) k) (λ i. kind_heads i ks)) in
       record {
-        leads = one m next ds lines.0 lines.1 more (Tag line.0 k.keyed line.1 k.has_value) lines.2 line.2
-            (ap (λ b. with_kind whole m line.0 k.keyed b k.has_value) line.4
-            ∙ one_kind m line.0 k line.3 left.fresh.0 (omega (arith, few))) ∙ rest.leads ∙ ap (λ n. each (declare whole) n more) same;
+        leads = one m next ds lines.0 lines.1 more (Tag line.named k.keyed line.item k.has_value) lines.2 line.is
+            (ap (λ b. with_kind whole m line.named k.keyed b k.has_value) line.has_item
+            ∙ one_kind m line.named k line.name_is left.fresh.0 (omega (arith, few))) ∙ rest.leads ∙ ap (λ n. each (declare whole) n more) same;
         left = subst (λ n. Left n ys) same rest.left;
       }
 
@@ -277,7 +295,45 @@ module _ (whole : List ℕ) (utf8 : IsUtf8 whole) where
     family = h.family;
     kind = h.kind;
     source = list_any-append (bytes_eq y) m.sources (name ∷ []) ∙ ap (λ b. b || (bytes_eq y name || false)) h.source ∙ ap (λ b. b || false) other;
+    list = h.list;
   }
+
+  one_list : (m : Naming) (s : WrittenSpan) (name : List ℕ) → name_of whole s ≡ name → Fresh m name → length m.lists < 64
+      → with_list whole m s ≡ Ok (with_lists m (m.lists ++ name ∷ []))
+  unfolding with_list
+  one_list m s name is fresh few =
+      ap (λ (r : Found (List ℕ)). r >>= λ name. room ListsLimit 64 (length m.lists) >> Ok (with_lists m (m.lists ++ name ∷ []))) (fresh_is m s name is fresh)
+      ∙ ap (λ b. unless b (f.OverLimit ListsLimit 65) >> Ok (with_lists m (m.lists ++ name ∷ []))) (lt_true (length m.lists) 64 few)
+
+  list_fresh : (m : Naming) (name y : List ℕ) → Fresh m y → bytes_eq y name ≡ false → Fresh (with_lists m (m.lists ++ name ∷ [])) y
+  list_fresh m name y h other = record {
+    family = h.family;
+    kind = h.kind;
+    source = h.source;
+    list = list_any-append (bytes_eq y) m.lists (name ∷ []) ∙ ap (λ b. b || (bytes_eq y name || false)) h.list ∙ ap (λ b. b || false) other;
+  }
+
+  pub declare_lists : (ls : List Numbering) (m : Naming) (ds more : List Declaration) (ys : List (List ℕ)) → Lines (NamesIs whole utf8) ls ds
+      → Left m (map (λ (l : Numbering). l.name) ls ++ ys) → length m.lists + length ls ≤ 64
+      → Declares m (with_lists m (m.lists ++ map (λ (l : Numbering). l.name) ls)) ds more ys
+  unfolding declare
+  declare_lists [] m ds more ys lines left few =
+      let same : m ≡ with_lists m (m.lists ++ []) = ap (with_lists m) (sym (append-nil m.lists)) in
+      record { leads = nothing m ds more lines ∙ ap (λ n. each (declare whole) n more) same; left = subst (λ n. Left n ys) same left }
+  declare_lists (l ∷ ls) m ds more ys lines left few =
+      let line = lines.3 in
+      let next : Naming = with_lists m (m.lists ++ l.name ∷ []) in
+      let size = length-append m.lists (l.name ∷ []) in
+      let rest = declare_lists ls next lines.1 more ys lines.4 (left_after m next l.name (map (λ (l : Numbering). l.name) ls ++ ys) (list_fresh m l.name) left)
+      (omega (arith, few, size)) in
+      let same : with_lists m (next.lists ++ map (λ (l : Numbering). l.name) ls) ≡ with_lists m
+      (m.lists ++ map (λ (l : Numbering). l.name) (l ∷ ls)) =
+      ap (with_lists m) (append_assoc m.lists (l.name ∷ []) (map (λ (l : Numbering). l.name) ls)) in
+      record {
+        leads = one m next ds lines.0 lines.1 more (Names line.at line.named line.texts) lines.2 line.is
+            (one_list m line.named l.name line.name_is left.fresh.0 (omega (arith, few))) ∙ rest.leads ∙ ap (λ n. each (declare whole) n more) same;
+        left = subst (λ n. Left n ys) same rest.left;
+      }
 
   module _ (kinds : List PlainKind) (named_kinds : list_all (λ (k : PlainKind). is_name k.name) kinds ≡ true) (n : Naming)
       (known_kinds : KindsKnown kinds n) where

@@ -1,6 +1,6 @@
 -- The declarations of the normal form are read as what was printed.
 use Rattle.std.proofs.Common.{◌≡◌, ◌+◌, ℕ, pos, Bool, true, false, ◌&&◌, ◌||◌, List, [], ◌∷◌, ◌++◌, length, Option, Some, None, Ok, refl, sym, ap, subst, ◌∙◌}
-use Rattle.std.specs.Prelude.{nat_lt, nat_le, not, is_some, if◌then◌else◌, slice_get}
+use Rattle.std.specs.Prelude.{nat_lt, nat_le, not, is_some, if◌then◌else◌, slice_get, codes}
 use Rattle.std.specs.List.{list_all}
 use Rattle.std.specs.Str.{IsUtf8}
 use Rattle.std.proofs.lemmas.List.Concat.{flat_map-append}
@@ -8,7 +8,7 @@ use Rattle.flu_lemmas.proofs.Tests.{and_left, and_right}
 use Rattle.flu_lemmas.proofs.Numbers.{none_left}
 use Rattle.flu_lemmas.proofs.Booleans.{three_left, three_middle, three_right}
 use Rattle.flu_lemmas.specs.Items.{lines_before, Begins, Pairs}
-use Rattle.flu_lemmas.proofs.Items.{begins_append, Took, took_none, read_items}
+use Rattle.flu_lemmas.proofs.Items.{begins_append, Took, took_none, ItemIs, read_items}
 use Rattle.flu_text.specs.declared.words.Word.{Word}
 use Rattle.flu_text.specs.declared.words.Word.TheVariants as w
 use Rattle.flu_text.specs.declared.words.Mark.TheVariants as m
@@ -27,12 +27,18 @@ use Rattle.flu_syntax.specs.declared.tree.WrittenTag.{WrittenTag}
 use Rattle.flu_syntax.specs.declared.tree.WrittenRelation.{WrittenRelation}
 use Rattle.flu_syntax.specs.declared.tree.WrittenRelation.TheVariants as relation
 use Rattle.flu_text.specs.Signs.{is_name_word, span_of}
-use Rattle.flu_syntax.specs.Tree.{Declaration, Cell, Tag, Depends, On, Source as SourceLine}
+use Rattle.flu_syntax.specs.Tree.{Declaration, Cell, Tag, Names, Depends, On, Source as SourceLine}
 use Rattle.flu_syntax.specs.Tree.{Action as WrittenDo}
 use Rattle.flu_text.specs.Signs.{IsSign, Any}
-use Rattle.flu_text.specs.Signs.{separated}
-use Rattle.flu_syntax.specs.Grammar.{sort_word, value_word, keyed_signs, item_signs, relation_signs, action_signs, tag_signs, slack_signs}
-use Rattle.flu_syntax.specs.Grammar.{declaration_signs, declarations_signs, IsDeclaration, AreDeclarations}
+use Rattle.flu_text.specs.Signs.{separated, text as text_signs}
+use Rattle.flu_text.specs.Spelling.{contextual_of}
+use Rattle.flu_text.specs.declared.words.Contextual.TheVariants as contextual
+use Rattle.flu_syntax.specs.declared.tree.WrittenBy.{WrittenBy}
+use Rattle.flu_syntax.specs.declared.tree.WrittenCells.{WrittenCells}
+use Rattle.flu_syntax.specs.declared.tree.WrittenCells.TheVariants as cells
+use Rattle.flu_syntax.specs.declared.tree.WrittenItem.{WrittenItem}
+use Rattle.flu_syntax.specs.Grammar.{sort_word, value_word, keyed_signs, by_signs, cells_signs, item_signs, relation_signs, action_signs, tag_signs}
+use Rattle.flu_syntax.specs.Grammar.{slack_signs, declaration_signs, declarations_signs, IsDeclaration, AreDeclarations}
 use Rattle.flu_names.specs.declared.reserved.Reserved.{Reserved}
 use Rattle.flu_names.specs.declared.reserved.Reserved.TheVariants as r
 use Rattle.flu_names.specs.Names.{is_name}
@@ -41,15 +47,19 @@ use Rattle.flu_layout.specs.Laid.{line_end, blank, reserved, name, number}
 use Rattle.flu_layout.specs.Lists.{between}
 use Rattle.flu_layout.specs.Stands.{StandsFor, Stand}
 use Rattle.flu_parse.specs.declared.names.KindHead.{KindHead}
-use Rattle.flu_parse.specs.Naming.{Naming, is_version_3, look_up, known, kind_of}
+use Rattle.flu_parse.specs.Naming.{Naming, is_version_3, look_up, known, kind_of, has_keys, keys_by, items_by}
+use Rattle.flu_model.specs.Numberings.{Numbering}
+use Rattle.flu_model.specs.ListRules.{is_listed_text, is_list, is_declared_list, family_list_fits}
+use Rattle.flu_parse.proofs.Printed.ListFits.{plain_kind_list_fits, list_facts}
 use Rattle.flu_model.specs.declared.limits.What.TheVariants.{Slack}
 use Rattle.flu_parse.specs.Listings.{slack_of}
 use Rattle.flu_parse.specs.Resolving.{same_of}
 use Rattle.flu_parse.specs.declared.faults.JobFault.TheVariants as f
 use Rattle.flu_parse.specs.Faults.{◌>>◌, unless}
-use Rattle.flu_parse.specs.Printing.{kind_name}
+use Rattle.flu_parse.specs.Printing.{kind_name, list_name}
 use Rattle.flu_parse.proofs.Printed.Rules.{plain_kind_is_keyed, plain_depend_fits, plain_tag_fits, plain_source_fits}
-use Rattle.flu_parse.proofs.Printed.Words.{action_words, keyed_words, sort_reserved, cell_line_words, item_words, value_reserved, tag_line_words}
+use Rattle.flu_parse.proofs.Printed.Words.{action_words, text_words, texts_words, names_line_words, by_words, keyed_words, sort_reserved, cell_line_words}
+use Rattle.flu_parse.proofs.Printed.Words.{item_words, value_reserved, tag_line_words}
 use Rattle.flu_parse.proofs.Printed.Words.{behind_depends, same_words, depends_line_words, actions_words, on_line_words, tag_words, listed_words, slack_words}
 use Rattle.flu_parse.proofs.Printed.Words.{source_line_words}
 use Rattle.flu_parse.proofs.Printed.Quotes.{text_stands, inside_stands}
@@ -109,11 +119,10 @@ one_line whole Means rest ts d took is means = record {
 }
 
 module _ (whole : List ℕ) (utf8 : IsUtf8 whole) where
-  -- `keyed`, and the word that ends the line
-  read_end : (keyed : Bool) (end : Reserved) (rest : List Laid) (ts : List Token) → Stand whole (keyed_words keyed (reserved end line_end ∷ rest)) ts
-      → Took IsSign (Stand whole) (keyed_signs keyed ++ Any (w.Reserved end) ∷ []) rest ts
-  read_end true end rest ts h = record { rest = h.4.1; begins = (h.0, h.1, h.2, h.3.word, (h.4.0, h.4.1, h.4.2, h.4.3.word, refl)); stand = h.4.4 }
-  read_end false end rest ts h = record { rest = h.1; begins = (h.0, h.1, h.2, h.3.word, refl); stand = h.4 }
+  -- the word that ends the line
+  read_last : (end : Reserved) (rest : List Laid) (ts : List Token) → Stand whole (reserved end line_end ∷ rest) ts
+      → Took IsSign (Stand whole) (Any (w.Reserved end) ∷ []) rest ts
+  read_last end rest ts h = record { rest = h.1; begins = (h.0, h.1, h.2, h.3.word, refl); stand = h.4 }
 
   same_word : (s : Sort) → w.Reserved (sort_reserved s) ≡ sort_word s
   same_word sort.Sum = refl
@@ -124,102 +133,246 @@ module _ (whole : List ℕ) (utf8 : IsUtf8 whole) where
   same_value true = refl
   same_value false = refl
 
-  -- the declaration of a family
-  abbrev pub CellIs : Family → List Declaration → Type 0
-  CellIs f ds = (s : WrittenSpan) × (ds ≡ Cell s f.keyed f.sort ∷ []) × (name_of whole s ≡ f.name)
+  -- the texts of a list of names
+  abbrev pub TextIs : List ℕ → WrittenSpan → Type 0
+  TextIs t s = inside whole s ≡ t
 
-  pub read_cell_line : (f : Family) (rest : List Laid) (ts : List Token) → is_name f.name ≡ true → Stand whole (cell_line_words f rest) ts
-      → LinesAre whole (CellIs f) rest ts
-  read_cell_line f rest ts named h =
-      let n = h.4 in
-      let end = read_end f.keyed (sort_reserved f.sort) rest n.1 n.4 in
-      let signs : keyed_signs f.keyed ++ Any (w.Reserved (sort_reserved f.sort)) ∷ [] ≡ keyed_signs f.keyed ++ Any (sort_word f.sort)
-      ∷ [] = ap (λ (word : Word). keyed_signs f.keyed ++ Any word ∷ []) (same_word f.sort) in
-      one_line whole (CellIs f) rest ts (Cell (span_of n.0) f.keyed f.sort)
-      (record {
-        rest = end.rest;
-        begins = (
-          h.0,
-          h.1,
-          h.2,
-          h.3.word,
-          (
-            n.0,
-            n.1,
-            n.2,
-            (ap is_name_word n.3.word, refl, refl),
-            subst
-                (λ l. Begins IsSign l n.1 end.rest) signs end.begins,
-          ),
-        );
-        stand = end.stand;
-      })
-      tt (span_of n.0, refl, n.3.named refl)
+  -- a list of names
+  pub record NamesIs (l : Numbering) (ds : List Declaration) : Type 0 where
+    pub at : ℕ
+    pub named : WrittenSpan
+    pub texts : List WrittenSpan
+    pub is : ds ≡ Names at named texts ∷ []
+    pub name_is : name_of whole named ≡ l.name
+    pub are : Pairs TextIs l.texts texts
 
-  -- the declaration of a kind
-  abbrev pub TagIs : PlainKind → List Declaration → Type 0
-  TagIs k ds =
-      (s : WrittenSpan) × (item : Option ℕ) × (ds ≡ Tag s k.keyed item k.has_value ∷ []) × (name_of whole s ≡ k.name) × (is_some item ≡ k.has_item)
+  read_text : (t behind : List ℕ) (rest : List Laid) (ts : List Token) → is_listed_text t ≡ true → Stand whole (text_words t behind rest) ts
+      → ItemIs IsSign (Stand whole) text_signs TextIs t rest ts
+  read_text t behind rest ts fits h = record {
+    written = span_of h.0;
+    took = record { rest = h.1; begins = (h.0, h.1, h.2, (h.3.word, refl, refl), refl); stand = h.4 };
+    is = inside_stands whole t (span_of h.0) (text_stands whole t behind h.0 utf8 h.3);
+  }
 
-  -- `keyed`, `item`, and the word that ends the line
-  record TagEnd (keyed has_item : Bool) (end : Reserved) (rest : List Laid) (ts : List Token) : Type 0 where
-    item : Option ℕ
-    has : is_some item ≡ has_item
-    took : Took IsSign (Stand whole) (keyed_signs keyed ++ item_signs item ++ Any (w.Reserved end) ∷ []) rest ts
+  -- the texts of a list, of which there are some
+  record TextsAre (texts : List (List ℕ)) (rest : List Laid) (ts : List Token) : Type 0 where
+    first : WrittenSpan
+    others : List WrittenSpan
+    took : Took IsSign (Stand whole) (Any (w.Mark m.Colon) ∷ separated (w.Mark m.Comma) text_signs (first ∷ others)) rest ts
+    are : Pairs TextIs texts (first ∷ others)
 
-  read_tag_end : (keyed has_item : Bool) (end : Reserved) (rest : List Laid) (ts : List Token)
-      → Stand whole (keyed_words keyed (item_words has_item (reserved end line_end ∷ rest))) ts → TagEnd keyed has_item end rest ts
-  read_tag_end true true end rest ts h =
-      let word = h.4 in
-      let last = word.4 in
+  read_texts : (texts : List (List ℕ)) (rest : List Laid) (ts : List Token) → nat_lt 0 (length texts) ≡ true → list_all is_listed_text texts ≡ true
+      → Stand whole (texts_words texts rest) ts → TextsAre texts rest ts
+  read_texts [] rest ts some fits h = absurd cc
+  read_texts (t ∷ texts) rest ts some fits h =
+      let all = read_items IsSign (Stand whole) text_words [] (between m.Comma) text_signs TextIs is_listed_text (Any (w.Mark m.Comma)) read_text
+      (λ r ts h. (h.0, h.1, h.2, h.3.word, h.4)) t texts line_end rest h.1 fits h.4 in
       record {
-        item = Some word.0.from;
-        has = refl;
-        took = record {
-          rest = last.1;
-          begins = (h.0, h.1, h.2, h.3.word, (word.0, word.1, word.2, (word.3.word, refl), (last.0, last.1, last.2, last.3.word, refl)));
-          stand = last.4;
-        };
+        first = all.first;
+        others = all.others;
+        took = record { rest = all.took.rest; begins = (h.0, h.1, h.2, h.3.word, all.took.begins); stand = all.took.stand };
+        are = all.are;
       }
-  read_tag_end true false end rest ts h = record { item = None; has = refl; took = read_end true end rest ts h }
-  read_tag_end false true end rest ts h =
-      let last = h.4 in
-      record {
-        item = Some h.0.from;
-        has = refl;
-        took = record { rest = last.1; begins = (h.0, h.1, h.2, (h.3.word, refl), (last.0, last.1, last.2, last.3.word, refl)); stand = last.4 };
-      }
-  read_tag_end false false end rest ts h = record { item = None; has = refl; took = read_end false end rest ts h }
 
-  pub read_tag_line : (k : PlainKind) (rest : List Laid) (ts : List Token) → is_name k.name ≡ true → Stand whole (tag_line_words k rest) ts
-      → LinesAre whole (TagIs k) rest ts
-  read_tag_line k rest ts named h =
+  names_spelled : w.Name (contextual_of (codes "names")) ≡ w.Name contextual.Names
+  unfolding contextual_of
+  names_spelled = refl
+
+  pub read_names_line : (l : Numbering) (rest : List Laid) (ts : List Token) → is_list l ≡ true → Stand whole (names_line_words l rest) ts
+      → LinesAre whole (NamesIs l) rest ts
+  read_names_line l rest ts fits h =
+      let facts = list_facts l fits in
       let n = h.4 in
-      let tag = read_tag_end k.keyed k.has_item (value_reserved k.has_value) rest n.1 n.4 in
-      let end = tag.took in
-      let front = keyed_signs k.keyed ++ item_signs tag.item in
-      let signs : front ++ Any (w.Reserved (value_reserved k.has_value)) ∷ [] ≡ front ++ Any (value_word k.has_value) ∷ [] =
-      ap (λ (word : Word). front ++ Any word ∷ []) (same_value k.has_value) in
-      one_line whole (TagIs k) rest ts (Tag (span_of n.0) k.keyed tag.item k.has_value)
+      let texts = read_texts l.texts rest n.1 facts.some facts.texts n.4 in
+      one_line whole (NamesIs l) rest ts (Names h.0.from (span_of n.0) (texts.first ∷ texts.others))
       (record {
-        rest = end.rest;
-        begins = (
-          h.0,
-          h.1,
-          h.2,
-          h.3.word,
-          (
-            n.0,
-            n.1,
-            n.2,
-            (ap is_name_word n.3.word, refl, refl),
-            subst
-                (λ l. Begins IsSign l n.1 end.rest) signs end.begins,
-          ),
-        );
-        stand = end.stand;
+        rest = texts.took.rest;
+        begins = (h.0, h.1, h.2, (h.3.word ∙ names_spelled, refl), (n.0, n.1, n.2, (ap is_name_word n.3.word, refl, refl), texts.took.begins));
+        stand = texts.took.stand;
       })
-      tt (span_of n.0, tag.item, refl, n.3.named refl, tag.has)
+      (λ none. absurd cc)
+      (record {
+        at = h.0.from;
+        named = span_of n.0;
+        texts = texts.first ∷ texts.others;
+        is = refl;
+        name_is = n.3.named refl;
+        are = texts.are;
+      })
+
+  by_spelled : w.Name (contextual_of (codes "by")) ≡ w.Name contextual.By
+  unfolding contextual_of
+  by_spelled = refl
+
+  module _ (lists : List Numbering) where
+    -- the list that is written for keys or items, if one is
+    abbrev pub ByIs : Option ℕ → Option WrittenBy → Type 0
+    ByIs None by = by ≡ None
+    ByIs (Some number) by = (written : WrittenBy) × (by ≡ Some written) × (name_of whole written.list ≡ list_name lists (Some number))
+
+    -- `by`, and the word that ends the line
+    record ByEnd (number : ℕ) (end : Reserved) (rest : List Laid) (ts : List Token) : Type 0 where
+      by : WrittenBy
+      is : ByIs (Some number) (Some by)
+      took : Took IsSign (Stand whole) (by_signs by ++ Any (w.Reserved end) ∷ []) rest ts
+
+    read_by : (number : ℕ) (end : Reserved) (rest : List Laid) (ts : List Token)
+        → Stand whole (by_words lists (Some number) (reserved end line_end ∷ rest)) ts → ByEnd number end rest ts
+    read_by number end rest ts h =
+        let n = h.4 in
+        let last = read_last end rest n.1 n.4 in
+        let by : WrittenBy = record { at = h.0.from; list = span_of n.0 } in
+        record {
+          by = by;
+          is = (by, refl, n.3.named refl);
+          took = record {
+            rest = last.rest;
+            begins = (h.0, h.1, h.2, (h.3.word ∙ by_spelled, refl), (n.0, n.1, n.2, (ap is_name_word n.3.word, refl, refl), last.begins));
+            stand = last.stand;
+          };
+        }
+
+    -- the declaration of a family
+    pub record CellIs (f : Family) (ds : List Declaration) : Type 0 where
+      pub named : WrittenSpan
+      pub cells : WrittenCells
+      pub is : ds ≡ Cell named cells f.sort ∷ []
+      pub name_is : name_of whole named ≡ f.name
+      pub keyed : has_keys cells ≡ f.keyed
+      pub by : ByIs f.list (keys_by cells)
+
+    -- `keyed`, the list, and the word that ends the line
+    record CellEnd (keyed : Bool) (l : Option ℕ) (end : Reserved) (rest : List Laid) (ts : List Token) : Type 0 where
+      cells : WrittenCells
+      has : has_keys cells ≡ keyed
+      by : ByIs l (keys_by cells)
+      took : Took IsSign (Stand whole) (cells_signs cells ++ Any (w.Reserved end) ∷ []) rest ts
+
+    read_cell_end : (keyed : Bool) (l : Option ℕ) (end : Reserved) (rest : List Laid) (ts : List Token) → (keyed || not (is_some l)) ≡ true
+        → Stand whole (keyed_words keyed (by_words lists l (reserved end line_end ∷ rest))) ts → CellEnd keyed l end rest ts
+    read_cell_end true None end rest ts fits h =
+        let last = read_last end rest h.1 h.4 in
+        record {
+          cells = cells.Keyed;
+          has = refl;
+          by = refl;
+          took = record { rest = last.rest; begins = (h.0, h.1, h.2, h.3.word, last.begins); stand = last.stand };
+        }
+    read_cell_end true (Some number) end rest ts fits h =
+        let named = read_by number end rest h.1 h.4 in
+        record {
+          cells = cells.By named.by;
+          has = refl;
+          by = named.is;
+          took = record { rest = named.took.rest; begins = (h.0, h.1, h.2, h.3.word, named.took.begins); stand = named.took.stand };
+        }
+    read_cell_end false None end rest ts fits h = record { cells = cells.Alone; has = refl; by = refl; took = read_last end rest ts h }
+    read_cell_end false (Some number) end rest ts fits h = absurd cc
+
+    pub read_cell_line : (f : Family) (rest : List Laid) (ts : List Token) → family_list_fits lists f ≡ true
+        → Stand whole (cell_line_words lists f rest) ts → LinesAre whole (CellIs f) rest ts
+    read_cell_line f rest ts fits h =
+        let n = h.4 in
+        let where_keyed = and_right (is_declared_list lists f.list) (f.keyed || not (is_some f.list)) fits in
+        let cell = read_cell_end f.keyed f.list (sort_reserved f.sort) rest n.1 where_keyed n.4 in
+        let end = cell.took in
+        let signs : cells_signs cell.cells ++ Any (w.Reserved (sort_reserved f.sort)) ∷ [] ≡ cells_signs cell.cells ++ Any (sort_word f.sort) ∷ [] =
+        ap (λ (word : Word). cells_signs cell.cells ++ Any word ∷ []) (same_word f.sort) in
+        one_line whole (CellIs f) rest ts (Cell (span_of n.0) cell.cells f.sort)
+        (record {
+          rest = end.rest;
+          begins = (
+            h.0,
+            h.1,
+            h.2,
+            h.3.word,
+            (n.0, n.1, n.2, (ap is_name_word n.3.word, refl, refl), subst (λ l. Begins IsSign l n.1 end.rest) signs end.begins),
+          );
+          stand = end.stand;
+        })
+        tt (record { named = span_of n.0; cells = cell.cells; is = refl; name_is = n.3.named refl; keyed = cell.has; by = cell.by })
+
+    -- the declaration of a kind
+    pub record TagIs (k : PlainKind) (ds : List Declaration) : Type 0 where
+      pub named : WrittenSpan
+      pub item : Option WrittenItem
+      pub is : ds ≡ Tag named k.keyed item k.has_value ∷ []
+      pub name_is : name_of whole named ≡ k.name
+      pub has_item : is_some item ≡ k.has_item
+      pub by : ByIs k.list (items_by item)
+
+    -- `item`, the list, and the word that ends the line
+    record ItemEnd (has_item : Bool) (l : Option ℕ) (end : Reserved) (rest : List Laid) (ts : List Token) : Type 0 where
+      item : Option WrittenItem
+      has : is_some item ≡ has_item
+      by : ByIs l (items_by item)
+      took : Took IsSign (Stand whole) (item_signs item ++ Any (w.Reserved end) ∷ []) rest ts
+
+    read_item_end : (has_item : Bool) (l : Option ℕ) (end : Reserved) (rest : List Laid) (ts : List Token) → (has_item || not (is_some l)) ≡ true
+        → Stand whole (item_words has_item (by_words lists l (reserved end line_end ∷ rest))) ts → ItemEnd has_item l end rest ts
+    read_item_end true None end rest ts fits h =
+        let last = read_last end rest h.1 h.4 in
+        record {
+          item = Some (record { at = h.0.from; by = None });
+          has = refl;
+          by = refl;
+          took = record { rest = last.rest; begins = (h.0, h.1, h.2, (h.3.word, refl), last.begins); stand = last.stand };
+        }
+    read_item_end true (Some number) end rest ts fits h =
+        let named = read_by number end rest h.1 h.4 in
+        record {
+          item = Some (record { at = h.0.from; by = Some named.by });
+          has = refl;
+          by = named.is;
+          took = record { rest = named.took.rest; begins = (h.0, h.1, h.2, (h.3.word, refl), named.took.begins); stand = named.took.stand };
+        }
+    read_item_end false None end rest ts fits h = record { item = None; has = refl; by = refl; took = read_last end rest ts h }
+    read_item_end false (Some number) end rest ts fits h = absurd cc
+
+    -- and `keyed` before it
+    record TagEnd (keyed has_item : Bool) (l : Option ℕ) (end : Reserved) (rest : List Laid) (ts : List Token) : Type 0 where
+      item : Option WrittenItem
+      has : is_some item ≡ has_item
+      by : ByIs l (items_by item)
+      took : Took IsSign (Stand whole) (keyed_signs keyed ++ item_signs item ++ Any (w.Reserved end) ∷ []) rest ts
+
+    read_tag_end : (keyed has_item : Bool) (l : Option ℕ) (end : Reserved) (rest : List Laid) (ts : List Token) → (has_item || not (is_some l)) ≡ true
+        → Stand whole (keyed_words keyed (item_words has_item (by_words lists l (reserved end line_end ∷ rest)))) ts → TagEnd keyed has_item l end rest ts
+    read_tag_end true has_item l end rest ts fits h =
+        let last = read_item_end has_item l end rest h.1 fits h.4 in
+        record {
+          item = last.item;
+          has = last.has;
+          by = last.by;
+          took = record { rest = last.took.rest; begins = (h.0, h.1, h.2, h.3.word, last.took.begins); stand = last.took.stand };
+        }
+    read_tag_end false has_item l end rest ts fits h =
+        let last = read_item_end has_item l end rest ts fits h in
+        record { item = last.item; has = last.has; by = last.by; took = last.took }
+
+    pub read_tag_line : (k : PlainKind) (rest : List Laid) (ts : List Token) → plain_kind_list_fits lists k ≡ true
+        → Stand whole (tag_line_words lists k rest) ts → LinesAre whole (TagIs k) rest ts
+    read_tag_line k rest ts fits h =
+        let n = h.4 in
+        let tag = read_tag_end k.keyed k.has_item k.list (value_reserved k.has_value) rest n.1
+        (and_right (is_declared_list lists k.list) (k.has_item || not (is_some k.list)) fits) n.4 in
+        let end = tag.took in
+        let front = keyed_signs k.keyed ++ item_signs tag.item in
+        let signs : front ++ Any (w.Reserved (value_reserved k.has_value)) ∷ [] ≡ front ++ Any (value_word k.has_value) ∷ [] =
+        ap (λ (word : Word). front ++ Any word ∷ []) (same_value k.has_value) in
+        one_line whole (TagIs k) rest ts (Tag (span_of n.0) k.keyed tag.item k.has_value)
+        (record {
+          rest = end.rest;
+          begins = (
+            h.0,
+            h.1,
+            h.2,
+            h.3.word,
+            (n.0, n.1, n.2, (ap is_name_word n.3.word, refl, refl), subst (λ l. Begins IsSign l n.1 end.rest) signs end.begins),
+          );
+          stand = end.stand;
+        })
+        tt (record { named = span_of n.0; item = tag.item; is = refl; name_is = n.3.named refl; has_item = tag.has; by = tag.by })
 
   module _ (kinds : List PlainKind) (named_kinds : list_all (λ (k : PlainKind). is_name k.name) kinds ≡ true) (n : Naming)
       (known_kinds : KindsKnown kinds n) where

@@ -18,7 +18,8 @@ use Rattle.flu_model.specs.Contents.{key_count}
 use Rattle.flu_model.specs.Erasure.{Term, Literal, EventValue, EventKey, EventItem, EventTime, CellRead, CellHeld, Negative, Negation, Operation}
 use Rattle.flu_model.specs.Versions.{op_divides}
 use Rattle.flu_model.specs.Rules.{key_fits, ref_fits}
-use Rattle.flu_model.specs.Templates.{family_name}
+use Rattle.flu_model.specs.declared.jobs.Piece.{Piece}
+use Rattle.flu_model.specs.Templates.{family_name, written_template}
 use Rattle.flu_syntax.specs.declared.tree.WrittenKey.{WrittenKey}
 use Rattle.flu_syntax.specs.declared.tree.WrittenKey.TheVariants as k
 use Rattle.flu_syntax.specs.declared.tree.WrittenRef.{WrittenRef}
@@ -45,11 +46,11 @@ use Rattle.flu_parse.proofs.Kept.Versions.{at_suits, term_suits}
 abbrev pub family_head : ℕ → Family → FamilyHead
 family_head i f = record { number = i; keyed = f.keyed; sort = f.sort }
 
--- each family is looked up by its name, and in version 3 none is called `item`
+-- each family is looked up by its name, templates are written with the names that are known, and in version 3 no family is called `item`
 pub record FamiliesKnown (families : List Family) (n : Naming) : Type 0 where
   pub declared : (i : ℕ) (f : Family) → slice_get families i ≡ Some f → look_up f.name n.families ≡ Some (family_head i f)
   pub not_item : (i : ℕ) (f : Family) → slice_get families i ≡ Some f → (is_version_3 n && bytes_eq f.name (codes "item")) ≡ false
-  pub all : families_of n ≡ families
+  pub all : (pieces : List Piece) → written_template (families_of n) pieces ≡ written_template families pieces
 
 -- where a kind has items, they may stand under it
 abbrev pub ItemsKnown : Naming → KindHead → Type 0

@@ -10,6 +10,8 @@ use Rattle.flu_model.specs.declared.jobs.Keys.{Keys}
 use Rattle.flu_model.specs.declared.jobs.TagRef.{TagRef}
 use Rattle.flu_model.specs.declared.jobs.Source.{Source}
 use Rattle.flu_model.specs.Erasure.{PlainKind, plain_kind, Job}
+use Rattle.flu_model.specs.Numberings.{Numbering}
+use Rattle.flu_model.specs.ListRules.{are_lists}
 use Rattle.flu_model.specs.Rules.{is_version, is_same_text, are_distinct, kind_is_keyed, depend_fits, keys_fit, listed_kind_fits, tag_ref_fits, is_file_text}
 use Rattle.flu_model.specs.Rules.{is_same_tag, source_fits}
 use Rattle.flu_model.specs.Listing.{tags_of_source, itags_of_sources}
@@ -21,6 +23,7 @@ use Rattle.flu_names.specs.Names.{is_name}
 use Rattle.flu_lemmas.proofs.Elements.{list_all_same}
 use Rattle.flu_parse.proofs.Kept.Plain.{plain_kind_fits, kinds-plain}
 use Rattle.flu_parse.proofs.Kept.Versions.{plain_fit_version, version-plain}
+use Rattle.flu_parse.proofs.Printed.ListFits.{plain_fit_lists, lists-plain}
 
 abbrev pub plain_kind_is_keyed : Option PlainKind → Bool
 plain_kind_is_keyed None = false
@@ -44,20 +47,25 @@ plain_source_fits kinds s =
     && list_all (plain_tag_fits kinds) s.tags && are_distinct is_same_tag (tags_of_source s)
 
 abbrev pub names_of_job : Job → List (List ℕ)
-names_of_job job = map (λ (f : Family). f.name) job.families ++ map (λ (k : PlainKind). k.name) job.kinds ++ map (λ (s : Source). s.name) job.sources
+names_of_job job =
+    map (λ (f : Family). f.name) job.families ++ map (λ (k : PlainKind). k.name) job.kinds ++ map (λ (s : Source). s.name) job.sources
+    ++ map (λ (l : Numbering). l.name) job.lists
 
 -- the rules of a job
 pub record JobFits (job : Job) : Type 0 where
   pub known_version : is_version job.version ≡ true
   pub known_iso : iso_fits job.version job.iso ≡ true
+  pub few_lists : length job.lists ≤ 64
   pub few_families : length job.families ≤ 64
   pub few_kinds : length job.kinds ≤ 64
   pub few_depends : length job.depends ≤ 4096
   pub few_sources : length job.sources ≤ 64
   pub few_itags : length (itags_of_sources 0 job.sources) ≤ 256
+  pub lists : are_lists job.lists ≡ true
   pub families : list_all (λ (f : Family). is_name f.name) job.families ≡ true
   pub kinds : list_all (plain_kind_fits job.families) job.kinds ≡ true
   pub version : plain_fit_version job.version job.families job.kinds ≡ true
+  pub lists_fit : plain_fit_lists job.version job.lists job.families job.kinds ≡ true
   pub depends : list_all (plain_depend_fits job.kinds) job.depends ≡ true
   pub sources : list_all (plain_source_fits job.kinds) job.sources ≡ true
   pub own_names : are_distinct is_same_text (names_of_job job) ≡ true
@@ -93,22 +101,26 @@ same_names [] = refl
 same_names (k ∷ kinds) = ap (λ ns. k.name ∷ ns) (same_names kinds)
 
 -- what keeps the rules keeps them as plain data
-pub job_fits : (version : ℕ) (iso : Option Unit) (families : List Family) (kinds : List Kind) (depends : List Depend) (sources : List Source)
-    → KeepsRules version iso families kinds depends sources → JobFits (job_with version iso families kinds depends sources)
-job_fits version iso families kinds depends sources kept = record {
+pub job_fits : (version : ℕ) (iso : Option Unit) (lists : List Numbering) (families : List Family) (kinds : List Kind) (depends : List Depend)
+    (sources : List Source)
+    → KeepsRules version iso lists families kinds depends sources → JobFits (job_with version iso lists families kinds depends sources)
+job_fits version iso lists families kinds depends sources kept = record {
   known_version = kept.known_version;
   known_iso = kept.known_iso;
+  few_lists = kept.few_lists;
   few_families = kept.few_families;
   few_kinds = rw (length-map kinds plain_kind) kept.few_kinds;
   few_depends = kept.few_depends;
   few_sources = kept.few_sources;
   few_itags = kept.few_itags;
+  lists = kept.lists_are;
   families = kept.families_fit;
   kinds = sym (kinds-plain families kinds) ∙ kept.kinds_fit;
   version = sym (version-plain version families kinds) ∙ kept.version_fits;
+  lists_fit = sym (lists-plain version lists families kinds) ∙ kept.lists_fit;
   depends = list_all_same (plain_depend_fits (map plain_kind kinds)) (depend_fits kinds) depends (same_depend kinds) ∙ kept.depends_fit;
   sources = list_all_same (plain_source_fits (map plain_kind kinds)) (source_fits kinds) sources (same_source kinds) ∙ kept.sources_fit;
-  own_names = ap (λ ns. are_distinct is_same_text (map (λ (f : Family). f.name) families ++ ns ++ map (λ (s : Source). s.name) sources)) (same_names kinds)
-      ∙ kept.own_names;
+  own_names = ap (λ ns. are_distinct is_same_text (map (λ (f : Family). f.name) families ++ ns ++ map (λ (s : Source). s.name) sources
+      ++ map (λ (l : Numbering). l.name) lists)) (same_names kinds) ∙ kept.own_names;
   own_files = kept.own_files;
 }

@@ -429,4 +429,4 @@ module _ (whole : List ℕ) (utf8 : IsUtf8 whole) (families : List Family) (name
     where
       printable : (o : Option ℕ) → may_be_printed n o rs ≡ true
       printable None = refl
-      printable (Some g) = ap (λ fs. is_short (written_template fs rs)) known_families.all ∙ short
+      printable (Some g) = ap is_short (known_families.all rs) ∙ short

@@ -23,13 +23,15 @@ use Rattle.flu_model.specs.declared.jobs.TagRef.{TagRef}
 use Rattle.flu_model.specs.declared.jobs.Source.{Source}
 use Rattle.flu_model.specs.Erasure.{Term, Literal, EventValue, EventKey, EventItem, EventTime, CellRead, CellHeld, Negative, Negation, Operation, Adding}
 use Rattle.flu_model.specs.Erasure.{Raising, Setting, Clearing, ClearingFamily, Emitting, Flushing, PlainAction, PlainKind, Job, PlainAct}
+use Rattle.flu_model.specs.Numberings.{Numbering}
 use Rattle.flu_model.specs.Texts.{Unit}
 use Rattle.flu_model.specs.Templates.{family_name, written_key, written_cell, written_template}
 use Rattle.flu_syntax.specs.Grammar.{op_word}
 use Rattle.flu_layout.specs.Laid.{blank, line_end, quoted, reserved, mark, name, item, text, number}
 use Rattle.flu_layout.specs.Lists.{separated, between, items_words, keys_text, behind_kind, keys_words}
 use Rattle.flu_layout.specs.Laws.{KeysAreSpelled}
-use Rattle.flu_parse.specs.Printing.{op_text, term_text, act_text, guard_text, action_text, unit_name, iso_text, version_line, keyed_text, sort_text, cell_line, item_text}
+use Rattle.flu_parse.specs.Printing.{op_text, term_text, act_text, guard_text, action_text, unit_name, iso_text, version_line, names_line}
+use Rattle.flu_parse.specs.Printing.{list_name, by_text, keyed_text, sort_text, cell_line, item_text}
 use Rattle.flu_parse.specs.Printing.{value_text, tag_line, kind_name, same_text, depends_line, actions_line, on_line, tag_text, slack_text, source_line}
 use Rattle.flu_parse.specs.Printing.{normal_form}
 
@@ -45,8 +47,8 @@ regroup_ten : (a b c d e f g h i j k : List ℕ) → a ++ (b ++ (c ++ (d ++ (e +
     ≡ (((((((((a ++ b) ++ c) ++ d) ++ e) ++ f) ++ g) ++ h) ++ i) ++ j) ++ k
 regroup_ten a b c d e f g h i j k = simp append_assoc
 
-regroup_job : (a b c d e f : List ℕ) → a ++ (b ++ (c ++ (d ++ (e ++ (f ++ []))))) ≡ ((((a ++ b) ++ c) ++ d) ++ e) ++ f
-regroup_job a b c d e f = simp (append-nil, append_assoc)
+regroup_job : (a b c d e f g : List ℕ) → a ++ (b ++ (c ++ (d ++ (e ++ (f ++ (g ++ [])))))) ≡ (((((a ++ b) ++ c) ++ d) ++ e) ++ f) ++ g
+regroup_job a b c d e f g = simp (append-nil, append_assoc)
 
 -- ---- words
 
@@ -198,6 +200,39 @@ version_layout version iso rest = by (version == 2) (version == 3)
     by false true = iso_layout iso rest
     by false false = refl
 
+-- a list of names: its texts, of which every list of a job has some
+abbrev pub text_words : List ℕ → List ℕ → List Laid → List Laid
+text_words t behind rest = text t behind ∷ rest
+
+abbrev pub texts_words : List (List ℕ) → List Laid → List Laid
+texts_words [] rest = mark m.Colon (32 ∷ 10 ∷ []) ∷ rest
+texts_words (t ∷ ts) rest = mark m.Colon blank ∷ items_words m.Comma text_words t ts line_end rest
+
+texts_layout : (ts : List (List ℕ)) (rest : List Laid)
+    → layout (texts_words ts rest) ≡ codes ": " ++ (separated (codes ", ") quoted ts ++ (line_end ++ layout rest))
+texts_layout [] rest = refl
+texts_layout (t ∷ ts) rest =
+    ap (λ l. codes ": " ++ l)
+    (items_out text_words (between m.Comma) layout quoted (codes ", ") (λ x behind rest. refl) (λ rest. refl) t ts line_end rest)
+
+abbrev pub names_line_words : Numbering → List Laid → List Laid
+names_line_words l rest = name (codes "names") blank ∷ name l.name [] ∷ texts_words l.texts rest
+
+names_line_layout : (l : Numbering) (rest : List Laid) → layout (names_line_words l rest) ≡ names_line l ++ layout rest
+names_line_layout l rest =
+    ap (λ more. codes "names " ++ (l.name ++ more)) (texts_layout l.texts rest)
+    ∙ regroup_five (codes "names ") l.name (codes ": ") (separated (codes ", ") quoted l.texts) line_end (layout rest)
+
+-- nothing, or the list that names keys or items
+abbrev pub by_words : List Numbering → Option ℕ → List Laid → List Laid
+by_words lists None rest = rest
+by_words lists (Some number) rest = name (codes "by") blank ∷ name (list_name lists (Some number)) blank ∷ rest
+
+by_layout : (lists : List Numbering) (l : Option ℕ) (rest : List Laid)
+    → blank ++ layout (by_words lists l rest) ≡ by_text lists l ++ (blank ++ layout rest)
+by_layout lists None rest = refl
+by_layout lists (Some number) rest = simp append_assoc
+
 abbrev pub keyed_words : Bool → List Laid → List Laid
 keyed_words true rest = reserved r.Keyed blank ∷ rest
 keyed_words false rest = rest
@@ -216,12 +251,14 @@ sort_layout sort.Sum rest = refl
 sort_layout sort.Max rest = refl
 sort_layout sort.Last rest = refl
 
-abbrev pub cell_line_words : Family → List Laid → List Laid
-cell_line_words f rest = reserved r.Cell blank ∷ name f.name blank ∷ keyed_words f.keyed (reserved (sort_reserved f.sort) line_end ∷ rest)
+abbrev pub cell_line_words : List Numbering → Family → List Laid → List Laid
+cell_line_words lists f rest =
+    reserved r.Cell blank ∷ name f.name blank ∷ keyed_words f.keyed (by_words lists f.list (reserved (sort_reserved f.sort) line_end ∷ rest))
 
-cell_line_layout : (f : Family) (rest : List Laid) → layout (cell_line_words f rest) ≡ cell_line f ++ layout rest
-cell_line_layout f rest =
-    rw (keyed_layout f.keyed (reserved (sort_reserved f.sort) line_end ∷ rest), sort_layout f.sort rest) (simp append_assoc)
+cell_line_layout : (lists : List Numbering) (f : Family) (rest : List Laid) → layout (cell_line_words lists f rest) ≡ cell_line lists f ++ layout rest
+cell_line_layout lists f rest =
+    let end : List Laid = reserved (sort_reserved f.sort) line_end ∷ rest in
+    rw (keyed_layout f.keyed (by_words lists f.list end), by_layout lists f.list end, sort_layout f.sort rest) (simp append_assoc)
 
 -- nothing, or the word `item`
 abbrev pub item_words : Bool → List Laid → List Laid
@@ -241,14 +278,17 @@ value_layout : (has_value : Bool) (rest : List Laid)
 value_layout true rest = refl
 value_layout false rest = refl
 
-abbrev pub tag_line_words : PlainKind → List Laid → List Laid
-tag_line_words k rest =
-    reserved r.Tag blank ∷ name k.name blank ∷ keyed_words k.keyed (item_words k.has_item (reserved (value_reserved k.has_value) line_end ∷ rest))
+abbrev pub tag_line_words : List Numbering → PlainKind → List Laid → List Laid
+tag_line_words lists k rest =
+    reserved r.Tag blank ∷ name k.name blank
+    ∷ keyed_words k.keyed (item_words k.has_item (by_words lists k.list (reserved (value_reserved k.has_value) line_end ∷ rest)))
 
-tag_line_layout : (k : PlainKind) (rest : List Laid) → layout (tag_line_words k rest) ≡ tag_line k ++ layout rest
-tag_line_layout k rest =
+tag_line_layout : (lists : List Numbering) (k : PlainKind) (rest : List Laid) → layout (tag_line_words lists k rest) ≡ tag_line lists k ++ layout rest
+tag_line_layout lists k rest =
     let value : List Laid = reserved (value_reserved k.has_value) line_end ∷ rest in
-    rw (keyed_layout k.keyed (item_words k.has_item value), item_layout k.has_item value, value_layout k.has_value rest) (simp append_assoc)
+    let named : List Laid = by_words lists k.list value in
+    rw (keyed_layout k.keyed (item_words k.has_item named), item_layout k.has_item named, by_layout lists k.list value, value_layout k.has_value rest)
+    (simp append_assoc)
 
 -- what stands behind the second name of a `depends`
 abbrev pub behind_depends : Bool → List ℕ
@@ -337,9 +377,9 @@ source_line_layout spelled kinds s rest =
 
 abbrev pub job_words : Job → List Laid
 job_words job =
-    version_words job.version job.iso (lines_before cell_line_words job.families
-    (lines_before tag_line_words job.kinds (lines_before (depends_line_words job.kinds) job.depends
-    (lines_before (on_line_words job.families) job.kinds (lines_before (source_line_words job.kinds) job.sources [])))))
+    version_words job.version job.iso (lines_before names_line_words job.lists (lines_before (cell_line_words job.lists) job.families
+    (lines_before (tag_line_words job.lists) job.kinds (lines_before (depends_line_words job.kinds) job.depends
+    (lines_before (on_line_words job.families) job.kinds (lines_before (source_line_words job.kinds) job.sources []))))))
 
 -- the normal form is these words, laid out
 pub job_layout : KeysAreSpelled → (job : Job) → layout (job_words job) ≡ normal_form job
@@ -347,15 +387,18 @@ job_layout spelled job =
     let sources = lines_before (source_line_words job.kinds) job.sources [] in
     let ons = lines_before (on_line_words job.families) job.kinds sources in
     let depends = lines_before (depends_line_words job.kinds) job.depends ons in
-    let tags = lines_before tag_line_words job.kinds depends in
-    let cells = lines_before cell_line_words job.families tags in
-    version_layout job.version job.iso cells
-    ∙ ap (λ l. version_line job.version job.iso ++ l) (lines_out cell_line_words layout cell_line cell_line_layout job.families tags
+    let tags = lines_before (tag_line_words job.lists) job.kinds depends in
+    let cells = lines_before (cell_line_words job.lists) job.families tags in
+    let lists = lines_before names_line_words job.lists cells in
+    version_layout job.version job.iso lists
+    ∙ ap (λ l. version_line job.version job.iso ++ l) (lines_out names_line_words layout names_line names_line_layout job.lists cells
     ∙ rw (
-      lines_out tag_line_words layout tag_line tag_line_layout job.kinds depends,
+      lines_out (cell_line_words job.lists) layout (cell_line job.lists) (cell_line_layout job.lists) job.families tags,
+      lines_out (tag_line_words job.lists) layout (tag_line job.lists) (tag_line_layout job.lists) job.kinds depends,
       lines_out (depends_line_words job.kinds) layout (depends_line job.kinds) (depends_line_layout job.kinds) job.depends ons,
       lines_out (on_line_words job.families) layout (on_line job.families) (λ k rest. actions_layout job.families k.name k.actions rest) job.kinds sources,
       lines_out (source_line_words job.kinds) layout (source_line job.kinds) (source_line_layout spelled job.kinds) job.sources [],
     ) refl)
-    ∙ regroup_job (version_line job.version job.iso) (flat_map cell_line job.families) (flat_map tag_line job.kinds) (flat_map (depends_line job.kinds) job.depends)
+    ∙ regroup_job (version_line job.version job.iso) (flat_map names_line job.lists) (flat_map (cell_line job.lists) job.families)
+    (flat_map (tag_line job.lists) job.kinds) (flat_map (depends_line job.kinds) job.depends)
     (flat_map (on_line job.families) job.kinds) (flat_map (source_line job.kinds) job.sources)

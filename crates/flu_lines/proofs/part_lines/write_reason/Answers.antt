@@ -1,9 +1,16 @@
 use Rattle.std.proofs.Common.{◌++◌}
 use Rattle.std.specs.Prelude.{codes}
 use Rattle.flu_model.specs.Reports.{text_of_tag, text_of_cell}
-use Rattle.flu_lines.proofs.Written.{writes_both}
+use Rattle.flu_lines.proofs.Written.{writes_both, writes_front}
 use Rattle.flu_lines.proofs.WrittenParts.{head_steps}
 use Rattle.flu_lines.proofs.part_lines.write_reason.Goals as goal
+
+pub returns-in_err-write_tag : goal.returns-in_err-write_tag
+returns-in_err-write_tag g c =
+    let tag = text_of_tag c.args.program.now c.args.reason.tag in
+    let cell = text_of_cell c.args.program.now c.args.reason.cell in
+    writes_front (tag ++ codes " on ") (cell ++ codes "\n") (tag ++ codes " on " ++ cell ++ codes "\n") _ _ _ _ _ c.from_residual.result
+    (head_steps (tag ++ codes " on ") cell (codes "\n")) c.from_residual.ensures.0 c.in_err-write_tag.ensures
 
 pub returns : goal.returns
 returns g c =

@@ -6,4 +6,4 @@ use Rattle.flu_parse.specs.Printing.{tag_line}
 use Rattle.flu_parse.proofs.printing.add_tags.Given as goal
 
 abbrev pub invariant-loop-kind : goal.invariant-loop-kind
-invariant-loop-kind l = string_bytes l.text ≡ string_bytes l.fn.text ++ flat_map tag_line (map plain_kind (take l.kind-index l.kinds))
+invariant-loop-kind l = string_bytes l.text ≡ string_bytes l.fn.text ++ flat_map (tag_line l.lists) (map plain_kind (take l.kind-index l.kinds))

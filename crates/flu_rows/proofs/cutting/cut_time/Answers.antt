@@ -7,4 +7,4 @@ pub returns-clause-value : goal.returns-clause-value
 returns-clause-value c =
     let cut = c.in_ok-time in
     let ends : is_bare (get_or cut.rest.now 0 0) ≡ false = search rules in
-    cuts_time c.args.form c.args.bytes.now cut.time cut.rest.now cut.ensures.value (omega arith) ends
+    cuts_time c.args.form.now c.args.bytes.now cut.time cut.rest.now cut.ensures.value (omega arith) ends

@@ -3,4 +3,4 @@ use Rattle.flu_model.specs.Rules.{have_own_names}
 use Rattle.flu_rules.proofs.distinct.kinds_have_own_names.Given as goal
 
 abbrev pub invariant-loop-index : goal.invariant-loop-index
-invariant-loop-index l = have_own_names [] (drop l.index l.kinds) l.sources ≡ have_own_names [] l.kinds l.sources
+invariant-loop-index l = have_own_names l.lists [] (drop l.index l.kinds) l.sources ≡ have_own_names l.lists [] l.kinds l.sources

@@ -6,13 +6,13 @@ use Rattle.flu_rules.proofs.distinct.sources_have_own_names.Goals as goal
 pub returns-then-is_declared : goal.returns-then-is_declared
 returns-then-is_declared c =
     found_again _ _ _ _ c.loop-index.invariant
-    (sources_step c.args.sources.now c.loop-index.index c.index-sources-index.result c.as_str.result.now c.loop-index-test.true c.index-sources-index.is
+    (sources_step c.args.lists.now c.args.sources.now c.loop-index.index c.index-sources-index.result c.as_str.result.now c.loop-index-test.true c.index-sources-index.is
     c.as_str.ensures)
     (sym c.is_declared.ensures ∙ c.if-is_declared.true)
 
 pub loop-index-preserved : goal.loop-index-preserved
 loop-index-preserved c =
     not_again _ _ _ _ c.loop-index.invariant
-    (sources_step c.args.sources.now c.loop-index.index c.index-sources-index.result c.as_str.result.now c.loop-index-test.true c.index-sources-index.is
+    (sources_step c.args.lists.now c.args.sources.now c.loop-index.index c.index-sources-index.result c.as_str.result.now c.loop-index-test.true c.index-sources-index.is
     c.as_str.ensures)
     (sym c.is_declared.ensures ∙ c.if-is_declared.false)

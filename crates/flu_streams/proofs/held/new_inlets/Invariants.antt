@@ -1,4 +1,5 @@
 use Rattle.std.proofs.Common.{◌≡◌, map, take}
+use Rattle.flu_model.specs.Erasure.{job_of}
 use Rattle.flu_rows.specs.Row.{form_of}
 use Rattle.flu_streams.specs.Holding.{unread_source}
 use Rattle.flu_streams.specs.LoopHeld.{source_of, AreUncounted}
@@ -6,6 +7,7 @@ use Rattle.flu_streams.proofs.held.new_inlets.Given as goal
 
 abbrev pub invariant-loop-source : goal.invariant-loop-source
 invariant-loop-source l = record {
-  fresh : map source_of l.inlets.items ≡ map (unread_source (form_of l.p.version l.p.iso) l.border) (take l.source-index l.p.sources);
+  form : l.form ≡ form_of (job_of l.p);
+  fresh : map source_of l.inlets.items ≡ map (unread_source (form_of (job_of l.p)) l.border) (take l.source-index l.p.sources);
   uncounted : AreUncounted l.inlets.items;
 }

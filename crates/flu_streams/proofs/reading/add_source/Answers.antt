@@ -34,7 +34,7 @@ returns-clause-added g c =
     let old = c.args.gathered.now in
     let first = c.len-first.result in
     let now = c.refill.new.self in
-    let r = whole_reads c.args.form kinds s first c.in-Ok.inlet now (left c.args.files.now) (left c.refill.new.files) _
+    let r = whole_reads c.args.form.now kinds s first c.in-Ok.inlet now (left c.args.files.now) (left c.refill.new.files) _
     c.in-Ok.ensures.source c.in_default-refill.ensures.filled in
     let read = r.so_far.more in
     let more : c.append.new.self.items ≡ old.lists.items ++ c.in-Ok-lists.lists.items = grind (arith, common_steps) in
@@ -51,7 +51,7 @@ returns-clause-added g c =
     record {
       read = read;
       passes = passes_whole kinds s old.held read r.so_far.behind.sound (fits_now s read c.in-Ok.inlet now counted old.held start);
-      told = whole_told c.args.form kinds s first c.in-Ok.inlet now (left c.args.files.now) (left c.refill.new.files) _ c.in-Ok.ensures.source r;
+      told = whole_told c.args.form.now kinds s first c.in-Ok.inlet now (left c.args.files.now) (left c.refill.new.files) _ c.in-Ok.ensures.source r;
       lists = ap (map (λ v. v.items)) more ∙ map-append (λ v. v.items) old.lists.items c.in-Ok-lists.lists.items
           ∙ ap (λ rest. lists_in old.lists ++ rest) (own ∙ ap (λ n. lists_of_rows kinds s n (rows_of read)) c.len-first.ensures);
       streams = rw (← c.len-first.ensures, ← own) (own_streams c.in-Ok-lists.lists first c.tag_count-width.result Closed now.items
@@ -67,7 +67,7 @@ returns-clause-read_out g c =
     let kinds = c.args.kinds.now in
     let s = c.args.source.now in
     let now = c.refill.new.self in
-    let r = whole_reads c.args.form kinds s c.len-first.result c.in-Ok.inlet now (left c.args.files.now) (left c.refill.new.files) _
+    let r = whole_reads c.args.form.now kinds s c.len-first.result c.in-Ok.inlet now (left c.args.files.now) (left c.refill.new.files) _
     c.in-Ok.ensures.source c.in_default-refill.ensures.filled in
     c.in_default-refill.ensures.filled.out (λ closed. absurd (false≢true (sym (ap (λ (h : HeldSource). h.closed) c.in-Ok.ensures.source) ∙ closed)))
     (is_closed s ([] ++ r.so_far.more) now _ r.ends)
@@ -75,7 +75,7 @@ returns-clause-read_out g c =
 pub returns-in-Err-clause-fault : goal.returns-in-Err-clause-fault
 returns-in-Err-clause-fault g c =
     let left = g.F.Files.left in
-    rw c.fault_of.ensures (whole_fault c.args.form c.args.kinds.now c.args.source.now c.len-first.result c.args.gathered.now.number c.args.gathered.now.held
+    rw c.fault_of.ensures (whole_fault c.args.form.now c.args.kinds.now c.args.source.now c.len-first.result c.args.gathered.now.number c.args.gathered.now.held
     c.in-Ok.inlet (left c.args.files.now) (left c.refill.new.files) c.in-Err.stop c.in-Ok.ensures.source c.in-Ok.ensures.held c.in-Err.ensures.stop)
 
 pub returns-in-Err-clause-hides : goal.returns-in-Err-clause-hides
@@ -83,5 +83,5 @@ returns-in-Err-clause-hides g c = λ is_fault.
     let left = g.F.Files.left in
     let stop = read_stop c.args.gathered.now.number c.in-Err.stop
     (sym c.fault_of.ensures ∙ err_same (Err c.fault_of.result) c.fault_of.result ReadFaulty refl is_fault) in
-    whole_hides c.args.form c.args.kinds.now c.args.source.now c.len-first.result c.args.gathered.now.held c.in-Ok.inlet (left c.args.files.now)
+    whole_hides c.args.form.now c.args.kinds.now c.args.source.now c.len-first.result c.args.gathered.now.held c.in-Ok.inlet (left c.args.files.now)
     (left c.refill.new.files) c.in-Err.stop stop c.in-Ok.ensures.source c.in-Ok.ensures.held c.in-Err.ensures.stop

@@ -1,5 +1,6 @@
 use Rattle.std.proofs.Common.{◌≡◌, ℕ, List, true, take, vec_len}
 use Rattle.std.specs.Prelude.{sum_by}
+use Rattle.flu_model.specs.Erasure.{job_of}
 use Rattle.flu_model.specs.Streaming.{are_streams}
 use Rattle.flu_outside.specs.Outside.{WhereTold, SameCounts, IsThere}
 use Rattle.flu_outside.specs.Taking.{TookFronts}
@@ -20,7 +21,8 @@ invariant-loop-source g l =
       number : l.gathered.number ≡ l.source-index;
       len : vec_len l.gathered.lists ≡ sum_by width earlier;
       streams : are_streams 0 (lists_in l.gathered.lists) ≡ true;
-      told : WhereTold (left l.fn.files) (left l.files) (IsGathered (form_of l.p.version l.p.iso) l.p.kinds earlier l.gathered);
+      form : l.form ≡ form_of (job_of l.p);
+      told : WhereTold (left l.fn.files) (left l.files) (IsGathered (form_of (job_of l.p)) l.p.kinds earlier l.gathered);
       fronts : WhereTold (left l.fn.files) (left l.files) TookFronts;
       out : AreReadOut (files_of earlier) (left l.files);
       counts : CountsOfNames (left l.fn.files) (files_of earlier) (faults l.fn.files) (faults l.files);

@@ -2,7 +2,7 @@ use Rattle.std.proofs.Common.{◌∙◌, length, refl, sym, ap, arith}
 use Rattle.flu_text.specs.declared.words.Token.{Token}
 use Rattle.flu_syntax.specs.declared.tokens.Heading.TheVariants as heading
 use Rattle.flu_syntax.specs.Tree.{declaration_of}
-use Rattle.flu_syntax.specs.Machine.{CellName, TagName, DependsFirst, OnKind, SourceName}
+use Rattle.flu_syntax.specs.Machine.{CellName, TagName, NamesName, DependsFirst, OnKind, SourceName}
 use Rattle.flu_syntax.proofs.Parts.{through_heading, no_heading}
 use Rattle.flu_syntax.proofs.declarations.declaration.Goals as goal
 
@@ -18,6 +18,11 @@ pub returns-in-Tag-clause-run : goal.returns-in-Tag-clause-run
 returns-in-Tag-clause-run c =
     through_heading c.args.end c.args.tokens.now c.in-Some.rest.now c.in-Some.token TagName heading.Tag (λ x. declaration_of x.0) (λ x. x.1.now)
     c.tag_line.result c.in-Some.ensures (sym c.in-Tag.is ∙ c.heading_of.ensures) refl c.tag_line.ensures.run
+
+pub returns-in-Names-clause-run : goal.returns-in-Names-clause-run
+returns-in-Names-clause-run c =
+    through_heading c.args.end c.args.tokens.now c.in-Some.rest.now c.in-Some.token (NamesName c.in-Some.token.from) heading.Names
+    (λ x. declaration_of x.0) (λ x. x.1.now) c.names_line.result c.in-Some.ensures (sym c.in-Names.is ∙ c.heading_of.ensures) refl c.names_line.ensures.run
 
 pub returns-in-Depends-clause-run : goal.returns-in-Depends-clause-run
 returns-in-Depends-clause-run c =
