@@ -117,7 +117,11 @@ fn list_of_row<'p>(program: &'p Program, row: &str) -> Option<&'p NameList> {
         Some((name, _)) => name,
         None => tag,
     };
-    let kind = program.kinds.items().iter().find(|kind| kind.name.as_str() == name)?;
+    let kind = program
+        .kinds
+        .items()
+        .iter()
+        .find(|kind| kind.name.as_str() == name)?;
     program.lists.items().get(kind.list? as usize)
 }
 

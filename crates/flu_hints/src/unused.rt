@@ -148,8 +148,16 @@ fn push_idle_lists<R: rt::Files + AllocGlobal>(
 }
 
 fn is_used(program: &Program, list: u32) -> bool {
-    program.families.items().iter().any(|family| family.list == Some(list))
-        || program.kinds.items().iter().any(|kind| kind.list == Some(list))
+    program
+        .families
+        .items()
+        .iter()
+        .any(|family| family.list == Some(list))
+        || program
+            .kinds
+            .items()
+            .iter()
+            .any(|kind| kind.list == Some(list))
 }
 
 // Appends the files of sources that cannot be found, each with the system's reason.

@@ -171,7 +171,8 @@ const NAMED: &str =
     "version 3 names towns: \"mill\", \"market hall\", \"7\", \"\u{e9}\" tag ride item by towns int tag hit item int";
 
 /// Files of rows of its kinds: names with quotes and without, as the csv fields that they are, and numbers of the other kind.
-const NAMES: &str = "1,ride,mill/2,ride,market hall,-5/3,ride,7,7/4,hit,7,7/5,hit,mill => 1: 1 ride None named Some(0), 2: 2 ride None named Some(1) and -5, 3: 3 ride None named Some(2) and 7, 4: 4 hit None 7 and 7, 5: 5 hit None others, done 5
+const NAMES: &str =
+    "1,ride,mill/2,ride,market hall,-5/3,ride,7,7/4,hit,7,7/5,hit,mill => 1: 1 ride None named Some(0), 2: 2 ride None named Some(1) and -5, 3: 3 ride None named Some(2) and 7, 4: 4 hit None 7 and 7, 5: 5 hit None others, done 5
 1,ride,\"mill\",1%/2,ride,\"7\"/3,\"ride\",\"\u{e9}\",\"4\"/4,ride,\u{e9},5 => 1: 1 ride None named Some(0) and 1, 2: 2 ride None named Some(2), 3: 3 ride None named Some(3) and 4, 4: 4 ride None named Some(3) and 5, done 4
 1,ride,Mill,1/2,ride,07/3,ride, mill,1/4,ride,,1/5,ride,\"\",1/6,ride,mill,x/7,ride,/8,ride[2],mill => 1: 1 ride None named None and 1, 2: 2 ride None named None, 3: 3 ride None named None and 1, 4: 4 ride None named None and 1, 5: 5 ride None named None and 1, 6: 6 ride None others, 7: 7 ride None None, 8: 8 ride Some(2) named Some(0), done 8
 1,ride,mi\"ll/2,ride,\"mi\"\"ll\",4/3,other,mill => 1: 1 ride None named None, 2: 2 ride None named None and 4, 3: 3 other None others, done 3
