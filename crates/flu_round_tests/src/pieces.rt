@@ -7,14 +7,21 @@ use flu_parse::read_job;
 use std::alloc::{AllocError, Global};
 use std::test::Fail;
 
-/// Three keyed families and a single cell, and the kinds in the order of `KINDS`. The last one prints all cells.
-const HEAD: &str = r#"version 3
-cell s keyed sum
+/// How the report shows times.
+const VERSIONS: &str = "version 3
+version 3 iso seconds
+version 3 iso milliseconds";
+
+/// Three keyed families and a single cell, and the kinds in the order of `KINDS`. The last one prints all cells. The names of a list are the
+/// items that rows may have, so each of them is another number where the list names it.
+const HEAD: &str = r#"
+names towns: "65535", "64", "0", "5000", "2", "1", "63", "3"
+cell s keyed by towns sum
 cell m keyed max
-cell l keyed last
+cell l keyed by towns last
 cell t sum
 tag tick none
-tag mark item none
+tag mark item by towns none
 tag hit item int
 tag trip keyed item int
 tag done none
@@ -134,7 +141,8 @@ fn name_of(kind: u32) -> &'static str {
 /// A job with drawn actions, whose sources have these slacks.
 pub fn drawn_job(alloc: Global, draws: &mut Draws, slacks: [u32; 3]) -> Result<String, AllocError> {
     let [a, b, c] = slacks;
-    let mut job = String::from_str(alloc, HEAD)?;
+    let mut job = String::from_str(alloc, draws.line(VERSIONS))?;
+    job.push_str(HEAD)?;
     for kind in 0..4 {
         job.push_str(&actions(alloc, draws, kind)?)?;
     }
