@@ -1,8 +1,8 @@
 -- The rounds of a job's sources, one after another, what is put behind each, what is counted of them, and how they end.
 use Rattle.std.proofs.Common.{◌≡◌, ◌≢◌, refl, sym, ap, ◌∙◌, subst, ℕ, Bool, ◌-◌, ◌^◌, ◌<◌, ◌≤◌, List, [], ◌∷◌, ◌++◌, Option, Some, None, Result, Ok, Err, inl}
 use Rattle.std.proofs.Common.{inr, ◌⊎◌, append_assoc, arith}
-use Rattle.std.specs.Prelude.{true, false, nat_lt, slice_get, take, Contains, option_map, IsTrue}
-use Rattle.std.specs.Result.{IsErrAnd}
+use Rattle.std.specs.Prelude.{true, false, nat_lt, slice_get, take, unwrap_or, Contains, option_map, IsTrue}
+use Rattle.std.specs.Result.{IsErrAnd, result_err}
 use Rattle.std.proofs.lemmas.Bool.Decides.{nat_tests}
 use Rattle.std.proofs.lemmas.List.{append-nil}
 use Rattle.flu_lemmas.specs.Elements.{AtEach}
@@ -625,6 +625,12 @@ laws_of going state next last defect defect_state others one_more counts o = rec
 pub given_err : {T : Type 0} (r : Result T RunFault) (f : RunFault) → IsErrAnd r (λ (e : RunFault). e ≡ f) → r ≡ Err f
 given_err (Ok done) f is = absurd is
 given_err (Err e) f is = ap Err is
+
+-- the error that `?` was given is none that it did not give
+pub none_given : {T E : Type 0} (r : Result T RunFault) (s : Result E RunFault) (f other : RunFault) → s ≡ Err f
+    → IsErrAnd r (λ (e : RunFault). e ≡ f) → r ≢ Err other → s ≢ Err other
+none_given {T} {E} r s f other from is differs same =
+    let both = sym from ∙ same in differs (given_err r f is ∙ ap Err (ap (λ (e : Result E RunFault). unwrap_or (result_err e) f) both))
 
 pub closed_is : (b : Border) → ((t : ℕ) → b ≡ At t → ⊥) → b ≡ Closed
 closed_is (At t) other = absurd (other t refl)

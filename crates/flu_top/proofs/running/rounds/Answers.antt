@@ -3,10 +3,13 @@ use Rattle.std.specs.Prelude.{option_map}
 use Rattle.flu_model.specs.declared.jobs.Program.{Program}
 use Rattle.flu_deps.specs.Checking.{program_of}
 use Rattle.flu_streams.specs.declared.border.Border.{Border}
+use Rattle.flu_outside.specs.declared.files.PutFault.TheVariants.{Failed}
+use Rattle.flu_rounds.specs.declared.faults.RoundsFault.TheVariants.{ReadFault, WriteFault}
 use Rattle.flu_rounds.specs.Standing.{IsFirstFrom}
+use Rattle.flu_top.specs.declared.running.RunFault.TheVariants.{Round, Unsaved}
 use Rattle.flu_top.specs.Ending.{call}
 use Rattle.flu_top.specs.Running.{EndsRounds, Steps, plain_opening}
-use Rattle.flu_top.proofs.Roundings.{rounds_start, some_at_start, given_err, closed_is}
+use Rattle.flu_top.proofs.Roundings.{rounds_start, some_at_start, given_err, none_given, closed_is}
 use Rattle.flu_top.proofs.running.rounds.Goals as goal
 
 pub returns-in_err-engine-clause-ends : goal.returns-in_err-engine-clause-ends
@@ -94,6 +97,21 @@ returns-in_err-saved_round-clause-within g c =
     let count = g.K.Sink.faults in
     (c.in_err-saved_round.ensures.steps c.args.adapts p o (left c.args.files.now) (counts c.args.files.now) (puts c.args.files.now) (taken c.args.out.now)
     (count c.args.out.now) c.requires.apart c.loop-said.invariant.goes).1
+
+pub returns-in_err-saved_round-clause-quiet : goal.returns-in_err-saved_round-clause-quiet
+returns-in_err-saved_round-clause-quiet g c = λ differs n.
+    c.in_err-saved_round.ensures.quiet (none_given c.from_residual-in_err-saved_round.result (Err c.in_err-saved_round.field-0.0) c.in_err-saved_round.field-0.0
+    (Round ReadFault) refl c.from_residual-in_err-saved_round.ensures.1 differs) n ∙ c.loop-said.invariant.quiet n
+
+pub returns-in_err-saved_round-clause-puts : goal.returns-in_err-saved_round-clause-puts
+returns-in_err-saved_round-clause-puts g c = λ differs n.
+    c.in_err-saved_round.ensures.puts (none_given c.from_residual-in_err-saved_round.result (Err c.in_err-saved_round.field-0.0) c.in_err-saved_round.field-0.0
+    (Unsaved Failed) refl c.from_residual-in_err-saved_round.ensures.1 differs) n ∙ c.loop-said.invariant.goes.puts n
+
+pub returns-in_err-saved_round-clause-written_quiet : goal.returns-in_err-saved_round-clause-written_quiet
+returns-in_err-saved_round-clause-written_quiet g c = λ differs.
+    c.in_err-saved_round.ensures.written_quiet (none_given c.from_residual-in_err-saved_round.result (Err c.in_err-saved_round.field-0.0) c.in_err-saved_round.field-0.0
+    (Round WriteFault) refl c.from_residual-in_err-saved_round.ensures.1 differs) ∙ c.loop-said.invariant.goes.quiet
 
 pub returns-clause-ends : goal.returns-clause-ends
 returns-clause-ends g c =
