@@ -18,18 +18,14 @@ const DAY: u32 = 1;
 
 const STATIONS: Option<u32> = Some(0);
 
-/// 64 bytes, and one more.
-const LONGEST: &str = "aaaaaaaaaaaaaaaaaaaaaaaaaaaaaaaaaaaaaaaaaaaaaaaaaaaaaaaaaaaaaaaa";
-
-const TOO_LONG: &str = "aaaaaaaaaaaaaaaaaaaaaaaaaaaaaaaaaaaaaaaaaaaaaaaaaaaaaaaaaaaaaaaaa";
-
-/// What there is of a small job: rides at items of a kind that is keyed too, and days that report them.
+/// What there is of a small job: rides at items of a kind that is keyed too, and days that report them. The texts of its list have `;`
+/// between them.
 #[derive(Clone, Copy)]
 struct Case {
     version: u32,
     lists: u32,
     list_name: &'static str,
-    texts: &'static [&'static str],
+    texts: Option<&'static str>,
     keyed: bool,
     keys: Option<u32>,
     has_item: bool,
@@ -41,7 +37,7 @@ fn stations() -> Case {
         version: 3,
         lists: 1,
         list_name: "stations",
-        texts: &["harbour", "market", "mill"],
+        texts: Some("harbour;market;mill"),
         keyed: true,
         keys: STATIONS,
         has_item: true,
@@ -61,10 +57,12 @@ fn always(act: Act) -> Action {
     Action { act, guard: None }
 }
 
-fn list_of(alloc: Global, name: &str, texts: &[&str]) -> Result<NameList, AllocError> {
+fn list_of(alloc: Global, name: &str, texts: Option<&str>) -> Result<NameList, AllocError> {
     let mut named = NameTexts::new(alloc);
-    for text in texts {
-        named.add(alloc, *text)?;
+    if let Some(texts) = texts {
+        for text in texts.split(';') {
+            named.add(alloc, text)?;
+        }
     }
     NameList::of(alloc, name_of(alloc, name)?, named)
 }
@@ -77,7 +75,7 @@ fn lists_of(alloc: Global, case: &Case) -> Result<Vec<NameList>, AllocError> {
             lists.push(list_of(alloc, case.list_name, case.texts)?)?;
         } else {
             let name = format!(in alloc; "l{number}")?;
-            lists.push(list_of(alloc, name.as_str(), &["a"])?)?;
+            lists.push(list_of(alloc, name.as_str(), Some("a"))?)?;
         }
     }
     Ok(lists)
@@ -236,161 +234,65 @@ fn items_and_the_keys_of_a_flush_are_shown_by_name(rt: HostRuntime) -> Result<()
     Ok(())
 }
 
+/// Jobs: the version, how many lists there are, the name of the first, whether the family is keyed, the list of its keys, whether the
+/// kind has items, the list of these, and whether there is such a job.
+const LISTS: &str = "3 1 stations keyed 0 item 0 job
+3 0 stations keyed - item - job
+2 1 stations keyed 0 - - none
+2 0 stations keyed - - - job
+3 64 stations keyed 0 item 0 job
+3 65 stations keyed 0 item 0 none
+3 1 rides keyed 0 item 0 none
+3 1 day keyed 0 item 0 none
+3 1 north keyed 0 item 0 none
+3 2 l1 keyed 0 item 0 none
+3 1  keyed 0 item 0 none
+3 1 stations keyed 1 item 0 none
+3 1 stations keyed 0 item 1 none
+3 1 stations - 0 item 0 none
+3 1 stations - - item 0 job
+3 1 stations keyed 0 - 0 none
+3 1 stations keyed 0 - - job";
+
+fn case_in(line: &'static str) -> Option<Case> {
+    let mut words = line.split(' ');
+    Some(Case {
+        version: words.next()?.parse().ok()?,
+        lists: words.next()?.parse().ok()?,
+        list_name: words.next()?,
+        keyed: words.next()? == "keyed",
+        keys: words.next()?.parse().ok(),
+        has_item: words.next()? == "item",
+        items: words.next()?.parse().ok(),
+        ..stations()
+    })
+}
+
 #[test]
 fn lists_that_a_job_may_have(rt: HostRuntime) -> Result<(), Fail> {
-    let lone = stations();
-    let none = Case {
-        lists: 0,
-        keys: None,
-        items: None,
-        ..lone
-    };
-    let cases = [
-        ("a list", lone, true),
-        ("no list", none, true),
-        (
-            "version 2",
-            Case {
-                version: 2,
-                has_item: false,
-                items: None,
-                ..lone
-            },
-            false,
-        ),
-        (
-            "version 2 without a list",
-            Case {
-                version: 2,
-                has_item: false,
-                ..none
-            },
-            true,
-        ),
-        ("64 lists", Case { lists: 64, ..lone }, true),
-        ("65 lists", Case { lists: 65, ..lone }, false),
-        (
-            "a family's name",
-            Case {
-                list_name: "rides",
-                ..lone
-            },
-            false,
-        ),
-        (
-            "a kind's name",
-            Case {
-                list_name: "day",
-                ..lone
-            },
-            false,
-        ),
-        (
-            "a source's name",
-            Case {
-                list_name: "north",
-                ..lone
-            },
-            false,
-        ),
-        (
-            "another list's name",
-            Case {
-                lists: 2,
-                list_name: "l1",
-                ..lone
-            },
-            false,
-        ),
-        (
-            "no name",
-            Case {
-                list_name: "",
-                ..lone
-            },
-            false,
-        ),
-        (
-            "no such list of keys",
-            Case {
-                keys: Some(1),
-                ..lone
-            },
-            false,
-        ),
-        (
-            "no such list of items",
-            Case {
-                items: Some(1),
-                ..lone
-            },
-            false,
-        ),
-        (
-            "keys of an unkeyed family",
-            Case {
-                keyed: false,
-                ..lone
-            },
-            false,
-        ),
-        (
-            "an unkeyed family",
-            Case {
-                keyed: false,
-                keys: None,
-                ..lone
-            },
-            true,
-        ),
-        (
-            "items of a kind without items",
-            Case {
-                has_item: false,
-                ..lone
-            },
-            false,
-        ),
-        (
-            "a kind without items",
-            Case {
-                has_item: false,
-                items: None,
-                ..lone
-            },
-            true,
-        ),
-    ];
-    for (what, case, wanted) in cases {
-        assert_eq!(rt; job(rt.alloc(), &case)?.is_some(), wanted, "{what}");
+    for line in LISTS.lines() {
+        let case = case_in(line);
+        assert!(rt; case.is_some(), "{line}");
+        let has = job(rt.alloc(), &case.unwrap())?.is_some();
+        assert_eq!(rt; has, line.ends_with("job"), "{line}");
     }
     Ok(())
 }
 
+/// Texts of a list, with `/` between the cases: whether there is such a job, and the texts. The last of those that there are has 64 bytes.
+const TEXTS: &str =
+    "job harbour/job Alter Hafen;Markt 3;7/job über;höher/job aaaaaaaaaaaaaaaaaaaaaaaaaaaaaaaaaaaaaaaaaaaaaaaaaaaaaaaaaaaaaaaa/none aaaaaaaaaaaaaaaaaaaaaaaaaaaaaaaaaaaaaaaaaaaaaaaaaaaaaaaaaaaaaaaaa/none/none /none a,b/none a\"b/none a[b/none a]b/none a{b/none a}b/none a\nb";
+
 #[test]
 fn texts_that_a_list_may_have(rt: HostRuntime) -> Result<(), Fail> {
-    let cases: [(&'static [&'static str], bool); 14] = [
-        (&["harbour"], true),
-        (&["Alter Hafen", "Markt 3", "7"], true),
-        (&["über", "höher"], true),
-        (&[LONGEST], true),
-        (&[TOO_LONG], false),
-        (&[], false),
-        (&[""], false),
-        (&["a,b"], false),
-        (&["a\"b"], false),
-        (&["a[b"], false),
-        (&["a]b"], false),
-        (&["a{b"], false),
-        (&["a}b"], false),
-        (&["a\nb"], false),
-    ];
-    for (texts, wanted) in cases {
+    for line in TEXTS.split('/') {
+        let texts = line.split_once(' ').map(|both| both.1);
         let case = Case {
             texts,
             ..stations()
         };
-        assert_eq!(rt; job(rt.alloc(), &case)?.is_some(), wanted);
+        let has = job(rt.alloc(), &case)?.is_some();
+        assert_eq!(rt; has, line.starts_with("job"), "{line}");
     }
     Ok(())
 }
