@@ -94,7 +94,7 @@ for words in (["--help"], ["-h"], ["help"], ["fold", "--help"], ["run", "-h"], [
 
 # The text of the job, and of the plan.
 job(RIDES.replace("cell longest max", "cell rides max"))
-mistake(["fold", "rides.job"], 3, "flumina: job: twice named at 26\n", "  rides.job, line 2, column 6\n", "  rides is named first on line 1; cells, tags and sources share one set of names\n")
+mistake(["fold", "rides.job"], 3, "flumina: job: twice named at 26\n", "  rides.job, line 2, column 6\n", "  rides is named first on line 1; cells, tags, lists and sources share one set of names\n")
 job(RIDES.replace("cell longest max", "cell node max"))
 mistake(["fold", "rides.job"], 3, "flumina: job: unexpected at 26\n", "  that is a reserved word, which cannot be a name\n")
 job(b"\xef\xbb\xbf" + RIDES.encode())
