@@ -552,3 +552,29 @@ def items(name, rows, paths):
     head = "version 3\ncell n keyed sum\ntag hit item int\ntag tick none\ndepends hit tick\ndepends tick tick\n"
     head += 'on hit: add n[item] value\non tick: flush n "{key} {cell}"\n'
     job(f"{name}.job", head, f'web "{name}.csv": hit', f'clock "{name}.clock.csv": tick')
+
+
+@made
+def texts_in_rows(form):
+    """The hits of a source over 5,000 paths: with numbers alone, with names of the paths, or with times as text."""
+    gawk(
+        """srand(1)
+        for (i = 1; i <= rows; i++) {
+            t = 1700000000 + i
+            path = int(rand() * 5000)
+            print (form == "times" ? strftime("%Y-%m-%dT%H:%M:%SZ", t, 1) : t) ",hit," (form == "names" ? "path" path : path) "," int(rand() * 10000)
+        }
+        print "end" """,
+        f"{form}.csv",
+        rows=some(1000000),
+        form=form,
+    )
+    write(f"{form}.clock.csv", f"{1700000001 + some(1000000)},tick\nend\n")
+    head = "version 3 iso seconds\n" if form == "times" else "version 3\n"
+    by = ""
+    if form == "names":
+        by = " by paths"
+        head += "names paths: " + ", ".join(f'"path{number}"' for number in range(5000)) + "\n"
+    head += f"cell n keyed{by} sum\ntag hit item{by} int\ntag tick none\ndepends hit tick\ndepends tick tick\n"
+    head += 'on hit: add n[item] value\non tick: flush n "{key} {cell}"\n'
+    job(f"{form}.job", head, f'web "{form}.csv": hit', f'clock "{form}.clock.csv": tick')

@@ -8,7 +8,7 @@ kept, so that a later call measures at once. Commands that are compared alternat
 saves and adapt), and each figure is the minimum: wall time and, in brackets, processor time, in seconds; of memory it is the maximum.
 The reports of commands that are compared have to be the same. The words after `--` are put before each command, as `chrt -r 1` on a
 machine that does other work too, or `taskset -c 0,1` for two processors. `--rows N` makes N rows in place of each 1,000,000, to try a
-measurement. It needs gawk and GNU time; aims, items and fold also need mawk, aims and fold rustc, leaf, planning and prices valgrind,
+measurement. It needs gawk and GNU time; aims, items and fold also need mawk, aims and fold rustc, leaf, named, planning and prices valgrind,
 planning and leaves the kit, and lines a C compiler.
 
 The first look is `bench/measure.py aims PROGRAM`, in some ten minutes where nothing else runs: what `run` takes beside `fold`, alone and
@@ -134,6 +134,19 @@ def items(bench):
         own, utf8, c, mawk = (figures[it].wall for it in ("fold", "utf8", "c", "mawk"))
         few = few or own
         row(f"{paths:,}", *(f"{it:.3f}" for it in (own, utf8, c, mawk)), *(f"{own / it:.2f}" for it in (c, utf8, mawk, few)))
+
+
+@measurement("Times and names in rows")
+def named(bench):
+    forms = {"numbers": "numbers alone", "names": "items by name", "times": "times as text"}
+    for form in forms:
+        inputs.texts_in_rows(form)
+    figures = bench.compare(**{form: bench.flumina("fold", f"{form}.job") for form in forms})
+    few = {form: counted(bench, form, ("fold", f"{form}.job")) / inputs.some(1000000) for form in forms}
+    table("Rows of", "`fold`", "times numbers", "instructions a row", "times numbers")
+    for form, what in forms.items():
+        own, first = figures[form].wall, figures["numbers"].wall
+        row(what, figures[form], f"{own / first:.2f}", f"{few[form]:,.0f}", f"{few[form] / few['numbers']:.2f}")
 
 
 @measurement("Late rows, and jobs that keep the check busy")
