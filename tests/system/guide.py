@@ -173,12 +173,12 @@ def readme(program):
 def log_to_report(page, folder):
     """From the log to the report and back, and in other ways of reading."""
     folder.write(page.code("rides.log"), page.block("when,office"))
-    folder.quiet(page.block("awk -F, 'NR > 1 { if"))
-    row = page.code("2026-03-02 08:05:00.000,ride,harbour,12")
+    folder.quiet(page.block("awk -F, 'NR > 1 { print $1"))
+    row = page.code("2026-03-02 08:05:00,ride,harbour,12")
     need(folder.read(page.code("north-text.csv")).startswith(f"{row}\n"), "the first row of north-text.csv")
-    folder.write(page.code("text.job"), page.block("version 3 iso milliseconds"))
+    folder.write(page.code("text.job"), page.block("version 3 ties 1000 iso seconds"))
     report = folder.quiet(page.block("flumina fold text.job"))
-    same(report, page.block("2026-03-02T23:59:59.999Z,day,harbour"), "the report with times as text and names")
+    same(report, page.block("2026-03-03T00:00:00Z,day,harbour"), "the report with times as text and names")
     for start in "mlr --icsv", "TZ=UTC awk":
         folder.quiet(page.block(start))
         rows = folder.read("seconds.csv")

@@ -136,6 +136,16 @@ job(RIDES, north_csv=NORTH.replace("545", "500"))
 mistake(["fold", "rides.job"], 6, "flumina: source north row 3: disordered, last 530, got 500\n", "  the row is late by 30: slack 31 on the source takes it, unless an earlier row has its time\n")
 job(RIDES.replace('"north.csv":', '"north.csv" slack 31:'), north_csv=NORTH.replace("545", "500"))
 need(folder.call("fold", "rides.job")[0] == 0, "the slack that the hint names takes the row")
+# In version 3 rows of a source may have one time, as many as the job says, and a slack takes rows that are late by it.
+TIED = "version 3 ties 2\n" + RIDES
+job(TIED, north_csv=NORTH.replace("545", "530"))
+need(folder.call("fold", "rides.job")[0] == 0, "two rows at one time")
+job(TIED.replace(" ties 2", ""), north_csv=NORTH.replace("545", "530"))
+mistake(["fold", "rides.job"], 6, "flumina: source north row 3: too many, 2\n", "  at most 1 row of a source may have one time; the first line of the job says how many, as: version 3 ties 1000\n")
+job(TIED, north_csv=NORTH.replace("545", "500"))
+mistake(["fold", "rides.job"], 6, "flumina: source north row 3: disordered, last 530, got 500\n", "  the row is late by 30: slack 30 on the source takes it\n")
+job(TIED.replace('"north.csv":', '"north.csv" slack 30:'), north_csv=NORTH.replace("545", "500"))
+need(folder.call("fold", "rides.job")[0] == 0, "the slack that the hint names takes the row in version 3")
 # The dependencies: one that is missing, all that are missing, and one at equal keys.
 job(RIDES.replace("depends ride day\n", ""))
 DEPENDS = "  to make these two dependent: depends ride day\n"

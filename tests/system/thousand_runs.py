@@ -34,6 +34,7 @@ class Job:
     def __init__(self, rng):
         self.rng = rng
         self.version = rng.choice([1, 1, 2, 3, 3])
+        self.ties = rng.choice([1, 1, 2, 3]) if self.version == 3 else 1
         self.cells = [(f"c{i}", rng.random() < 0.5, rng.choice(["sum", "max", "last"])) for i in range(rng.randint(1, 3))]
         self.kinds = [(f"k{i}", rng.random() < 0.5, rng.random() < 0.7, self.version == 3 and rng.random() < 0.6) for i in range(rng.randint(1, 4))]
         self.lists = [rng.sample(NAMES, rng.randint(1, 6)) for _ in range(rng.randint(1, 2) * (self.version == 3 and rng.random() < 0.6))]
@@ -91,7 +92,8 @@ class Job:
 
     def text(self):
         """The job's text."""
-        lines = [f"version {self.version}"] if self.version > 1 else []
+        ties = f" ties {self.ties}" if self.ties > 1 else ""
+        lines = [f"version {self.version}{ties}"] if self.version > 1 else []
         for number, names in enumerate(self.lists):
             lines.append(f"names l{number}: " + ", ".join(f'"{name}"' for name in names))
         lines += [f"cell {name} {'keyed ' + self.by(name) if keyed else ''}{sort}" for name, keyed, sort in self.cells]
@@ -177,10 +179,13 @@ class Job:
         return groups
 
     def rows(self, tags):
-        """The rows of a source: rising times, some of them heartbeats, and the end."""
-        time_now, lines = 0, []
+        """The rows of a source: rising times, some of them with several rows where the job allows it, some of them heartbeats, and the end."""
+        time_now, tied, lines = 0, 0, []
         for _ in range(self.rng.choice([0, 2, 10, 30, 60])):
-            time_now += self.rng.choice([1, 1, 1, 2, 5])
+            if lines and tied + 1 < self.ties and self.rng.random() < 0.4:
+                tied += 1
+            else:
+                time_now, tied = time_now + self.rng.choice([1, 1, 1, 2, 5]), 0
             kind, low, high = self.rng.choice(tags)
             name, keyed, valued, itemed = self.kinds[kind]
             tag = f"{name}[{self.rng.randint(low, high)}]" if keyed else name

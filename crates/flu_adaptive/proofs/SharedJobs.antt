@@ -22,7 +22,10 @@ program_sync kind = struct_sync (declared.shape Program.the_type) (
           search (sendable, owned.crosses, maps.crosses, sets.crosses) depth 60 fits 20000,
           (
             search (sendable, owned.crosses, maps.crosses, sets.crosses) depth 60 fits 20000,
-            (search (sendable, owned.crosses, maps.crosses, sets.crosses) depth 60 fits 20000, tt),
+            (
+              search (sendable, owned.crosses, maps.crosses, sets.crosses) depth 60 fits 20000,
+              (search (sendable, owned.crosses, maps.crosses, sets.crosses) depth 60 fits 20000, tt),
+            ),
           ),
         ),
       ),

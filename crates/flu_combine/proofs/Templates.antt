@@ -196,7 +196,7 @@ pub names_are_utf8 : (p : Program) → IsUtf8 (normal_form (job_of p)) → Names
 names_are_utf8 p utf8 =
     let job = job_of p in
     let whole = normal_form job in
-    let before = version_line job.version job.iso in
+    let before = version_line job.version job.ties job.iso in
     let lines = flat_map names_line job.lists in
     let cells = flat_map (cell_line job.lists) job.families in
     let tags = flat_map (tag_line job.lists) job.kinds in
@@ -212,7 +212,7 @@ pub templates_are_utf8 : (p : Program) → IsUtf8 (normal_form (job_of p)) → T
 templates_are_utf8 p utf8 =
     let job = job_of p in
     let whole = normal_form job in
-    let before = version_line job.version job.iso ++ flat_map names_line job.lists ++ flat_map (cell_line job.lists) job.families
+    let before = version_line job.version job.ties job.iso ++ flat_map names_line job.lists ++ flat_map (cell_line job.lists) job.families
     ++ flat_map (tag_line job.lists) job.kinds ++ flat_map (depends_line job.kinds) job.depends in
     let ons = flat_map (on_line job.families) job.kinds in
     let sources = flat_map (source_line job.kinds) job.sources in

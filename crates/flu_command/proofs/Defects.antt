@@ -2,6 +2,7 @@
 use Rattle.std.proofs.Common.{sym, ◌∙◌, ℕ, List, Option}
 use Rattle.flu_outside.specs.Outside.{Contents}
 use Rattle.flu_model.specs.declared.jobs.Program.{Program}
+use Rattle.flu_model.specs.Moments.{timing_of}
 use Rattle.flu_rows.specs.declared.rows.Next.{Next}
 use Rattle.flu_streams.specs.declared.faults.SourceFault.{SourceFault}
 use Rattle.flu_streams.specs.Fronts.{LawOfMeeting}
@@ -26,7 +27,8 @@ met_in_round meeting p o lines text put fault met =
       is = found.1;
       row = fault.row;
       why = fault.why;
-      defect = meeting p.kinds found.0 o.rows met.border (lines fault.source) (met.ran.before fault.source) (met.meets.now fault.source)
+      defect = meeting (timing_of p fault.source) p.kinds found.0 o.rows met.border (lines fault.source) (met.ran.before fault.source)
+          (met.meets.now fault.source)
           fault.row fault.why found.2;
     }
 

@@ -5,6 +5,8 @@ use Rattle.flu_model.specs.declared.events.Item.{Item}
 use Rattle.flu_model.specs.declared.jobs.Kind.{Kind}
 use Rattle.flu_model.specs.declared.jobs.Source.{Source}
 use Rattle.flu_model.specs.declared.jobs.Program.{Program}
+use Rattle.flu_model.specs.declared.moments.Timing.{Timing}
+use Rattle.flu_model.specs.Moments.{timing_of}
 use Rattle.flu_model.specs.Contents.{Contents as State}
 use Rattle.flu_rows.specs.declared.rows.Next.{Next}
 use Rattle.flu_streams.specs.declared.border.Border.{Border}
@@ -15,55 +17,64 @@ use Rattle.flu_command.specs.Mending.{IsMended, MendedRoundsGoOn}
 
 -- ---- one source
 -- where it stopped behind enough rows, or behind all, it stops there of the mended lines
-stops_open : (kinds : List Kind) (s : Source) (rows : ℕ) (above : Option ℕ) (whole mended before now : List Next) (u : ℕ) → IsMended kinds s whole mended
-    → Reads kinds s rows above whole before now (Open u) → StopsAt kinds s rows above mended now (Open u)
-stops_open kinds s rows above whole mended before now u mends reads =
+stops_open : (timing : Timing) (kinds : List Kind) (s : Source) (rows : ℕ) (above : Option ℕ) (whole mended before now : List Next) (u : ℕ)
+    → IsMended timing kinds s whole mended
+    → Reads timing kinds s rows above whole before now (Open u) → StopsAt timing kinds s rows above mended now (Open u)
+stops_open timing kinds s rows above whole mended before now u mends reads =
     (mends.fronts now reads.stops.0.0 reads.stops.0.1 reads.sound, reads.stops.1, reads.stops.2)
 
-stops_shut : (kinds : List Kind) (s : Source) (rows : ℕ) (above : Option ℕ) (whole mended before now : List Next) → IsMended kinds s whole mended
-    → Reads kinds s rows above whole before now Shut → StopsAt kinds s rows above mended now Shut
-stops_shut kinds s rows above whole mended before now mends reads =
-    (mends.good (ap (defect_in kinds s) reads.stops.0 ∙ reads.sound) ∙ reads.stops.0, reads.stops.1)
+stops_shut : (timing : Timing) (kinds : List Kind) (s : Source) (rows : ℕ) (above : Option ℕ) (whole mended before now : List Next)
+    → IsMended timing kinds s whole mended
+    → Reads timing kinds s rows above whole before now Shut → StopsAt timing kinds s rows above mended now Shut
+stops_shut timing kinds s rows above whole mended before now mends reads =
+    (mends.good (ap (defect_in timing kinds s) reads.stops.0 ∙ reads.sound) ∙ reads.stops.0, reads.stops.1)
 
-read_open : (kinds : List Kind) (s : Source) (rows : ℕ) (above : Option ℕ) (whole mended before now : List Next) (u : ℕ) → IsMended kinds s whole mended
-    → Reads kinds s rows above whole before now (Open u) → Reads kinds s rows above mended before now (Open u)
-read_open kinds s rows above whole mended before now u mends reads = record {
+read_open : (timing : Timing) (kinds : List Kind) (s : Source) (rows : ℕ) (above : Option ℕ) (whole mended before now : List Next) (u : ℕ)
+    → IsMended timing kinds s whole mended
+    → Reads timing kinds s rows above whole before now (Open u) → Reads timing kinds s rows above mended before now (Open u)
+read_open timing kinds s rows above whole mended before now u mends reads = record {
   more = reads.more;
   further = reads.further;
   sound = reads.sound;
   shortest = reads.shortest;
-  stops = stops_open kinds s rows above whole mended before now u mends reads;
+  stops = stops_open timing kinds s rows above whole mended before now u mends reads;
 }
 
-read_shut : (kinds : List Kind) (s : Source) (rows : ℕ) (above : Option ℕ) (whole mended before now : List Next) → IsMended kinds s whole mended
-    → Reads kinds s rows above whole before now Shut → Reads kinds s rows above mended before now Shut
-read_shut kinds s rows above whole mended before now mends reads = record {
+read_shut : (timing : Timing) (kinds : List Kind) (s : Source) (rows : ℕ) (above : Option ℕ) (whole mended before now : List Next)
+    → IsMended timing kinds s whole mended
+    → Reads timing kinds s rows above whole before now Shut → Reads timing kinds s rows above mended before now Shut
+read_shut timing kinds s rows above whole mended before now mends reads = record {
   more = reads.more;
   further = reads.further;
   sound = reads.sound;
   shortest = reads.shortest;
-  stops = stops_shut kinds s rows above whole mended before now mends reads;
+  stops = stops_shut timing kinds s rows above whole mended before now mends reads;
 }
 
-read_within : (kinds : List Kind) (s : Source) (rows t : ℕ) (above : Option ℕ) (whole mended before now : List Next) (turn : Turn) → IsWithin t turn
-    → IsMended kinds s whole mended → Reads kinds s rows above whole before now turn → Reads kinds s rows above mended before now turn
-read_within kinds s rows t above whole mended before now (Open u) within mends reads = read_open kinds s rows above whole mended before now u mends reads
-read_within kinds s rows t above whole mended before now Shut within mends reads = read_shut kinds s rows above whole mended before now mends reads
-read_within kinds s rows t above whole mended before now (Meets row why) within mends reads = absurd within
+read_within : (timing : Timing) (kinds : List Kind) (s : Source) (rows t : ℕ) (above : Option ℕ) (whole mended before now : List Next) (turn : Turn)
+    → IsWithin t turn
+    → IsMended timing kinds s whole mended → Reads timing kinds s rows above whole before now turn → Reads timing kinds s rows above mended before now turn
+read_within timing kinds s rows t above whole mended before now (Open u) within mends reads =
+    read_open timing kinds s rows above whole mended before now u mends reads
+read_within timing kinds s rows t above whole mended before now Shut within mends reads =
+    read_shut timing kinds s rows above whole mended before now mends reads
+read_within timing kinds s rows t above whole mended before now (Meets row why) within mends reads = absurd within
 
 -- ---- rounds
-module _ (p : Program) (rows : ℕ) (whole mended : ℕ → List Next) (mends : AtEach (λ i s. IsMended p.kinds s (whole i) (mended i)) p.sources) where
+module _ (p : Program) (rows : ℕ) (whole mended : ℕ → List Next)
+    (mends : AtEach (λ i s. IsMended (timing_of p i) p.kinds s (whole i) (mended i)) p.sources) where
   round_at : (above : Option ℕ) (before now : ℕ → List Next) (t : ℕ) → IsRoundAt p rows above whole before now t → IsRoundAt p rows above mended before now t
   round_at above before now t was = record {
     each = λ i s e.
         let turn = was.each i s e in
-        (turn.0, read_within p.kinds s rows t above (whole i) (mended i) (before i) (now i) turn.0 turn.2 (mends i s e) turn.1, turn.2);
+        (turn.0, read_within (timing_of p i) p.kinds s rows t above (whole i) (mended i) (before i) (now i) turn.0 turn.2 (mends i s e) turn.1, turn.2);
     least =
         let least = was.least in (
           least.0,
           least.1,
           least.2,
-          read_open p.kinds least.1 rows above (whole least.0) (mended least.0) (before least.0) (now least.0) t (mends least.0 least.1 least.2) least.3,
+          read_open (timing_of p least.0) p.kinds least.1 rows above (whole least.0) (mended least.0) (before least.0) (now least.0) t
+              (mends least.0 least.1 least.2) least.3,
         );
   }
 
@@ -71,7 +82,7 @@ module _ (p : Program) (rows : ℕ) (whole mended : ℕ → List Next) (mends : 
       → IsRound p rows above mended before now end
   round_of_mended above before now (At t) was = round_at above before now t was
   round_of_mended above before now Closed was =
-      λ i s e. read_shut p.kinds s rows above (whole i) (mended i) (before i) (now i) (mends i s e) (was i s e)
+      λ i s e. read_shut (timing_of p i) p.kinds s rows above (whole i) (mended i) (before i) (now i) (mends i s e) (was i s e)
 
   pub rounds_of_mended : (start : Option ℕ) (done : List (List (List Item))) (above : Option ℕ) (before : ℕ → List Next)
       → ComesFrom p rows whole start done above before → ComesFrom p rows mended start done above before

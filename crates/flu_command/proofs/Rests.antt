@@ -12,6 +12,8 @@ use Rattle.flu_model.specs.declared.events.Item.{Item}
 use Rattle.flu_model.specs.declared.jobs.Kind.{Kind}
 use Rattle.flu_model.specs.declared.jobs.Source.{Source}
 use Rattle.flu_model.specs.declared.jobs.Program.{Program}
+use Rattle.flu_model.specs.declared.moments.Timing.{Timing}
+use Rattle.flu_model.specs.Moments.{moments_a_time, time_of_moment, timing_of}
 use Rattle.flu_model.specs.Merging.{all_events, merged, is_before}
 use Rattle.flu_outside.specs.Outside.{Contents as Files}
 use Rattle.flu_outside.specs.Taking.{bytes_left}
@@ -24,24 +26,24 @@ use Rattle.flu_streams.specs.Borders.{ItemsAreCut, beyond}
 use Rattle.flu_streams.specs.Good.{lists_of}
 use Rattle.flu_streams.specs.Rounds.{Turn, Open, Shut, Meets, Reads, IsWithin, IsRound, IsRoundAt, ComesFrom, Starts, GoesOn, LawOfLastRound, LawOfLastAbove}
 use Rattle.flu_streams.specs.Rounds.{LinesIn, count_settled, defect_in, lists_between, settled}
-use Rattle.flu_streams.specs.Tests.{rows_of, times_of, greatest}
+use Rattle.flu_streams.specs.Tests.{rows_of, times_of, greatest, margin}
 use Rattle.flu_command.proofs.RowRanges.{NextFits, LinesFit, EventFits, file_read, latest_low, all_events_fit, lists_between_fit}
 
 -- ---- what a round has read
-turn_fits : (kinds : List Kind) (s : Source) (rows : ℕ) (above : Option ℕ) (whole before now : List Next) (t : ℕ) (turn : Turn)
-    → Reads kinds s rows above whole before now turn → IsWithin t turn → AllByRecursion NextFits whole → AllByRecursion NextFits now
-turn_fits kinds s rows above whole before now t (Open u) reads within fit =
+turn_fits : (timing : Timing) (kinds : List Kind) (s : Source) (rows : ℕ) (above : Option ℕ) (whole before now : List Next) (t : ℕ) (turn : Turn)
+    → Reads timing kinds s rows above whole before now turn → IsWithin t turn → AllByRecursion NextFits whole → AllByRecursion NextFits now
+turn_fits timing kinds s rows above whole before now t (Open u) reads within fit =
     let stop = reads.stops.0 in
     all_front NextFits now stop.0 (subst (AllByRecursion NextFits) stop.1 fit)
-turn_fits kinds s rows above whole before now t Shut reads within fit = subst (AllByRecursion NextFits) reads.stops.0 fit
-turn_fits kinds s rows above whole before now t (Meets row why) reads within fit = absurd within
+turn_fits timing kinds s rows above whole before now t Shut reads within fit = subst (AllByRecursion NextFits) reads.stops.0 fit
+turn_fits timing kinds s rows above whole before now t (Meets row why) reads within fit = absurd within
 
-settled_from : (slack : ℕ) (o : Option ℕ) (t : ℕ) → settled slack o ≡ Some t → (last : ℕ) × (o ≡ Some last) × (t ≤ last)
-settled_from slack None t e = absurd cc
-settled_from slack (Some last) t e = (last, refl, by (nat_le slack last) e)
+settled_from : (behind : ℕ) (o : Option ℕ) (t : ℕ) → settled behind o ≡ Some t → (last : ℕ) × (o ≡ Some last) × (t ≤ last)
+settled_from behind None t e = absurd cc
+settled_from behind (Some last) t e = (last, refl, by (nat_le behind last) e)
   where
-    by : (b : Bool) → cond b (Some (last - slack)) None ≡ Some t → t ≤ last
-    by true f = let same : last - slack ≡ t = cc in omega (arith, same)
+    by : (b : Bool) → cond b (Some (last - behind)) None ≡ Some t → t ≤ last
+    by true f = let same : last - behind ≡ t = cc in omega (arith, same)
     by false f = absurd cc
 
 -- the lines of files, by the source's number
@@ -68,7 +70,7 @@ module _ (p : Program) (rows : ℕ) (whole : ℕ → List Next) (fit : LinesFit 
   pub round_fits : LinesFit p before
   round_fits i s at =
       let turn = to.round.each i s at in
-      turn_fits p.kinds s rows to.last (whole i) (to.reads i) (before i) to.border turn.0 turn.1 turn.2 (fit i s at)
+      turn_fits (timing_of p i) p.kinds s rows to.last (whole i) (to.reads i) (before i) to.border turn.0 turn.1 turn.2 (fit i s at)
 
   pub border_low : to.border < 2 ^ 63
   border_low =
@@ -76,7 +78,7 @@ module _ (p : Program) (rows : ℕ) (whole : ℕ → List Next) (fit : LinesFit 
       let s = to.round.least.1 in
       let there = to.round.least.2 in
       let reads = to.round.least.3 in
-      let last = settled_from s.slack (greatest (times_of (rows_of (before i)))) to.border reads.stops.2 in
+      let last = settled_from (margin (timing_of p i) s.slack) (greatest (times_of (rows_of (before i)))) to.border reads.stops.2 in
       let low = latest_low (before i) last.0 (round_fits i s there) last.1 in
       let late = last.2 in
       omega (arith, low, late)
@@ -94,10 +96,10 @@ most {X} f (x ∷ xs) =
     below m rest (suc i) y at = let low = rest i y at in omega (arith, low)
 
 module _ (p : Program) (left : Files) (whole : ℕ → List Next) (lines : LinesIn p left whole)
-    (sound : AtEach (λ i s. defect_in p.kinds s (whole i) ≡ None) p.sources) where
+    (sound : AtEach (λ i s. defect_in (timing_of p i) p.kinds s (whole i) ≡ None) p.sources) where
   -- a round that asks for more rows than there are reads all of them
-  bound : (n : ℕ) × AtEach (λ i (s : Source). count_settled None s (whole i) < n) p.sources
-  bound = most (λ i (s : Source). count_settled None s (whole i)) p.sources
+  bound : (n : ℕ) × AtEach (λ i (s : Source). count_settled (timing_of p i) None s (whole i) < n) p.sources
+  bound = most (λ i (s : Source). count_settled (timing_of p i) None s (whole i)) p.sources
 
   read_all : IsRound p bound.0 None whole whole whole Closed
   read_all i s at = record {
@@ -105,30 +107,31 @@ module _ (p : Program) (left : Files) (whole : ℕ → List Next) (lines : Lines
     further = sym (append-nil (whole i));
     sound = sound i s at;
     shortest = λ k low. absurd (omega (arith, low));
-    stops = (refl, lt-leb bound.0 (count_settled None s (whole i)) (bound.1 i s at));
+    stops = (refl, lt-leb bound.0 (count_settled (timing_of p i) None s (whole i)) (bound.1 i s at));
   }
 
   pub all_rows : LawOfLastRound → lists_between p None Closed whole ≡ lists_of p left
   all_rows last = last p bound.0 None whole whole whole left lines read_all
 
-  pub later_rows : LawOfLastAbove → (t : ℕ) → merged (lists_between p (Some t) Closed whole) ≡ merged (beyond t (lists_of p left))
+  pub later_rows : LawOfLastAbove → (t : ℕ) → merged (lists_between p (Some t) Closed whole) ≡ merged (beyond p t (lists_of p left))
   later_rows later t = later p bound.0 None whole whole whole left t lines read_all
 
   pub fit : TimesAreInRange → LinesFit p whole
   fit times = lines_of_files times p left whole lines
 
-  pub all_fit : TimesAreInRange → LawOfLastRound → AllByRecursion EventFits (all_events (lists_of p left))
+  pub all_fit : TimesAreInRange → LawOfLastRound → AllByRecursion (EventFits (moments_a_time p)) (all_events (lists_of p left))
   all_fit times last =
-      subst (λ (lists : List (List Item)). AllByRecursion EventFits (all_events lists)) (all_rows last)
-      (all_events_fit (lists_between p None Closed whole) (lists_between_fit p None Closed whole (fit times)))
+      subst (λ (lists : List (List Item)). AllByRecursion (EventFits (moments_a_time p)) (all_events lists)) (all_rows last)
+      (all_events_fit (moments_a_time p) (lists_between p None Closed whole) (lists_between_fit p None Closed whole (fit times)))
 
   -- no row is later than the greatest border
-  none_late : (xs : List Event) → AllByRecursion EventFits xs → filter (λ x. nat_lt 9223372036854775807 x.time) xs ≡ []
+  none_late : (xs : List Event) → AllByRecursion (EventFits (moments_a_time p)) xs → filter (λ x. nat_lt 9223372036854775807 (time_of_moment p x.time)) xs ≡ []
   none_late [] all = refl
   none_late (x ∷ xs) all =
-      ap (λ b. cond b (x ∷ filter (λ y. nat_lt 9223372036854775807 y.time) xs) (filter (λ y. nat_lt 9223372036854775807 y.time) xs))
-      (le-ltb 9223372036854775807 x.time (omega (arith, all.0.0))) ∙ none_late xs all.1
+      ap (λ b. cond b (x ∷ filter (λ y. nat_lt 9223372036854775807 (time_of_moment p y.time)) xs)
+      (filter (λ y. nat_lt 9223372036854775807 (time_of_moment p y.time)) xs))
+      (le-ltb 9223372036854775807 (time_of_moment p x.time) (omega (arith, all.0.0))) ∙ none_late xs all.1
 
-  pub none_beyond : TimesAreInRange → LawOfLastRound → ItemsAreCut → merged (beyond 9223372036854775807 (lists_of p left)) ≡ []
+  pub none_beyond : TimesAreInRange → LawOfLastRound → ItemsAreCut → merged (beyond p 9223372036854775807 (lists_of p left)) ≡ []
   none_beyond times last cut =
-      ap (in_order is_before) ((cut 9223372036854775807 (lists_of p left)).late ∙ none_late (all_events (lists_of p left)) (all_fit times last))
+      ap (in_order is_before) ((cut p 9223372036854775807 (lists_of p left)).late ∙ none_late (all_events (lists_of p left)) (all_fit times last))

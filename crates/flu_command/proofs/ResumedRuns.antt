@@ -1,6 +1,6 @@
 -- What a checkpoint that a run has put opens is the rest of the run.
 use Rattle.std.proofs.Common.{◌≡◌, refl, sym, ap, ◌∙◌, subst, ℕ, ◌<◌, ◌≤◌, ◌^◌, List, [], ◌∷◌, ◌++◌, Option, Some, None, inl, inr, append-nil, append_assoc}
-use Rattle.std.proofs.Common.{arith, suc, true, false, cond}
+use Rattle.std.proofs.Common.{arith, suc, true, false, cond, length}
 use Rattle.std.specs.Prelude.{slice_get, option_map, unwrap_or, Contains, sum_by}
 use Rattle.std.specs.List.{AllByRecursion, flat_map}
 use Rattle.std.specs.Option.{option_map_or}
@@ -16,6 +16,7 @@ use Rattle.flu_model.specs.Contents.{Contents as State, nothing_held}
 use Rattle.flu_model.specs.Erasure.{job_of}
 use Rattle.flu_model.specs.Folding.{final_state, final_outputs, state_after, outputs_of}
 use Rattle.flu_model.specs.Merging.{merged}
+use Rattle.flu_model.specs.Moments.{moments_a_time, timing_of}
 use Rattle.flu_model.specs.Reports.{report}
 use Rattle.flu_grammar.specs.Laws.{NormalFormIsShort, NormalFormIsUtf8}
 use Rattle.flu_outside.specs.Outside.{Contents}
@@ -88,15 +89,16 @@ opens_itself meaning p t s checkpoint rest border savable is opens =
 module _ (laws : LawsOfRests) (p : Program) (o : Opening) (left : Contents) (whole : ℕ → List Next) (lines : LinesIn p left whole)
     (sound : AreSound p whole) (can : IsOpeningOf p o) where
   abbrev items : List (List Item)
-  items = lists_above o.border (lists_of p left)
+  items = lists_above p o.border (lists_of p left)
 
   -- a fold of events in range gives a state that can be saved
-  state_savable : (lists : List (List Item)) → AllByRecursion EventFits (merged lists) → IsSavable p.families (final_state p o.cells lists)
+  state_savable : (lists : List (List Item)) → AllByRecursion (EventFits (moments_a_time p)) (merged lists) → IsSavable p.families (final_state p o.cells lists)
   state_savable lists fits =
       let start = opening_savable p o can in
       record {
         sorts = laws.sorts p o.cells lists start.sorts;
-        width = fold_words laws.tags p o.cells (merged lists) (all_map EventFits HasWord (merged lists) (λ x both. both.1) fits) start.width;
+        width = fold_words laws.tags p o.cells (merged lists)
+            (all_map (EventFits (moments_a_time p)) HasWord (merged lists) (λ x both. both.1) fits) start.width;
       }
 
   -- ---- behind some round
@@ -112,18 +114,18 @@ module _ (laws : LawsOfRests) (p : Program) (o : Opening) (left : Contents) (who
     folds = by o.border comes
       where
         by : (border : Option ℕ) → ComesFrom p o.rows whole border done (Some t) before
-            → FoldsInTurn p o.cells (lists_above border (lists_of p left)) (lists_between p border (At t) before) (lists_between p (Some t) Closed whole)
+            → FoldsInTurn p o.cells (lists_above p border (lists_of p left)) (lists_between p border (At t) before) (lists_between p (Some t) Closed whole)
         by None came = laws.fronts p o.cells o.rows whole done t before left lines sound came
         by (Some start) came = laws.fronts_above p o.cells o.rows whole start done t before left (opening_some p o can) lines sound came
 
-    late : merged (lists_between p (Some t) Closed whole) ≡ merged (beyond t (lists_of p left))
+    late : merged (lists_between p (Some t) Closed whole) ≡ merged (beyond p t (lists_of p left))
     late = later_rows p left whole lines sound laws.later t
 
     pub report_of_both : report p (final_outputs p o.cells items)
-        ≡ report p (final_outputs p o.cells early) ++ report p (final_outputs p cells (beyond t (lists_of p left)))
+        ≡ report p (final_outputs p o.cells early) ++ report p (final_outputs p cells (beyond p t (lists_of p left)))
     report_of_both = folds.lines ∙ ap (λ (xs : List Event). report p (final_outputs p o.cells early) ++ report p (outputs_of p cells xs)) late
 
-    pub state_of_both : final_state p o.cells items ≡ final_state p cells (beyond t (lists_of p left))
+    pub state_of_both : final_state p o.cells items ≡ final_state p cells (beyond p t (lists_of p left))
     state_of_both = folds.state ∙ ap (state_after p cells) late
 
     module _ (some : done ≡ [] → ⊥) where
@@ -146,15 +148,15 @@ module _ (laws : LawsOfRests) (p : Program) (o : Opening) (left : Contents) (who
   all_savable : IsSavable p.families (final_state p o.cells items)
   all_savable = state_savable items (by o.border)
     where
-      by : (border : Option ℕ) → AllByRecursion EventFits (merged (lists_above border (lists_of p left)))
+      by : (border : Option ℕ) → AllByRecursion (EventFits (moments_a_time p)) (merged (lists_above p border (lists_of p left)))
       by None =
-          subst (λ (lists : List (List Item)). AllByRecursion EventFits (merged lists)) (all_rows p left whole lines sound laws.last)
+          subst (λ (lists : List (List Item)). AllByRecursion (EventFits (moments_a_time p)) (merged lists)) (all_rows p left whole lines sound laws.last)
           (merged_fit p None Closed whole (fit p left whole lines sound laws.times))
       by (Some start) =
-          subst (AllByRecursion EventFits) (later_rows p left whole lines sound laws.later start)
+          subst (AllByRecursion (EventFits (moments_a_time p))) (later_rows p left whole lines sound laws.later start)
           (merged_fit p (Some start) Closed whole (fit p left whole lines sound laws.times))
 
-  nothing_later : merged (beyond greatest_border (lists_of p left)) ≡ []
+  nothing_later : merged (beyond p greatest_border (lists_of p left)) ≡ []
   nothing_later = none_beyond p left whole lines sound laws.times laws.last laws.cut
 
 -- ---- what was put
@@ -212,7 +214,7 @@ module _ (laws : LawsOfRests) (p : Program) (o : Opening) (texts : List (List �
         rest = λ rows. record {
           report = report_of_both laws p o files whole lines sound can t ran.done ran.before comes
               ∙ ap (λ (bytes : List ℕ). bytes ++ report p (final_outputs p (final_state p o.cells (lists_between p o.border (At t) ran.before))
-              (beyond t (lists_of p files)))) (sym wrote);
+              (beyond p t (lists_of p files)))) (sym wrote);
           state = state_of_both laws p o files whole lines sound can t ran.done ran.before comes;
         };
       }
@@ -293,11 +295,11 @@ module _ (p : Program) (one other : Contents) (same : (name : List ℕ) → Cont
 
   -- the lists of some sources behind others
   same_lists : (before ss : List Source) → ((i : ℕ) (s : Source) → slice_get ss i ≡ Some s → bytes_left other s.file ≡ bytes_left one s.file)
-      → flat_map (λ e. lists_of_rows p.kinds e.1 (sum_by width e.0) (rows_in (form_of (job_of p)) other e.1)) (with_before before ss)
-      ≡ flat_map (λ e. lists_of_rows p.kinds e.1 (sum_by width e.0) (rows_in (form_of (job_of p)) one e.1)) (with_before before ss)
+      → flat_map (λ e. lists_of_rows (timing_of p (length e.0)) p.kinds e.1 (sum_by width e.0) (rows_in (form_of (job_of p)) other e.1)) (with_before before ss)
+      ≡ flat_map (λ e. lists_of_rows (timing_of p (length e.0)) p.kinds e.1 (sum_by width e.0) (rows_in (form_of (job_of p)) one e.1)) (with_before before ss)
   same_lists before [] each = refl
   same_lists before (s ∷ ss) each =
-      λ i. lists_of_rows p.kinds s (sum_by width before) (rows_of (read_file (form_of (job_of p)) (each 0 s refl i)))
+      λ i. lists_of_rows (timing_of p (length before)) p.kinds s (sum_by width before) (rows_of (read_file (form_of (job_of p)) (each 0 s refl i)))
       ++ same_lists (before ++ s ∷ []) ss (λ j x at. each (suc j) x at) i
 
 pub sources_decide : SourcesDecide

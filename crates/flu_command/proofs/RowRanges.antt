@@ -1,11 +1,13 @@
 -- The rows of a file have times below 2^63 and values of 64 bits, and so have the events of a run.
-use Rattle.std.proofs.Common.{◌≡◌, ℕ, zero, suc, ◌+◌, ◌<◌, ◌≤◌, ◌^◌, ◌-◌, ℤ, pos, negsuc, Bool, true, false, cond, Option, Some, None, List, [], ◌∷◌, ◌++◌}
+use Rattle.std.proofs.Common.{◌≡◌, ℕ, zero, suc, ◌/◌, ◌+◌, ◌<◌, ◌≤◌, ◌^◌, ◌-◌, ℤ, pos, negsuc, Bool, true, false, cond, Option, Some, None, List, [], ◌∷◌, ◌++◌}
 use Rattle.std.proofs.Common.{map, length, append_assoc, take, max, refl, sym, ap, subst, ◌∙◌, arith}
 use Rattle.std.specs.Prelude.{nat_lt, nat_le, ◌==◌, ◌&&◌, not, slice_get, slice_index, drop, option_map, option_and_then, unwrap_or, codes, sum_by, neg_ℤ, ⊤, IfSome}
 use Rattle.std.specs.Char.{is_ascii_digit}
 use Rattle.std.specs.List.{list_all, filter_map, flat_map, range_with_len, AllByRecursion}
 use Rattle.std.specs.Str.{bytes_eq}
 use Rattle.std.specs.Str.Parse.{digits_value}
+use Rattle.std.proofs.lemmas.Option.{slice_get_within}
+use Rattle.flu_lemmas.specs.Counting.{times}
 use Rattle.flu_lemmas.specs.Elements.{AtEach}
 use Rattle.flu_lemmas.proofs.Elements.{all_append, all_filter, all_map}
 use Rattle.flu_lemmas.proofs.Tests.{and_right, true_le}
@@ -15,7 +17,9 @@ use Rattle.flu_model.specs.declared.events.Item.TheVariants.{Event as EventItem,
 use Rattle.flu_model.specs.declared.jobs.Kind.{Kind}
 use Rattle.flu_model.specs.declared.jobs.Source.{Source}
 use Rattle.flu_model.specs.declared.jobs.Program.{Program}
+use Rattle.flu_model.specs.declared.moments.Timing.{Timing}
 use Rattle.flu_model.specs.Merging.{events_of, all_events, merged, is_before}
+use Rattle.flu_model.specs.Moments.{IsTiming, moments_a_time, timing_of}
 use Rattle.flu_lemmas.specs.Late.{is_less}
 use Rattle.flu_model.specs.Numberings.{Numbering}
 use Rattle.flu_rows.specs.declared.row.RowForm.{RowForm}
@@ -35,10 +39,11 @@ use Rattle.flu_rows.specs.Records.{first_record, record_after}
 use Rattle.flu_rows.specs.Row.{number_field, field_by, one_field, number_fields, named_fields, fields_by, two_fields, row_of, row_of_two, row_of_three, row_of_four, filled_len}
 use Rattle.flu_streams.specs.declared.border.Border.{Border}
 use Rattle.flu_streams.specs.Before.{each_with_before, with_before}
-use Rattle.flu_streams.specs.Good.{event_of, item_in, items_at, in_time_order, time_at, lists_of_rows}
+use Rattle.flu_streams.specs.Good.{event_of, item_in, items_at, at_moments, in_time_order, time_at, lists_of_rows}
 use Rattle.flu_streams.specs.Rounds.{lists_between, rows_between, is_between}
 use Rattle.flu_streams.specs.Tags.{width, place_named, given, given_by, given_to}
 use Rattle.flu_streams.specs.Tests.{rows_of, times_of, greatest}
+use Rattle.flu_streams.proofs.Moments.{time_of-moment, timing_fits}
 use Rattle.flu_command.proofs.Widths.{IsWord, all_in_order}
 
 -- ---- rows
@@ -285,14 +290,28 @@ pub latest_low : (lines : List Next) (u : ℕ) → AllByRecursion NextFits lines
 latest_low lines u all e = greatest_low (times_of (rows_of lines)) u (times_low (rows_of lines) (rows_read lines all)) e
 
 -- ---- the events of a run
--- a time below 2^63, and a value of 64 bits
-abbrev pub EventFits : Event → Type 0
-EventFits x = (x.time < 2 ^ 63) × IsWord x.value
+-- where a time has so many moments: a time below 2^63, and a value of 64 bits
+abbrev pub EventFits : ℕ → Event → Type 0
+EventFits scale x = (x.time / scale < 2 ^ 63) × IsWord x.value
 
-abbrev ItemFits : Item → Type 0
-ItemFits (EventItem x) = EventFits x
-ItemFits (BeatItem t) = ⊤
-ItemFits EndItem = ⊤
+abbrev ItemFits : ℕ → Item → Type 0
+ItemFits scale (EventItem x) = EventFits scale x
+ItemFits scale (BeatItem t) = ⊤
+ItemFits scale EndItem = ⊤
+
+-- a row at its moment
+abbrev FitsAt : ℕ → Row → Type 0
+FitsAt scale (EventRow time name key fields) = (time / scale < 2 ^ 63) × FieldsFit fields
+FitsAt scale (BeatRow time) = ⊤
+FitsAt scale EndRow = ⊤
+
+fit_at : (timing : Timing) (is : IsTiming timing) (earlier : List ℕ) (rows : List Row) → AllByRecursion RowFits rows
+    → AllByRecursion (FitsAt timing.scale) (at_moments timing earlier rows)
+fit_at timing is earlier [] all = tt
+fit_at timing is earlier (EventRow time name key fields ∷ rows) all =
+    ((subst (λ t. t < 2 ^ 63) (sym (time_of-moment timing is time (times time earlier))) all.0.0, all.0.1), fit_at timing is (earlier ++ time ∷ []) rows all.1)
+fit_at timing is earlier (BeatRow time ∷ rows) all = (tt, fit_at timing is (earlier ++ time ∷ []) rows all.1)
+fit_at timing is earlier (EndRow ∷ rows) all = (tt, fit_at timing is (earlier ++ []) rows all.1)
 
 -- what a row gives its event
 given_fits : (has_item has_value : Bool) (fields : Fields) → FieldsFit fields → IsWord (unwrap_or (given has_item has_value fields) (0, pos 0)).1
@@ -319,15 +338,16 @@ value_given : (kind : Option Kind) (fields : Fields) → FieldsFit fields → Is
 value_given None fields fits = omega arith
 value_given (Some kind) fields fits = given_fits kind.has_item kind.has_value fields fits
 
-item_fits : (kinds : List Kind) (s : Source) (first place : ℕ) (row : Row) → RowFits row → IfSome (item_in kinds s first place row) ItemFits
-item_fits kinds s first place (EventRow time name key fields) fits =
+item_fits : (scale : ℕ) (kinds : List Kind) (s : Source) (first place : ℕ) (row : Row) → FitsAt scale row
+    → IfSome (item_in kinds s first place row) (ItemFits scale)
+item_fits scale kinds s first place (EventRow time name key fields) fits =
     elim (unwrap_or (option_map (λ n. n == place) (place_named kinds s name key)) false) as (λ b. IfSome (cond b
-    (Some (EventItem (event_of time (first + place) (given_to kinds name fields)))) None) ItemFits) [
+    (Some (EventItem (event_of time (first + place) (given_to kinds name fields)))) None) (ItemFits scale)) [
       | true ↦ (fits.0, value_given _ fields fits.1)
       | false ↦ tt
     ]
-item_fits kinds s first place (BeatRow time) fits = tt
-item_fits kinds s first place EndRow fits = tt
+item_fits scale kinds s first place (BeatRow time) fits = tt
+item_fits scale kinds s first place EndRow fits = tt
 
 all_filter_map : {X Y : Type 0} (P : X → Type 0) (Q : Y → Type 0) (f : X → Option Y) → ((x : X) → P x → IfSome (f x) Q) → (xs : List X)
     → AllByRecursion P xs → AllByRecursion Q (filter_map f xs)
@@ -338,23 +358,25 @@ all_filter_map {X} {Y} P Q f each (x ∷ xs) all = by (f x) refl (each x all.0) 
     by None e here more = rw e more
     by (Some y) e here more = rw e (here, more)
 
-items_fit : (kinds : List Kind) (s : Source) (first : ℕ) (rows : List Row) (place : ℕ) → AllByRecursion RowFits rows
-    → AllByRecursion ItemFits (items_at kinds s first rows place)
-items_fit kinds s first rows place all =
-    all_append ItemFits (filter_map (item_in kinds s first place) (in_time_order rows)) (EndItem ∷ [])
-    (all_filter_map RowFits ItemFits (item_in kinds s first place) (item_fits kinds s first place) (in_time_order rows)
-    (all_in_order RowFits (is_less time_at) rows all)) (tt, tt)
+items_fit : (scale : ℕ) (kinds : List Kind) (s : Source) (first : ℕ) (rows : List Row) (place : ℕ) → AllByRecursion (FitsAt scale) rows
+    → AllByRecursion (ItemFits scale) (items_at kinds s first rows place)
+items_fit scale kinds s first rows place all =
+    all_append (ItemFits scale) (filter_map (item_in kinds s first place) (in_time_order rows)) (EndItem ∷ [])
+    (all_filter_map (FitsAt scale) (ItemFits scale) (item_in kinds s first place) (item_fits scale kinds s first place) (in_time_order rows)
+    (all_in_order (FitsAt scale) (is_less time_at) rows all)) (tt, tt)
 
-abbrev ListFits : List Item → Type 0
-ListFits items = AllByRecursion ItemFits items
+abbrev ListFits : ℕ → List Item → Type 0
+ListFits scale items = AllByRecursion (ItemFits scale) items
 
 all_mapped : {X Y : Type 0} (Q : Y → Type 0) (f : X → Y) → ((x : X) → Q (f x)) → (xs : List X) → AllByRecursion Q (map f xs)
 all_mapped Q f each [] = tt
 all_mapped Q f each (x ∷ xs) = (each x, all_mapped Q f each xs)
 
-lists_fit : (kinds : List Kind) (s : Source) (first : ℕ) (rows : List Row) → AllByRecursion RowFits rows
-    → AllByRecursion ListFits (lists_of_rows kinds s first rows)
-lists_fit kinds s first rows all = all_mapped ListFits (items_at kinds s first rows) (λ place. items_fit kinds s first rows place all) (range_with_len 0 (width s))
+lists_fit : (timing : Timing) (is : IsTiming timing) (kinds : List Kind) (s : Source) (first : ℕ) (rows : List Row) → AllByRecursion RowFits rows
+    → AllByRecursion (ListFits timing.scale) (lists_of_rows timing kinds s first rows)
+lists_fit timing is kinds s first rows all =
+    all_mapped (ListFits timing.scale) (items_at kinds s first (at_moments timing [] rows))
+    (λ place. items_fit timing.scale kinds s first (at_moments timing [] rows) place (fit_at timing is [] rows all)) (range_with_len 0 (width s))
 
 all_flat : {X Y : Type 0} (Q : Y → Type 0) (f : X → List Y) → (xs : List X) → AllByRecursion (λ x. AllByRecursion Q (f x)) xs
     → AllByRecursion Q (flat_map f xs)
@@ -371,36 +393,39 @@ at_seam (y ∷ before) after x = at_seam before after x
 
 module _ (p : Program) (above : Option ℕ) (end : Border) (reads : ℕ → List Next) (fit : LinesFit p reads) where
   abbrev one_source : (List Source × Source) → List (List Item)
-  one_source e = lists_of_rows p.kinds e.1 (sum_by width e.0) (rows_between above end (rows_of (reads (length e.0))))
+  one_source e = lists_of_rows (timing_of p (length e.0)) p.kinds e.1 (sum_by width e.0) (rows_between above end (rows_of (reads (length e.0))))
 
   each_source : (before : List Source) (ss : List Source) → p.sources ≡ before ++ ss
-      → AllByRecursion (λ e. AllByRecursion ListFits (one_source e)) (with_before before ss)
+      → AllByRecursion (λ e. AllByRecursion (ListFits (moments_a_time p)) (one_source e)) (with_before before ss)
   each_source before [] same = tt
   each_source before (s ∷ ss) same =
       let here : slice_get p.sources (length before) ≡ Some s = ap (λ (xs : List Source). slice_get xs (length before)) same ∙ at_seam before ss s in
       let rows = rows_of (reads (length before)) in (
-        lists_fit p.kinds s (sum_by width before) (rows_between above end rows)
+        lists_fit (timing_of p (length before)) (timing_fits p (length before) (slice_get_within p.sources (length before) s here)) p.kinds s
+            (sum_by width before) (rows_between above end rows)
             (all_filter RowFits (is_between above end) rows
             (all_map RowFits (λ row. is_between above end row ≡ true → RowFits row) rows (λ row fits e. fits)
             (rows_read (reads (length before)) (fit (length before) s here)))),
         each_source (before ++ s ∷ []) ss (same ∙ sym (append_assoc before (s ∷ []) ss)),
       )
 
-  pub lists_between_fit : AllByRecursion ListFits (lists_between p above end reads)
-  lists_between_fit = all_flat ListFits one_source (each_with_before p.sources) (each_source [] p.sources refl)
+  pub lists_between_fit : AllByRecursion (ListFits (moments_a_time p)) (lists_between p above end reads)
+  lists_between_fit = all_flat (ListFits (moments_a_time p)) one_source (each_with_before p.sources) (each_source [] p.sources refl)
 
-events_fit : (items : List Item) → ListFits items → AllByRecursion EventFits (events_of items)
-events_fit [] all = tt
-events_fit (EventItem x ∷ items) all = (all.0, events_fit items all.1)
-events_fit (BeatItem t ∷ items) all = events_fit items all.1
-events_fit (EndItem ∷ items) all = events_fit items all.1
+events_fit : (scale : ℕ) (items : List Item) → ListFits scale items → AllByRecursion (EventFits scale) (events_of items)
+events_fit scale [] all = tt
+events_fit scale (EventItem x ∷ items) all = (all.0, events_fit scale items all.1)
+events_fit scale (BeatItem t ∷ items) all = events_fit scale items all.1
+events_fit scale (EndItem ∷ items) all = events_fit scale items all.1
 
-pub all_events_fit : (lists : List (List Item)) → AllByRecursion ListFits lists → AllByRecursion EventFits (all_events lists)
-all_events_fit lists all = all_flat EventFits events_of lists (all_map ListFits (λ items. AllByRecursion EventFits (events_of items)) lists events_fit all)
+pub all_events_fit : (scale : ℕ) (lists : List (List Item)) → AllByRecursion (ListFits scale) lists → AllByRecursion (EventFits scale) (all_events lists)
+all_events_fit scale lists all =
+    all_flat (EventFits scale) events_of lists
+    (all_map (ListFits scale) (λ items. AllByRecursion (EventFits scale) (events_of items)) lists (events_fit scale) all)
 
 -- THE EVENTS between two borders of lines that fit
 pub merged_fit : (p : Program) (above : Option ℕ) (end : Border) (reads : ℕ → List Next) → LinesFit p reads
-    → AllByRecursion EventFits (merged (lists_between p above end reads))
+    → AllByRecursion (EventFits (moments_a_time p)) (merged (lists_between p above end reads))
 merged_fit p above end reads fit =
-    all_in_order EventFits is_before (all_events (lists_between p above end reads))
-    (all_events_fit (lists_between p above end reads) (lists_between_fit p above end reads fit))
+    all_in_order (EventFits (moments_a_time p)) is_before (all_events (lists_between p above end reads))
+    (all_events_fit (moments_a_time p) (lists_between p above end reads) (lists_between_fit p above end reads fit))

@@ -5,12 +5,14 @@ use Rattle.std.specs.Option.{option_map_or}
 use Rattle.flu_model.specs.declared.jobs.Source.{Source}
 use Rattle.flu_model.specs.declared.jobs.Program.{Program}
 use Rattle.flu_model.specs.Erasure.{Job, IsSameJob}
+use Rattle.flu_model.specs.Moments.{timing_of}
 use Rattle.flu_outside.specs.Outside.{Contents}
 use Rattle.flu_outside.specs.Taking.{bytes_left}
 use Rattle.flu_rows.specs.Row.{form_of}
 use Rattle.flu_rows.specs.Reading.{read_file}
 use Rattle.flu_streams.specs.OneJob.{JobsReadTheSame}
 use Rattle.flu_streams.specs.Rounds.{defect_in}
+use Rattle.flu_streams.proofs.OneJob.{timing_in}
 use Rattle.flu_rounds.specs.Written.{AreSound, lines_in}
 use Rattle.flu_command.specs.Behind.{emptied_each, fault_behind}
 use Rattle.flu_command.specs.Mending.{AreMended}
@@ -29,8 +31,8 @@ module _ (law : JobsReadTheSame) where
   same_sound : (texts : List (List ℕ)) (left : Contents) (p q : Program) → IsSameJob p q → AreSound p (lines_behind texts left p)
       → AreSound q (lines_behind texts left q)
   same_sound texts left p q same sound = λ i s e.
-      ap (defect_in q.kinds s) (same_lines texts left p q i same)
-      ∙ ((λ j. (law q p (sym same)).rows.in_lines j s (lines_behind texts left p i))
+      ap (defect_in (timing_of q i) q.kinds s) (same_lines texts left p q i same)
+      ∙ ((λ j. (law q p (sym same)).rows.in_lines (timing_in (sym same j) i) j s (lines_behind texts left p i))
       ∙ sound i s (ap (λ (ss : List Source). slice_get ss i) (ap (λ j. j.sources) same) ∙ e))
 
   -- good sources of one are good sources of the other
@@ -50,9 +52,10 @@ module _ (law : JobsReadTheSame) where
         let behind = same_lines [] mended p q i same in
         record {
           fronts = λ front rest is sound.
-              let found = its.fronts front rest (sym before ∙ is) ((λ j. alike j s front) ∙ sound) in
+              let found = its.fronts front rest (sym before ∙ is) ((λ j. alike (timing_in (same j) i) j s front) ∙ sound) in
               (found.0, behind ∙ found.1);
-          good = λ sound. behind ∙ (its.good ((λ j. alike j s (lines_in p left i)) ∙ (ap (defect_in q.kinds s) (sym before) ∙ sound)) ∙ sym before);
+          good = λ sound. behind
+              ∙ (its.good ((λ j. alike (timing_in (same j) i) j s (lines_in p left i)) ∙ (ap (defect_in (timing_of q i) q.kinds s) (sym before) ∙ sound)) ∙ sym before);
         };
     sound = same_sound [] mended p q same mends.sound;
   }

@@ -33,6 +33,7 @@ use Rattle.flu_model.specs.Itags.{itags, count_of_itags, tag_of_itag}
 use Rattle.flu_model.specs.Listing.{tag}
 use Rattle.flu_model.specs.Rules.{is_literal, expr_fits, height, is_good_expr, act_fits, action_fits, kind_fits, tag_fits}
 use Rattle.flu_model.specs.Texts.{Showing}
+use Rattle.flu_model.specs.Moments.{at_its_time}
 use Rattle.flu_model.specs.Updates.{changes_to, effect_of_act, effect_of_action, effect_of_actions, actions_of, effect_of, passes_guard, showing_of}
 use Rattle.flu_save.specs.Checkpoint.{HasWordWidth}
 
@@ -206,7 +207,8 @@ update_words : TagsFit → (p : Program) (s : Contents) (x : Event) → HasWord 
 update_words fit p s x value words =
     let t = tag_of_itag p x.itag in
     let found = found_fits p.families p.kinds t.kind p.kinds_fit in
-    actions_words (showing_of p t.kind) p.families found.0 found.1.0 x t.key value (key_low fit p x.itag) (actions_of (slice_get p.kinds t.kind)) s found.1.1 words
+    actions_words (showing_of p t.kind) p.families found.0 found.1.0 (at_its_time p x) t.key value (key_low fit p x.itag)
+    (actions_of (slice_get p.kinds t.kind)) s found.1.1 words
 
 pub fold_words : TagsFit → (p : Program) (s : Contents) (xs : List Event) → AllByRecursion HasWord xs → AreWords s → AreWords (state_after p s xs)
 fold_words fit p s [] all words = words

@@ -12,8 +12,16 @@ use Rattle.flu_gen.specs.DemoStreams.{demo_lists}
 
 -- the job of a demo
 abbrev pub demo_job : Job
-demo_job =
-    record { version = 1; iso = None; lists = []; families = demo_families; kinds = map plain_kind demo_kinds; depends = demo_depends; sources = demo_sources }
+demo_job = record {
+  version = 1;
+  ties = 1;
+  iso = None;
+  lists = [];
+  families = demo_families;
+  kinds = map plain_kind demo_kinds;
+  depends = demo_depends;
+  sources = demo_sources;
+}
 
 -- how many lines some bytes are: how many of them are line feeds
 abbrev pub lines_in : List ℕ → ℕ

@@ -36,7 +36,7 @@ Opens rows (Some name) texts left p o = OpensAt p (bytes_left (emptied_each text
 
 -- the items that it runs, of sources that are read after some texts
 abbrev pub lists_from : Opening → List (List ℕ) → Files → Program → List (List Item)
-lists_from o texts left p = lists_above o.border (lists_behind texts left p)
+lists_from o texts left p = lists_above p o.border (lists_behind texts left p)
 
 -- the report of their fold, and the state after it
 abbrev pub report_from : Opening → List (List ℕ) → Files → Program → List ℕ

@@ -3,6 +3,7 @@ use Rattle.std.specs.Prelude.{◌≡◌, ℕ, List, ◌∷◌, ◌++◌, Option}
 use Rattle.flu_outside.specs.Outside.{Contents, WhereTold, Rose}
 use Rattle.flu_outside.specs.Taking.{TookAtMost}
 use Rattle.flu_model.specs.declared.jobs.Program.{Program}
+use Rattle.flu_model.specs.Moments.{timing_of}
 use Rattle.flu_model.specs.declared.jobs.Source.{Source}
 use Rattle.flu_rows.specs.declared.rows.Next.{Next}
 use Rattle.flu_rows.specs.Lines.{IsUndecided}
@@ -34,7 +35,7 @@ pub record HidesNoDefect (command : Command) (name : List ℕ) (old new : Option
   pub file : place.file ≡ source.file
   pub undecided : IsUndecided place.taken
   pub told : WhereTold old new (λ was is. HasJob (job_wanted command) was p
-      × StopsWithout (form_of (job_of p)) p.kinds earlier source read (ahead place is) (emptied_each (texts_named command) was))
+      × StopsWithout (timing_of p) (form_of (job_of p)) p.kinds earlier source read (ahead place is) (emptied_each (texts_named command) was))
 
 -- the command can start, and the round in which the source with this file failed is unfinished: the rows that were read of it have no
 -- defect, and are not enough

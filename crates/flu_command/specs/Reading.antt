@@ -4,6 +4,7 @@ use Rattle.flu_outside.specs.Outside.{Contents}
 use Rattle.flu_model.specs.declared.events.Item.{Item}
 use Rattle.flu_model.specs.declared.jobs.Source.{Source}
 use Rattle.flu_model.specs.declared.jobs.Program.{Program}
+use Rattle.flu_model.specs.Moments.{timing_of}
 use Rattle.flu_model.specs.Folding.{final_state}
 use Rattle.flu_rows.specs.declared.rows.Next.{Next}
 use Rattle.flu_streams.specs.declared.faults.SourceFault.{SourceFault}
@@ -45,7 +46,7 @@ pub record HasDefectIn (p : Program) (lines : ℕ → List Next) : Type 0 where
   pub is : slice_get p.sources at ≡ Some source
   pub row : ℕ
   pub why : Why
-  pub defect : defect_in p.kinds source (lines at) ≡ Some (row, why)
+  pub defect : defect_in (timing_of p at) p.kinds source (lines at) ≡ Some (row, why)
 
 -- one of them has a defect
 abbrev pub HasDefect : Reading → List (List ℕ) → Contents → Program → Type 0

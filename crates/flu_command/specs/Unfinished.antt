@@ -4,6 +4,7 @@ use Rattle.flu_lemmas.specs.Elements.{AtEach}
 use Rattle.flu_outside.specs.Outside.{Contents}
 use Rattle.flu_model.specs.declared.events.Item.{Item}
 use Rattle.flu_model.specs.declared.jobs.Program.{Program}
+use Rattle.flu_model.specs.Moments.{timing_of}
 use Rattle.flu_model.specs.declared.jobs.Source.{Source}
 use Rattle.flu_rows.specs.declared.rows.Next.{Next}
 use Rattle.flu_rows.specs.Lines.{IsUndecided}
@@ -25,8 +26,8 @@ pub record Unfinished (p : Program) (rows : ℕ) : Type 0 where
   pub is : slice_get p.sources at ≡ Some source
   pub more : List Next
   pub further : now at ≡ before at ++ more
-  pub sound : defect_in p.kinds source (now at) ≡ None
-  pub few : (k : ℕ) → k ≤ length more → is_enough rows border source (before at ++ take k more) ≡ false
+  pub sound : defect_in (timing_of p at) p.kinds source (now at) ≡ None
+  pub few : (k : ℕ) → k ≤ length more → is_enough (timing_of p at) rows border source (before at ++ take k more) ≡ false
   pub place : Place
   pub form : place.form ≡ form_of (job_of p)
   pub file : place.file ≡ source.file
@@ -37,5 +38,5 @@ pub record Unfinished (p : Program) (rows : ℕ) : Type 0 where
 pub record IsUnfinished (p : Program) (o : Opening) (u : Unfinished p o.rows) (lines : ℕ → List Next) (left : Contents) : Type 0 where
   pub rounds : ComesFrom p o.rows lines o.border u.done u.border u.before
   pub earlier : AtEach (λ i s. i < u.at
-      → (turn : Turn) × Reads p.kinds s o.rows u.border (lines i) (u.before i) (u.now i) turn × IsPassed turn) p.sources
+      → (turn : Turn) × Reads (timing_of p i) p.kinds s o.rows u.border (lines i) (u.before i) (u.now i) turn × IsPassed turn) p.sources
   pub was : lines u.at ≡ u.now u.at ++ ahead u.place left

@@ -157,6 +157,7 @@ fn job(alloc: Global, case: &Case) -> Result<Option<Program>, AllocError> {
     };
     Ok(program(
         case.version,
+        1,
         None,
         List::of(lists_of(alloc, case)?),
         List::of(vec![in alloc; rides]?),

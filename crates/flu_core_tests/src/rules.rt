@@ -271,6 +271,7 @@ fn is_accepted(alloc: Global, case: &Case) -> Result<bool, AllocError> {
     ]?;
     let made = program(
         case.version,
+        1,
         None,
         List::of(Vec::new(alloc)),
         List::of(families_of(alloc, case)?),

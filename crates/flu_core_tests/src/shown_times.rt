@@ -69,6 +69,7 @@ fn job(alloc: Global, iso: Option<Unit>) -> Result<Option<Program>, AllocError> 
     };
     Ok(program(
         3,
+        1,
         iso,
         List::of(Vec::new(alloc)),
         List::of(vec![in alloc; times]?),

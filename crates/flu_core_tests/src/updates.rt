@@ -141,6 +141,7 @@ fn sources(alloc: Global) -> Result<Vec<Source>, AllocError> {
 fn job(alloc: Global, version: u32, act: Act) -> Result<Option<Program>, AllocError> {
     Ok(program(
         version,
+        1,
         None,
         List::of(Vec::new(alloc)),
         List::of(families(alloc)?),

@@ -85,6 +85,7 @@ demo_sources =
 -- ---- the whole
 pub record IsDemoJob (p : Program) : Type 0 where
   pub version : p.version ≡ 1
+  pub ties : p.ties ≡ 1
   pub iso : p.iso ≡ None
   pub lists : p.lists ≡ []
   pub families : p.families ≡ demo_families

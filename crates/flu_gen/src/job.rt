@@ -59,6 +59,7 @@ fn job_of(
 {
     Program {
         version: 1,
+        ties: 1,
         iso: None,
         lists,
         families,

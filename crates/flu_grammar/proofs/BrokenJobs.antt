@@ -38,6 +38,7 @@ use Rattle.flu_syntax.specs.declared.tree.WrittenItem.{WrittenItem}
 use Rattle.flu_syntax.specs.declared.tree.WrittenTag.{WrittenTag}
 use Rattle.flu_syntax.specs.declared.tree.WrittenRelation.{WrittenRelation}
 use Rattle.flu_syntax.specs.declared.tree.WrittenRelation.TheVariants as r
+use Rattle.flu_syntax.specs.declared.tree.WrittenTies.{WrittenTies}
 use Rattle.flu_syntax.specs.declared.tree.WrittenUnit.{WrittenUnit}
 use Rattle.flu_syntax.specs.declared.tree.WrittenHead.{WrittenHead}
 use Rattle.flu_syntax.specs.Tree.{Action, Declaration, Declarations, Job as WrittenJob}
@@ -57,7 +58,7 @@ use Rattle.flu_parse.specs.Actions.{resolved_actions}
 use Rattle.flu_parse.specs.Listings.{are_bracketed, written_keys, keys_of, tag_count, Listed, with_tag, tags_of, rate_of, slack_of, file_of}
 use Rattle.flu_parse.specs.Resolving.{Drafted, same_of, with_depend, with_actions, with_on, with_source as with_source_of}
 use Rattle.flu_parse.specs.Resolving.{with_cell, with_tag as with_tag_of, with_names, cell_name_fits, item_word_fits, with_declaration, first_draft}
-use Rattle.flu_parse.specs.Resolving.{draft_of, version_of, unit_named, found_unit, unit_of, iso_of}
+use Rattle.flu_parse.specs.Resolving.{draft_of, version_of, ties_counted, ties_of, unit_named, found_unit, unit_of, iso_of}
 use Rattle.flu_parse.specs.Resolving.{job_with, resolved}
 use Rattle.flu_parse.specs.Reading.{found_job}
 use Rattle.flu_grammar.specs.Declared.{DeclaredKind, WrittenSource, families_in, kinds_in, depends_in, sources_in, lists_in, list_names}
@@ -71,7 +72,7 @@ use Rattle.flu_grammar.specs.BrokenJobs.{items_of_older, first_unknown, second_u
 use Rattle.flu_grammar.specs.BrokenJobs.{too_many_names, name_twice, in_keys, in_items, names_of_older, in_names, too_many_lists}
 use Rattle.flu_grammar.specs.BrokenJobs.{same_of_unkeyed, kind_unknown, second_on, in_actions, no_file, second_file, high_rate, high_slack, in_tags}
 use Rattle.flu_grammar.specs.BrokenJobs.{BreaksJob, declared_twice, too_many_families, too_many_kinds, too_many_sources, too_many_depends, no_version}
-use Rattle.flu_grammar.specs.BrokenJobs.{unit_of_older, no_unit}
+use Rattle.flu_grammar.specs.BrokenJobs.{ties_of_older, no_ties, unit_of_older, no_unit}
 use Rattle.flu_grammar.specs.Jobs.{MeansVersion}
 use Rattle.flu_grammar.specs.BrokenJobs.{in_declaration, IsFaultOf, too_many_bytes, not_utf8, no_token, not_continued, too_deep, of_written, FaultsAreByRule}
 use Rattle.flu_grammar.proofs.FaultKinds.{FaultsAre, no_fault, one_fault, faults_bind, faults_then}
@@ -88,6 +89,7 @@ use Rattle.flu_grammar.proofs.JobTexts.{know_families, know_kinds, families_in_v
 use Rattle.flu_grammar.proofs.JobTexts.{version_is}
 use Rattle.flu_grammar.proofs.Faults.{no_place, declared_before}
 use Rattle.flu_grammar.proofs.Twice.{given_twice, read_twice}
+use Rattle.flu_grammar.proofs.Ties.{is_count, outside}
 use Rattle.flu_grammar.proofs.Units.{unit_said}
 use Rattle.flu_grammar.proofs.TextFaults as text_faults
 
@@ -588,6 +590,20 @@ module _ (text : List ℕ) (job : WrittenJob) where
       faults_where Job (is_version value) (f.WrongShape head.version.at) (Ok value)
       (λ fails. no_version head is (λ yes. not_both (is_version value) yes fails)) (λ yes. no_fault Job value)
 
+  count_breaks : (head : WrittenHead) → job.head ≡ Some head → (version : ℕ) → version ≡ written_value head.version.value → (o : Option WrittenTies)
+      → head.ties ≡ o → FaultsAre Job (ties_counted version o)
+  count_breaks head is version value None at = no_fault Job 1
+  count_breaks head is version value (Some ties) at =
+      let count = written_value ties.number.value in
+      faults_where Job (version == 3) (f.WrongShape ties.at) (unless (is_count count) (f.WrongShape ties.number.at) >> Ok count)
+      (λ fails. ties_of_older head ties is at (λ third. not_both (version == 3) (eq_true version 3 (value ∙ third)) fails))
+      (λ yes. faults_where Job (is_count count) (f.WrongShape ties.number.at) (Ok count) (λ fails. no_ties head ties is at (outside count fails))
+      (λ few. no_fault Job count))
+
+  ties_break : (version : ℕ) (o : Option WrittenHead) → job.head ≡ o → MeansVersion o version → FaultsAre Job (ties_of version o)
+  ties_break version None is means = no_fault Job 1
+  ties_break version (Some head) is means = count_breaks head is version means.0 head.ties refl
+
   unit_breaks : (head : WrittenHead) → job.head ≡ Some head → (version : ℕ) → version ≡ written_value head.version.value → (o : Option WrittenUnit)
       → head.iso ≡ o → FaultsAre Job (unit_of text version o)
   unit_breaks head is version value None at = no_fault Job None
@@ -623,16 +639,19 @@ module _ (text : List ℕ) (job : WrittenJob) where
   resolved_breaks : FaultsAre Job (resolved text job)
   unfolding resolved
   resolved_breaks =
-      let drafted_in = λ (n : Naming) (version : ℕ) (iso : Option TimeUnit). draft_of text (in_version n version) job.declarations >>= λ x.
-      let r : Found ReadJob = Ok (job_with iso (in_version n version) x) in r in
-      let with_unit = λ (n : Naming) (version : ℕ). iso_of text version job.head >>= λ iso. drafted_in n version iso in
-      faults_found Job (naming_of text job.declarations) (λ n. version_of job.head >>= λ version. with_unit n version) naming_breaks
-      (λ n is. faults_found Job (version_of job.head) (λ version. with_unit n version) (version_breaks job.head refl)
-      (λ version means. faults_bind Job (iso_of text version job.head) (λ iso. drafted_in n version iso)
+      let drafted_in = λ (n : Naming) (version ties : ℕ) (iso : Option TimeUnit). draft_of text (in_version n version) job.declarations >>= λ x.
+      let r : Found ReadJob = Ok (job_with ties iso (in_version n version) x) in r in
+      let with_unit = λ (n : Naming) (version ties : ℕ). iso_of text version job.head >>= λ iso. drafted_in n version ties iso in
+      let with_ties = λ (n : Naming) (version : ℕ). ties_of version job.head >>= λ ties. with_unit n version ties in
+      faults_found Job (naming_of text job.declarations) (λ n. version_of job.head >>= λ version. with_ties n version) naming_breaks
+      (λ n is. faults_found Job (version_of job.head) (λ version. with_ties n version) (version_breaks job.head refl)
+      (λ version means. faults_bind Job (ties_of version job.head) (λ ties. with_unit n version ties)
+      (ties_break version job.head refl (version_is job.head version means))
+      (λ ties. faults_bind Job (iso_of text version job.head) (λ iso. drafted_in n version ties iso)
       (iso_breaks version job.head refl (version_is job.head version means))
-      (λ iso. faults_bind Job (draft_of text (in_version n version) job.declarations) (λ x. Ok (job_with iso (in_version n version) x))
+      (λ iso. faults_bind Job (draft_of text (in_version n version) job.declarations) (λ x. Ok (job_with ties iso (in_version n version) x))
       (draft_breaks n is version means)
-      (λ x. no_fault Job (job_with iso (in_version n version) x)))))
+      (λ x. no_fault Job (job_with ties iso (in_version n version) x))))))
 
 -- ---- texts
 

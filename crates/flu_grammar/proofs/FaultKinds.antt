@@ -1,5 +1,5 @@
 -- Which faults the looks at a written job find: none of bytes, tokens or grammar.
-use Rattle.std.proofs.Common.{◌≡◌, ℕ, ◌+◌, Bool, true, false, cond, List, [], ◌∷◌, ◌++◌, length, Option, Some, None, Ok, Err, refl, subst}
+use Rattle.std.proofs.Common.{◌≡◌, ℕ, ◌+◌, ◌^◌, Bool, true, false, cond, List, [], ◌∷◌, ◌++◌, length, Option, Some, None, Ok, Err, refl, subst}
 use Rattle.std.specs.Prelude.{Result, is_some, not, ◌==◌, ◌&&◌, nat_lt, nat_le, position, if◌then◌else◌}
 use Rattle.std.specs.List.{list_any, list_all}
 use Rattle.std.specs.Str.{bytes_eq}
@@ -34,6 +34,7 @@ use Rattle.flu_syntax.specs.declared.tree.WrittenItem.{WrittenItem}
 use Rattle.flu_syntax.specs.declared.tree.WrittenTag.{WrittenTag}
 use Rattle.flu_syntax.specs.declared.tree.WrittenRelation.{WrittenRelation}
 use Rattle.flu_syntax.specs.declared.tree.WrittenRelation.TheVariants as r
+use Rattle.flu_syntax.specs.declared.tree.WrittenTies.{WrittenTies}
 use Rattle.flu_syntax.specs.declared.tree.WrittenUnit.{WrittenUnit}
 use Rattle.flu_syntax.specs.declared.tree.WrittenHead.{WrittenHead}
 use Rattle.flu_syntax.specs.Tree.{Tree, NumberTree, ValueTree, KeyTree, TimeTree, ReadTree, HasTree, ParenTree, NegTree, NotTree}
@@ -56,7 +57,7 @@ use Rattle.flu_parse.specs.Actions.{sort_for, act_with, clears_whole, resolved_a
 use Rattle.flu_parse.specs.Listings.{are_bracketed, written_keys, keys_of, tag_count, Listed, with_tag, tags_of, rate_of, slack_of, file_of}
 use Rattle.flu_parse.specs.Resolving.{Drafted, same_of, with_depend, with_actions, with_on, with_source as with_source_of}
 use Rattle.flu_parse.specs.Resolving.{with_cell, with_tag as with_tag_of, with_names, cell_name_fits, item_word_fits, with_declaration, first_draft}
-use Rattle.flu_parse.specs.Resolving.{draft_of, version_of, unit_named, found_unit, unit_of, iso_of}
+use Rattle.flu_parse.specs.Resolving.{draft_of, version_of, ties_counted, ties_of, unit_named, found_unit, unit_of, iso_of}
 use Rattle.flu_parse.specs.Resolving.{job_with, resolved}
 
 -- ---- looks of which each fault is so
@@ -522,6 +523,18 @@ module _ (P : JobFault → Type 0) (plain : Plain P) where
     version_faults None = no_fault P 1
     version_faults (Some x) = shape_faults (is_version (written_value x.version.value)) x.version.at (written_value x.version.value)
 
+    count_faults : (version : ℕ) (o : Option WrittenTies) → FaultsAre P (ties_counted version o)
+    count_faults version None = no_fault P 1
+    count_faults version (Some x) =
+        let value = written_value x.number.value in
+        let within = nat_le 1 value && nat_le value (2 ^ 31) in
+        faults_then P (unless (version == 3) (f.WrongShape x.at)) (unless within (f.WrongShape x.number.at) >> Ok value)
+        (fault_unless P (version == 3) (f.WrongShape x.at) (plain.shape x.at)) (shape_faults within x.number.at value)
+
+    ties_faults : (version : ℕ) (o : Option WrittenHead) → FaultsAre P (ties_of version o)
+    ties_faults version None = no_fault P 1
+    ties_faults version (Some x) = count_faults version x.ties
+
     named_faults : (at : ℕ) (o : Option TimeUnit) → FaultsAre P (found_unit at o)
     named_faults at None = one_fault P (f.WrongShape at) (plain.shape at)
     named_faults at (Some u) = no_fault P (Some u)
@@ -539,15 +552,18 @@ module _ (P : JobFault → Type 0) (plain : Plain P) where
     pub resolved_faults : (job : WrittenJob) → FaultsAre P (resolved text job)
     unfolding resolved
     resolved_faults job =
-        let drafted_in = λ (n : Naming) (version : ℕ) (iso : Option TimeUnit). draft_of text (in_version n version) job.declarations >>= λ x.
-        let r : Found Job = Ok (job_with iso (in_version n version) x) in r in
-        let with_unit = λ (n : Naming) (version : ℕ). iso_of text version job.head >>= λ iso. drafted_in n version iso in
-        faults_bind P (naming_of text job.declarations) (λ n. version_of job.head >>= λ version. with_unit n version)
+        let drafted_in = λ (n : Naming) (version ties : ℕ) (iso : Option TimeUnit). draft_of text (in_version n version) job.declarations >>= λ x.
+        let r : Found Job = Ok (job_with ties iso (in_version n version) x) in r in
+        let with_unit = λ (n : Naming) (version ties : ℕ). iso_of text version job.head >>= λ iso. drafted_in n version ties iso in
+        let with_ties = λ (n : Naming) (version : ℕ). ties_of version job.head >>= λ ties. with_unit n version ties in
+        faults_bind P (naming_of text job.declarations) (λ n. version_of job.head >>= λ version. with_ties n version)
         (faults_each P (declare text) declare_faults no_names job.declarations)
-        (λ n. faults_bind P (version_of job.head) (λ version. with_unit n version)
+        (λ n. faults_bind P (version_of job.head) (λ version. with_ties n version)
         (version_faults job.head)
-        (λ version. faults_bind P (iso_of text version job.head) (λ iso. drafted_in n version iso)
+        (λ version. faults_bind P (ties_of version job.head) (λ ties. with_unit n version ties)
+        (ties_faults version job.head)
+        (λ ties. faults_bind P (iso_of text version job.head) (λ iso. drafted_in n version ties iso)
         (iso_faults version job.head)
-        (λ iso. faults_bind P (draft_of text (in_version n version) job.declarations) (λ x. Ok (job_with iso (in_version n version) x))
+        (λ iso. faults_bind P (draft_of text (in_version n version) job.declarations) (λ x. Ok (job_with ties iso (in_version n version) x))
         (draft_faults text (in_version n version) twice job.declarations)
-        (λ x. no_fault P (job_with iso (in_version n version) x)))))
+        (λ x. no_fault P (job_with ties iso (in_version n version) x))))))

@@ -33,7 +33,7 @@ use Rattle.flu_parse.specs.declared.faults.JobFault.TheVariants as f
 use Rattle.flu_parse.specs.Faults.{Found, ◌>>=◌}
 use Rattle.flu_parse.specs.Lists.{listed_families, listed_kinds}
 use Rattle.flu_parse.specs.Naming.{Naming, in_version, has_keys, family, naming_of}
-use Rattle.flu_parse.specs.Resolving.{draft_of, version_of, iso_of, job_with, resolved}
+use Rattle.flu_parse.specs.Resolving.{draft_of, version_of, ties_of, iso_of, job_with, resolved}
 use Rattle.flu_parse.specs.Reading.{text_in, found_tokens, tokens_in, found_job, written_in, job_in}
 use Rattle.flu_grammar.specs.Means.{AllDiffer, IfWritten}
 use Rattle.flu_grammar.specs.Cells.{family_name}
@@ -52,6 +52,7 @@ use Rattle.flu_grammar.proofs.JobLists.{kinds_again}
 use Rattle.flu_grammar.proofs.JobSources.{KnowKinds, part_count}
 use Rattle.flu_grammar.proofs.JobDrafts.{itag_count, drafts_are}
 use Rattle.flu_grammar.proofs.JobFound.{Parts, Aim, drafted}
+use Rattle.flu_grammar.proofs.Ties.{ties_is, ties_found}
 use Rattle.flu_grammar.proofs.Units.{iso_is, iso_found}
 
 -- ---- the names of families and of kinds are among all
@@ -245,15 +246,17 @@ job_means : (text : List ℕ) (written : WrittenJob) (job : Job) → resolved te
 unfolding resolved
 job_means text written job e =
     let ds = written.declarations in
-    let drafted_in = λ (n : Naming) (version : ℕ) (iso : Option TimeUnit). draft_of text (in_version n version) ds >>= λ x. let r : Found Job = Ok
-    (job_with iso (in_version n version) x) in r in
-    let with_unit = λ (n : Naming) (version : ℕ). iso_of text version written.head >>= λ iso. drafted_in n version iso in
-    let one = bind_ok (naming_of text ds) (λ n. version_of written.head >>= λ version. with_unit n version) job e in
+    let drafted_in = λ (n : Naming) (version ties : ℕ) (iso : Option TimeUnit). draft_of text (in_version n version) ds >>= λ x. let r : Found Job = Ok
+    (job_with ties iso (in_version n version) x) in r in
+    let with_unit = λ (n : Naming) (version ties : ℕ). iso_of text version written.head >>= λ iso. drafted_in n version ties iso in
+    let with_ties = λ (n : Naming) (version : ℕ). ties_of version written.head >>= λ ties. with_unit n version ties in
+    let one = bind_ok (naming_of text ds) (λ n. version_of written.head >>= λ version. with_ties n version) job e in
     let n = one.0 in
-    let two = bind_ok (version_of written.head) (λ version. with_unit n version) job one.2 in
+    let two = bind_ok (version_of written.head) (λ version. with_ties n version) job one.2 in
     let m = in_version n two.0 in
-    let unit = bind_ok (iso_of text two.0 written.head) (λ iso. drafted_in n two.0 iso) job two.2 in
-    let three = bind_ok (draft_of text m ds) (λ x. Ok (job_with unit.0 m x)) job unit.2 in
+    let count = bind_ok (ties_of two.0 written.head) (λ ties. with_unit n two.0 ties) job two.2 in
+    let unit = bind_ok (iso_of text two.0 written.head) (λ iso. drafted_in n two.0 count.0 iso) job count.2 in
+    let three = bind_ok (draft_of text m ds) (λ x. Ok (job_with count.0 unit.0 m x)) job unit.2 in
     let x = three.0 in
     let names = naming_is text ds n one.1 in
     let named = names.0 in
@@ -297,8 +300,9 @@ job_means text written job e =
     let few_lists = own.few_lists in
     let few_depends = own.few_depends in
     let few_sources = own.few_sources in
-    let means : MeansJob text written (job_with unit.0 m x) = record {
+    let means : MeansJob text written (job_with count.0 unit.0 m x) = record {
       version = version_is written.head two.0 two.1;
+      ties = ties_is two.0 written.head count.0 count.1;
       iso = iso_is text two.0 written.head unit.0 unit.1;
       allowed = is.allowed;
       own_names = own.own;
@@ -324,7 +328,7 @@ job_means text written job e =
       few_sources = omega (arith, sources_many, named_many, few_sources);
       few_itags = omega (arith, itags, drafted_itags, few_itags);
     } in
-    subst (λ (j : Job). MeansJob text written j) (ok_same (job_with unit.0 m x) job three.2) means
+    subst (λ (j : Job). MeansJob text written j) (ok_same (job_with count.0 unit.0 m x) job three.2) means
 
 job_found : (text : List ℕ) (written : WrittenJob) (job : Job) → MeansJob text written job → resolved text written ≡ Ok job
 unfolding resolved
@@ -394,8 +398,9 @@ job_found text written job is =
     (λ i. listed_families (the_families i) (draft.family_lists_are i)) ∙ families_again job.families in
     let job_kinds : listed_kinds x.kinds x.kind_lists ≡ job.kinds =
     ap (listed_kinds x.kinds) draft.kind_lists_are ∙ kinds_again x.kinds job.kinds draft.kinds_are draft.kinds_many in
-    let same : job_with job.iso m x ≡ job = λ i. record {
+    let same : job_with job.ties job.iso m x ≡ job = λ i. record {
       version = job.version;
+      ties = job.ties;
       iso = job.iso;
       lists = draft.lists_are i;
       families = job_families i;
@@ -403,14 +408,18 @@ job_found text written job is =
       depends = draft.depends_are i;
       sources = draft.sources_are i;
     } in
-    let drafted_in = λ (n : Naming) (version : ℕ) (iso : Option TimeUnit). draft_of text (in_version n version) ds >>= λ x. let r : Found Job = Ok
-    (job_with iso (in_version n version) x) in r in
-    let with_unit = λ (n : Naming) (version : ℕ). iso_of text version written.head >>= λ iso. drafted_in n version iso in
-    binds (naming_of text ds) (λ n. version_of written.head >>= λ version. with_unit n version) n job names.1
-    (binds (version_of written.head) (λ version. with_unit n version) job.version job (version_found written.head job.version is.version)
-    (binds (iso_of text job.version written.head) (λ iso. drafted_in n job.version iso) job.iso job
+    let drafted_in = λ (n : Naming) (version ties : ℕ) (iso : Option TimeUnit). draft_of text (in_version n version) ds >>= λ x. let r : Found Job = Ok
+    (job_with ties iso (in_version n version) x) in r in
+    let with_unit = λ (n : Naming) (version ties : ℕ). iso_of text version written.head >>= λ iso. drafted_in n version ties iso in
+    let with_ties = λ (n : Naming) (version : ℕ). ties_of version written.head >>= λ ties. with_unit n version ties in
+    binds (naming_of text ds) (λ n. version_of written.head >>= λ version. with_ties n version) n job names.1
+    (binds (version_of written.head) (λ version. with_ties n version) job.version job (version_found written.head job.version is.version)
+    (binds (ties_of job.version written.head) (λ ties. with_unit n job.version ties) job.ties job
+    (ties_found job.version written.head job.ties is.ties)
+    (binds (iso_of text job.version written.head) (λ iso. drafted_in n job.version job.ties iso) job.iso job
     (iso_found text job.version written.head job.iso is.iso)
-    (binds (draft_of text m ds) (λ x. Ok (job_with job.iso m x)) draft.draft job draft.found (ok_ok (job_with job.iso m draft.draft) job same))))
+    (binds (draft_of text m ds) (λ x. Ok (job_with job.ties job.iso m x)) draft.draft job draft.found
+    (ok_ok (job_with job.ties job.iso m draft.draft) job same)))))
 
 -- ---- the whole
 

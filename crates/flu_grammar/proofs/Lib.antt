@@ -22,7 +22,9 @@ pub mod JobSources
 pub mod JobDrafts
 pub mod JobFound
 pub mod Units
+pub mod Ties
 pub mod JobTexts
+pub mod NormalLines
 pub mod NormalForms
 pub mod Utf8
 pub mod Faults

@@ -39,7 +39,7 @@ use Rattle.flu_layout.specs.Lists.{separated, keys_text}
 use Rattle.flu_layout.specs.Spelling.{name_of, inside}
 use Rattle.flu_parse.specs.declared.pieces.WrittenPiece.{WrittenPiece}
 use Rattle.flu_parse.specs.declared.pieces.WrittenPiece.TheVariants as w
-use Rattle.flu_parse.specs.Printing.{op_text, term_text, act_text, guard_text, action_text, iso_text, keyed_text, sort_text, cell_line, item_text}
+use Rattle.flu_parse.specs.Printing.{op_text, term_text, act_text, guard_text, action_text, ties_text, iso_text, keyed_text, sort_text, cell_line, item_text}
 use Rattle.flu_parse.specs.Printing.{value_text, tag_line, kind_name, same_text, depends_line, actions_line, on_line, tag_text, slack_text, source_line}
 use Rattle.flu_parse.specs.Printing.{names_line, name_of_list, by_text}
 use Rattle.flu_grammar.specs.Means.{IfWritten, Under}
@@ -416,8 +416,9 @@ normal_form_is_utf8 bytes job is =
     let ls = listed bytes utf8 (flat_map lists_in ds) job.lists means.lists in
     let names = items (MeansNames bytes) names_line (names_utf8 bytes utf8) (flat_map lists_in ds) job.lists means.lists in
     let ks = kinds bytes utf8 job.version said ds (flat_map (kinds_in bytes) ds) job.kinds (declared bytes utf8 ds) means.kinds in
-    let named = ascii (codes "version 3") refl also unit_ascii job.iso also ascii line_end refl in
-    let third = word (job.version == 3) (codes "version 3" ++ iso_text job.iso ++ line_end) [] named none in
+    let several = word (nat_lt 1 job.ties) (codes " ties " ++ decimal job.ties) [] (ascii (codes " ties ") refl also number job.ties) none in
+    let named = ascii (codes "version 3") refl also several also unit_ascii job.iso also ascii line_end refl in
+    let third = word (job.version == 3) (codes "version 3" ++ ties_text job.ties ++ iso_text job.iso ++ line_end) [] named none in
     let version = word (job.version == 2) (codes "version 2" ++ line_end) _ (ascii (codes "version 2" ++ line_end) refl) third in
     let ons = lines bytes utf8 job.families fs said job.version ds (flat_map (kinds_in bytes) ds) job.kinds ks means.kinds in
     let sources = items (MeansSource bytes (flat_map (kinds_in bytes) ds)) (source_line job.kinds)

@@ -1,5 +1,5 @@
 -- What each fault of a job text says: which rule is broken, and where.
-use Rattle.std.specs.Prelude.{◌≡◌, ◌≢◌, ◌<◌, ◌≤◌, ◌+◌, ◌&&◌, ◌⊎◌, ℕ, Bool, true, false, List, []}
+use Rattle.std.specs.Prelude.{◌≡◌, ◌≢◌, ◌<◌, ◌≤◌, ◌+◌, ◌^◌, ◌&&◌, ◌⊎◌, ℕ, Bool, true, false, List, []}
 use Rattle.std.specs.Prelude.{◌∷◌, ◌++◌, length, sum_by, Option, Some, Err, slice_get, codes, IsTrue}
 use Rattle.std.specs.List.{flat_map}
 use Rattle.std.specs.Str.{IsUtf8}
@@ -26,6 +26,7 @@ use Rattle.flu_syntax.specs.declared.tree.WrittenItem.{WrittenItem}
 use Rattle.flu_syntax.specs.declared.tree.WrittenTag.{WrittenTag}
 use Rattle.flu_syntax.specs.declared.tree.WrittenRelation.{WrittenRelation}
 use Rattle.flu_syntax.specs.declared.tree.WrittenRelation.TheVariants as r
+use Rattle.flu_syntax.specs.declared.tree.WrittenTies.{WrittenTies}
 use Rattle.flu_syntax.specs.declared.tree.WrittenUnit.{WrittenUnit}
 use Rattle.flu_syntax.specs.declared.tree.WrittenHead.{WrittenHead}
 use Rattle.flu_syntax.specs.Tree.{Action, Declaration, Declarations, Cell, Tag, Names, Depends, On, Source, Job as WrittenJob}
@@ -166,6 +167,11 @@ pub data BreaksJob (text : List ℕ) (job : WrittenJob) : JobFault → Type 0 wh
   too_many_depends : 4096 < length (flat_map depends_in job.declarations) → BreaksJob text job (j.OverLimit DependsLimit 4097)
   no_version : (head : WrittenHead) → job.head ≡ Some head → ¬ IsTrue (is_version (written_value head.version.value))
       → BreaksJob text job (j.WrongShape head.version.at)
+  -- only version 3 has a number of rows at one time, and it is from 1 to 2,147,483,648
+  ties_of_older : (head : WrittenHead) (ties : WrittenTies) → job.head ≡ Some head → head.ties ≡ Some ties → written_value head.version.value ≢ 3
+      → BreaksJob text job (j.WrongShape ties.at)
+  no_ties : (head : WrittenHead) (ties : WrittenTies) → job.head ≡ Some head → head.ties ≡ Some ties
+      → (written_value ties.number.value < 1) ⊎ (2 ^ 31 < written_value ties.number.value) → BreaksJob text job (j.WrongShape ties.number.at)
   -- only version 3 has a unit, and it is `seconds`, `milliseconds` or `microseconds`
   unit_of_older : (head : WrittenHead) (unit : WrittenUnit) → job.head ≡ Some head → head.iso ≡ Some unit → written_value head.version.value ≢ 3
       → BreaksJob text job (j.WrongShape unit.at)

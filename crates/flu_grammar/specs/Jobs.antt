@@ -1,5 +1,5 @@
 -- What a job text is, and which job it means: tokens, a job that is written by the grammar, and what each of its declarations says.
-use Rattle.std.specs.Prelude.{◌≡◌, ◌≤◌, ℕ, List, map, length, Option, Some, None, slice_get, IsTrue}
+use Rattle.std.specs.Prelude.{◌≡◌, ◌≤◌, ◌^◌, ℕ, List, map, length, Option, Some, None, slice_get, IsTrue}
 use Rattle.std.specs.List.{flat_map, list_all}
 use Rattle.flu_lemmas.specs.Items.{Pairs}
 use Rattle.flu_model.specs.declared.jobs.Family.{Family}
@@ -14,6 +14,7 @@ use Rattle.flu_model.specs.Texts.{Unit as TimeUnit}
 use Rattle.flu_text.specs.declared.words.Token.{Token}
 use Rattle.flu_text.specs.Grammar.{AreTokens}
 use Rattle.flu_syntax.specs.declared.tree.WrittenBy.{WrittenBy}
+use Rattle.flu_syntax.specs.declared.tree.WrittenTies.{WrittenTies}
 use Rattle.flu_syntax.specs.declared.tree.WrittenUnit.{WrittenUnit}
 use Rattle.flu_syntax.specs.declared.tree.WrittenHead.{WrittenHead}
 use Rattle.flu_syntax.specs.Tree.{Job as WrittenJob, Declaration, Declarations}
@@ -31,6 +32,15 @@ use Rattle.flu_grammar.specs.Sources.{MeansDepend, MeansSource}
 abbrev pub MeansVersion : Option WrittenHead → ℕ → Type 0
 MeansVersion None version = version ≡ 1
 MeansVersion (Some head) version = (version ≡ written_value head.version.value) × IsTrue (is_version version)
+
+-- a number from 1 to 2,147,483,648, in version 3 only, and 1 if none is written
+abbrev pub MeansTies : ℕ → Option WrittenTies → ℕ → Type 0
+MeansTies version None ties = ties ≡ 1
+MeansTies version (Some written) ties = (version ≡ 3) × (ties ≡ written_value written.number.value) × (1 ≤ ties) × (ties ≤ 2 ^ 31)
+
+abbrev pub MeansCount : ℕ → Option WrittenHead → ℕ → Type 0
+MeansCount version None ties = ties ≡ 1
+MeansCount version (Some head) ties = MeansTies version head.ties ties
 
 -- `seconds`, `milliseconds` or `microseconds`, in version 3 only, and none if none is written
 abbrev pub MeansUnit : List ℕ → ℕ → Option WrittenUnit → Option TimeUnit → Type 0
@@ -76,6 +86,7 @@ pub record MeansDeclaredKind (text : List ℕ) (version : ℕ) (families : List 
 -- `on` is of a declared kind and no two are of the same one, and no two sources read the same file.
 pub record MeansJob (text : List ℕ) (written : WrittenJob) (job : Job) : Type 0 where
   pub version : MeansVersion written.head job.version
+  pub ties : MeansCount job.version written.head job.ties
   pub iso : MeansIso text job.version written.head job.iso
   pub allowed : (i : ℕ) (x : Declaration) → slice_get written.declarations i ≡ Some x → IsDeclaredIn text job.version x
   pub own_names : AllDiffer (flat_map (names_in text) written.declarations)

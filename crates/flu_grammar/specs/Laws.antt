@@ -48,11 +48,11 @@ TextsHaveOneJob = (bytes : List ℕ) (a b : Job) → IsJobText bytes a → IsJob
 -- the normal form of a job that keeps the rules is a text of that job, if it is not too long
 abbrev pub NormalFormIsText : Type 0
 NormalFormIsText =
-    (version : ℕ) (iso : Option Unit) (lists : List Numbering) (families : List Family) (kinds : List Kind) (depends : List Depend) (sources : List Source)
-    → KeepsRules version iso lists families kinds depends sources
-    → IsUtf8 (normal_form (job_with version iso lists families kinds depends sources))
-    → length (normal_form (job_with version iso lists families kinds depends sources)) ≤ 1048576
-    → IsJobText (normal_form (job_with version iso lists families kinds depends sources)) (job_with version iso lists families kinds depends sources)
+    (version ties : ℕ) (iso : Option Unit) (lists : List Numbering) (families : List Family) (kinds : List Kind) (depends : List Depend) (sources : List Source)
+    → KeepsRules version ties iso lists families kinds depends sources
+    → IsUtf8 (normal_form (job_with version ties iso lists families kinds depends sources))
+    → length (normal_form (job_with version ties iso lists families kinds depends sources)) ≤ 1048576
+    → IsJobText (normal_form (job_with version ties iso lists families kinds depends sources)) (job_with version ties iso lists families kinds depends sources)
 
 -- and what is printed of a plan that has a text is a text of that plan
 abbrev pub PrintedIsText : Type 0
@@ -61,9 +61,9 @@ PrintedIsText = (p : Program) (plan : List Node) → PlanKeepsRules plan → IsT
 -- the job of a text keeps the rules of the language, wherever the boxes of its expressions are in memory
 abbrev pub JobTextsKeepRules : Type 0
 JobTextsKeepRules =
-    (bytes : List ℕ) (version : ℕ) (iso : Option Unit) (lists : List Numbering) (families : List Family) (kinds : List Kind) (depends : List Depend)
+    (bytes : List ℕ) (version ties : ℕ) (iso : Option Unit) (lists : List Numbering) (families : List Family) (kinds : List Kind) (depends : List Depend)
     (sources : List Source)
-    → IsJobText bytes (job_with version iso lists families kinds depends sources) → KeepsRules version iso lists families kinds depends sources
+    → IsJobText bytes (job_with version ties iso lists families kinds depends sources) → KeepsRules version ties iso lists families kinds depends sources
 
 -- the normal form of the job of a text has at most 25 MiB
 abbrev pub NormalFormIsShort : Type 0

@@ -29,7 +29,9 @@ pub fn push_reason(
     row: Option<&str>,
 ) -> Result<(), AllocError> {
     match why {
-        Why::Disordered { last, got } => push_lateness(alloc, told, last, got),
+        Why::Disordered { last, got } => {
+            push_lateness(alloc, told, program.version == 3, last, got)
+        }
         Why::Unclosed => push_line(told, "the last line of a source is: end"),
         Why::AfterEnd => push_line(told, "only blank lines may follow the line: end"),
         Why::UnknownTag => push_tags(alloc, told, program, source),
@@ -41,6 +43,9 @@ pub fn push_reason(
             Some(reason) => push_line(told, reason),
             None => Ok(()),
         },
+        Why::TooMany { count } if program.version == 3 && count == u64::from(program.ties) + 1 => {
+            push_ties(alloc, told, program.ties)
+        }
         Why::TooMany { count } if count == TOO_MANY_TO_HOLD => push_line(
             told,
             "at most 16777216 events and heartbeats fit into memory; flumina run reads in rounds and has no such limit",
@@ -49,8 +54,14 @@ pub fn push_reason(
     }
 }
 
-// Appends how late a row is after the greatest time so far, and the slack with which it would not be.
-fn push_lateness(alloc: Global, told: &mut String, last: u64, got: u64) -> Result<(), AllocError> {
+// Appends how late a row is after the greatest time so far, and the slack with which it would not be, where rows may have one time or not.
+fn push_lateness(
+    alloc: Global,
+    told: &mut String,
+    several: bool,
+    last: u64,
+    got: u64,
+) -> Result<(), AllocError> {
     let late = last.saturating_sub(got);
     if late == 0 {
         return push_line(
@@ -58,10 +69,17 @@ fn push_lateness(alloc: Global, told: &mut String, last: u64, got: u64) -> Resul
             "an earlier row of this source has the same time; times of a source are all different",
         );
     }
-    let slack = late.saturating_add(1);
+    let (slack, unless) = if several {
+        (late, "")
+    } else {
+        (
+            late.saturating_add(1),
+            ", unless an earlier row has its time",
+        )
+    };
     let advice = if slack <= GREATEST_SLACK {
         format!(in alloc;
-            "the row is late by {late}: slack {slack} on the source takes it, unless an earlier row has its time"
+            "the row is late by {late}: slack {slack} on the source takes it{unless}"
         )?
     } else {
         format!(in alloc;
@@ -69,6 +87,15 @@ fn push_lateness(alloc: Global, told: &mut String, last: u64, got: u64) -> Resul
         )?
     };
     push_line(told, advice.as_str())
+}
+
+// Appends how many rows of a source may have one time, and where a job says so.
+fn push_ties(alloc: Global, told: &mut String, ties: u32) -> Result<(), AllocError> {
+    let rows = if ties == 1 { "row" } else { "rows" };
+    let most = format!(in alloc;
+        "at most {ties} {rows} of a source may have one time; the first line of the job says how many, as: version 3 ties 1000"
+    )?;
+    push_line(told, most.as_str())
 }
 
 // Appends the tags that a source lists.

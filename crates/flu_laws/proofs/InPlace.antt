@@ -13,6 +13,7 @@ use Rattle.flu_model.specs.declared.modes.Mode.{Mode}
 use Rattle.flu_model.specs.declared.modes.Mode.TheVariants.{None as NoMode, Add as AddMode, Raise as RaiseMode, Read as ReadMode, Own}
 use Rattle.flu_model.specs.Contents.{Contents}
 use Rattle.flu_model.specs.Itags.{tag_of_itag}
+use Rattle.flu_model.specs.Moments.{at_its_time}
 use Rattle.flu_model.specs.Texts.{Showing}
 use Rattle.flu_model.specs.Updates.{actions_of, showing_of}
 use Rattle.flu_model.specs.Modes.{mode_of, modes_conflict}
@@ -61,7 +62,7 @@ last_of p c m w (q ∷ after) go =
     let g : Tag = tag_of_itag p m.event.itag in
     let h : Tag = tag_of_itag p q.event.itag in
     swap_by (showing_of p g.kind) (showing_of p h.kind) p.families (mode_of p g c) (mode_of p h c) (actions_of (slice_get p.kinds g.kind))
-    (actions_of (slice_get p.kinds h.kind)) m.before q.before m.event q.event g.key h.key c w go.0
+    (actions_of (slice_get p.kinds h.kind)) m.before q.before (at_its_time p m.event) (at_its_time p q.event) g.key h.key c w go.0
     )
 
 inserted : (p : Program) (c : Cell) (m : Moment) (w : Option Worth) (before after : List Moment) → AllByRecursion (GoesWith p c m.event) after

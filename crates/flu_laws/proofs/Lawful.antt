@@ -11,6 +11,7 @@ use Rattle.flu_model.specs.declared.modes.Mode.{Mode}
 use Rattle.flu_model.specs.declared.modes.Mode.TheVariants.{None as NoMode, Add as AddMode, Raise as RaiseMode, Read as ReadMode, Own}
 use Rattle.flu_model.specs.Contents.{Contents, added, joined_worth}
 use Rattle.flu_model.specs.Itags.{tag_of_itag, is_dependent}
+use Rattle.flu_model.specs.Moments.{at_its_time}
 use Rattle.flu_model.specs.Updates.{effect_of, actions_of, showing_of}
 use Rattle.flu_model.specs.Rules.{has_sort}
 use Rattle.flu_model.specs.Modes.{mode_of, modes_conflict, IsAccepted}
@@ -46,21 +47,21 @@ raised_sort p t c e =
 -- and what it mixes into a neutral one is what this may hold
 pub added_may : (p : Program) (s : Contents) (x : Event) (c : Cell) → mode_at p x c ≡ AddMode
     → (let g : Tag = tag_of_itag p x.itag in MayHold p.families c
-    (added None (amount_added (showing_of p g.kind) p.families (actions_of (slice_get p.kinds g.kind)) s x g.key c)))
+    (added None (amount_added (showing_of p g.kind) p.families (actions_of (slice_get p.kinds g.kind)) s (at_its_time p x) g.key c)))
 added_may p s x c e =
     let g : Tag = tag_of_itag p x.itag in
     let found = found_fits p.families p.kinds g.kind p.kinds_fit in
-    amount_may (showing_of p g.kind) p.families found.0 found.1.0 x g.key c (key_in_range p x.itag) (actions_of (slice_get p.kinds g.kind)) s found.1.1
-    (added_sort p g c e)
+    amount_may (showing_of p g.kind) p.families found.0 found.1.0 (at_its_time p x) g.key c (key_in_range p x.itag)
+    (actions_of (slice_get p.kinds g.kind)) s found.1.1 (added_sort p g c e)
 
 pub raised_may : (p : Program) (s : Contents) (x : Event) (c : Cell) → mode_at p x c ≡ RaiseMode
     → (let g : Tag = tag_of_itag p x.itag in MayHold p.families c
-    (applied (reach (level_reached (showing_of p g.kind) p.families (actions_of (slice_get p.kinds g.kind)) s x g.key c)) None))
+    (applied (reach (level_reached (showing_of p g.kind) p.families (actions_of (slice_get p.kinds g.kind)) s (at_its_time p x) g.key c)) None))
 raised_may p s x c e =
     let g : Tag = tag_of_itag p x.itag in
     let found = found_fits p.families p.kinds g.kind p.kinds_fit in
-    level_may (showing_of p g.kind) p.families found.0 found.1.0 x g.key c (key_in_range p x.itag) (actions_of (slice_get p.kinds g.kind)) s found.1.1
-    (raised_sort p g c e)
+    level_may (showing_of p g.kind) p.families found.0 found.1.0 (at_its_time p x) g.key c (key_in_range p x.itag)
+    (actions_of (slice_get p.kinds g.kind)) s found.1.1 (raised_sort p g c e)
 
 -- ---- acceptance
 accepted_uses : (p : Program) → IsAccepted p → UsesAreDependent p
@@ -138,7 +139,7 @@ next_leaves : (p : Program) (s : Contents) (x : Event) (c : Cell) → writes (mo
 next_leaves p s x c quiet =
     let g : Tag = tag_of_itag p x.itag in
     let idle = quiet_among p.version (actions_of (slice_get p.kinds g.kind)) g.key c quiet in
-    keeps (showing_of p g.kind) p.families x g.key c (actions_of (slice_get p.kinds g.kind)) s idle.0 idle.1 idle.2
+    keeps (showing_of p g.kind) p.families (at_its_time p x) g.key c (actions_of (slice_get p.kinds g.kind)) s idle.0 idle.1 idle.2
 
 -- ---- changes of one cell
 pub changes_keep_sorts : ChangesKeepSorts
@@ -146,16 +147,16 @@ changes_keep_sorts p s x c w sorted holds = at_mode (mode_at p x c) refl
   where
     at_mode : (m : Mode) → mode_at p x c ≡ m
         → (let g : Tag = tag_of_itag p x.itag in MayHold p.families c
-        (applied (change_by (showing_of p g.kind) p.families m (actions_of (slice_get p.kinds g.kind)) s x g.key c) w))
+        (applied (change_by (showing_of p g.kind) p.families m (actions_of (slice_get p.kinds g.kind)) s (at_its_time p x) g.key c) w))
     at_mode NoMode e = holds
     at_mode AddMode e =
         let g : Tag = tag_of_itag p x.itag in
-        let n : ℤ = amount_added (showing_of p g.kind) p.families (actions_of (slice_get p.kinds g.kind)) s x g.key c in
+        let n : ℤ = amount_added (showing_of p g.kind) p.families (actions_of (slice_get p.kinds g.kind)) s (at_its_time p x) g.key c in
         subst (MayHold p.families c) (sym (added-mixes w n (holds_sort p.families c SumSort w (added_sort p g c e) holds)))
         (joined_family p.families c w (added None n) holds (added_may p s x c e))
     at_mode RaiseMode e =
         let g : Tag = tag_of_itag p x.itag in
-        let l : Option ℤ = level_reached (showing_of p g.kind) p.families (actions_of (slice_get p.kinds g.kind)) s x g.key c in
+        let l : Option ℤ = level_reached (showing_of p g.kind) p.families (actions_of (slice_get p.kinds g.kind)) s (at_its_time p x) g.key c in
         subst (MayHold p.families c) (sym (reach_mixes l w (holds_sort p.families c MaxSort w (raised_sort p g c e) holds)))
         (joined_family p.families c w (applied (reach l) None) holds (raised_may p s x c e))
     at_mode ReadMode e = holds
@@ -166,15 +167,15 @@ changes_mix p s x c w quiet holds = at_mode (mode_at p x c) refl quiet
   where
     at_mode : (m : Mode) → mode_at p x c ≡ m → needs m ≡ false
         → (let g : Tag = tag_of_itag p x.itag in let h = change_by (showing_of p g.kind) p.families m
-        (actions_of (slice_get p.kinds g.kind)) s x g.key c in applied h w ≡ joined_worth w (applied h None))
+        (actions_of (slice_get p.kinds g.kind)) s (at_its_time p x) g.key c in applied h w ≡ joined_worth w (applied h None))
     at_mode NoMode e q = sym (joined-none w)
     at_mode AddMode e q =
         let g : Tag = tag_of_itag p x.itag in
-        added-mixes w (amount_added (showing_of p g.kind) p.families (actions_of (slice_get p.kinds g.kind)) s x g.key c)
+        added-mixes w (amount_added (showing_of p g.kind) p.families (actions_of (slice_get p.kinds g.kind)) s (at_its_time p x) g.key c)
         (holds_sort p.families c SumSort w (added_sort p g c e) holds)
     at_mode RaiseMode e q =
         let g : Tag = tag_of_itag p x.itag in
-        reach_mixes (level_reached (showing_of p g.kind) p.families (actions_of (slice_get p.kinds g.kind)) s x g.key c) w
+        reach_mixes (level_reached (showing_of p g.kind) p.families (actions_of (slice_get p.kinds g.kind)) s (at_its_time p x) g.key c) w
         (holds_sort p.families c MaxSort w (raised_sort p g c e) holds)
     at_mode ReadMode e q = cc
     at_mode Own e q = cc
@@ -195,7 +196,7 @@ amount_holds p s x c mix = at_mode (mode_at p x c) refl mix
   where
     at_mode : (m : Mode) → mode_at p x c ≡ m → mixes m ≡ true
         → (let g : Tag = tag_of_itag p x.itag in MayHold p.families c
-        (applied (change_by (showing_of p g.kind) p.families m (actions_of (slice_get p.kinds g.kind)) s x g.key c) None))
+        (applied (change_by (showing_of p g.kind) p.families m (actions_of (slice_get p.kinds g.kind)) s (at_its_time p x) g.key c) None))
     at_mode NoMode e h = cc
     at_mode AddMode e h = added_may p s x c e
     at_mode RaiseMode e h = raised_may p s x c e

@@ -10,6 +10,7 @@ use Rattle.flu_model.specs.declared.events.Tag.{Tag}
 use Rattle.flu_model.specs.declared.jobs.Program.{Program}
 use Rattle.flu_model.specs.Contents.{Contents, joined_worth}
 use Rattle.flu_model.specs.Itags.{count_of_itags, tag_of_itag, source_of_itag, is_dependent, itags}
+use Rattle.flu_model.specs.Moments.{at_its_time}
 use Rattle.flu_model.specs.Listing.{tag}
 use Rattle.std.proofs.lemmas.List.Elements.{Contains-get_or}
 use Rattle.flu_model.specs.Updates.{actions_of, showing_of}
@@ -30,14 +31,14 @@ pub left_law : (p : Program) → UpdatesLeft p
 left_law p s t x left right in_range n =
     let g : Tag = tag_of_itag p x.itag in
     let found = found_fits p.families p.kinds g.kind p.kinds_fit in
-    updates_left p.version (showing_of p g.kind) p.families found.0 found.1.0 x g.key (actions_of (slice_get p.kinds g.kind)) found.1.1 s t
+    updates_left p.version (showing_of p g.kind) p.families found.0 found.1.0 (at_its_time p x) g.key (actions_of (slice_get p.kinds g.kind)) found.1.1 s t
     left right (neutral p x t n)
 
 pub right_law : (p : Program) → UpdatesRight p
 right_law p s t x left right in_range n =
     let g : Tag = tag_of_itag p x.itag in
     let found = found_fits p.families p.kinds g.kind p.kinds_fit in
-    updates_right p.version (showing_of p g.kind) p.families found.0 found.1.0 x g.key (actions_of (slice_get p.kinds g.kind)) found.1.1 s t
+    updates_right p.version (showing_of p g.kind) p.families found.0 found.1.0 (at_its_time p x) g.key (actions_of (slice_get p.kinds g.kind)) found.1.1 s t
     left right (neutral p x s n)
 
 in_universe : (p : Program) (x : Event) → x.itag.0 < count_of_itags p → IsInUniverse p (tag_of_itag p x.itag)
@@ -58,13 +59,13 @@ commuting_law p accepted s x y sorted in_x in_y independent =
     let one = found_fits p.families p.kinds g.kind p.kinds_fit in
     let two = found_fits p.families p.kinds h.kind p.kinds_fit in
     let apart : (c : Cell) → modes_conflict (mode_of p g c) (mode_of p h c) ≡ false = no_conflict p x y accepted in_x in_y independent in (
-      cells_commute p.version (showing_of p g.kind) (showing_of p h.kind) p.families one.0 one.1.0 two.0 two.1.0 x y g.key h.key
+      cells_commute p.version (showing_of p g.kind) (showing_of p h.kind) p.families one.0 one.1.0 two.0 two.1.0 (at_its_time p x) (at_its_time p y) g.key h.key
           (actions_of (slice_get p.kinds g.kind))
           (actions_of (slice_get p.kinds h.kind)) one.1.1 two.1.1 apart s sorted,
-      texts_second p.version (showing_of p g.kind) (showing_of p h.kind) p.families one.0 one.1.0 two.0 two.1.0 x y g.key h.key
+      texts_second p.version (showing_of p g.kind) (showing_of p h.kind) p.families one.0 one.1.0 two.0 two.1.0 (at_its_time p x) (at_its_time p y) g.key h.key
           (actions_of (slice_get p.kinds g.kind))
           (actions_of (slice_get p.kinds h.kind)) one.1.1 two.1.1 apart s sorted,
-      texts_first p.version (showing_of p g.kind) (showing_of p h.kind) p.families one.0 one.1.0 two.0 two.1.0 x y g.key h.key
+      texts_first p.version (showing_of p g.kind) (showing_of p h.kind) p.families one.0 one.1.0 two.0 two.1.0 (at_its_time p x) (at_its_time p y) g.key h.key
           (actions_of (slice_get p.kinds g.kind))
           (actions_of (slice_get p.kinds h.kind)) one.1.1 two.1.1 apart s sorted,
     )

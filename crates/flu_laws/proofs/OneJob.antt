@@ -26,7 +26,7 @@ use Rattle.flu_model.specs.Rules.{kind_is_keyed}
 use Rattle.flu_model.specs.Updates.{Effect, effect_of}
 use Rattle.flu_model.specs.Validity.{IsValid}
 use Rattle.flu_laws.specs.OneJob.{HaveTheSameItags, DoTheSame, AreAcceptedAlike, HaveTheSameOwners, ReportTheSame}
-use Rattle.flu_laws.proofs.PlainEffects.{same_effect}
+use Rattle.flu_laws.proofs.PlainEffects.{same_effect, same_time}
 use Rattle.flu_laws.proofs.PlainModes.{same_mode}
 
 -- ---- what depends on a kind alone without its actions
@@ -78,7 +78,7 @@ module _ (p q : Program) (same : IsSameJob p q) where
   effects = λ i s x. same_effect p q s x same i
 
   with_same_texts : outputs_with p ≡ outputs_with q
-  with_same_texts = λ i x texts. outputs_at x.time (same_itags.tags i x.itag) texts
+  with_same_texts = λ i x texts. outputs_at (same_time p q x.time same i) (same_itags.tags i x.itag) texts
 
   same_state : (s : Contents) (xs : List Event) → state_after p s xs ≡ state_after q s xs
   same_state s [] = refl

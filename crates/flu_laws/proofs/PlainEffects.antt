@@ -1,6 +1,6 @@
 -- An event has the same effect for programs of one job.
-use Rattle.std.proofs.Common.{◌≡◌, refl, sym, ap, ◌∙◌, ℕ, ℤ, pos, List, [], ◌∷◌, ◌++◌, Bool, true, map, Option, Some, None}
-use Rattle.std.specs.Prelude.{option_map, slice_get, slice_index_or, not, neg_ℤ, is_some, if◌then◌else◌}
+use Rattle.std.proofs.Common.{◌≡◌, refl, sym, ap, ◌∙◌, ℕ, ℤ, pos, List, [], ◌∷◌, ◌++◌, Bool, true, map, length, Option, Some, None}
+use Rattle.std.specs.Prelude.{◌*◌, ◌/◌, ◌==◌, max, option_map, slice_get, slice_index_or, not, neg_ℤ, is_some, if◌then◌else◌}
 use Rattle.std.proofs.lemmas.Option.{slice_get-map}
 use Rattle.flu_model.specs.declared.events.Event.{Event}
 use Rattle.flu_model.specs.declared.events.Itag.{Itag}
@@ -21,6 +21,7 @@ use Rattle.flu_model.specs.Erasure.{term_of, PlainAct, Adding, Raising, Setting,
 use Rattle.flu_model.specs.Erasure.{plain_action, PlainKind, plain_kind, Job, job_of, IsSameJob}
 use Rattle.flu_model.specs.Expressions.{cell_of, item_of, clamped, as_number, is_true, result_of, value_of_expr}
 use Rattle.flu_model.specs.Listing.{tag, itags_of_sources}
+use Rattle.flu_model.specs.Moments.{at_its_time, time_of_moment}
 use Rattle.flu_model.specs.Texts.{Showing, pieces_text}
 use Rattle.flu_model.specs.Updates.{Effect, changes_to, effect_of_act, passes_guard, effect_of_action, effect_of_actions, actions_of, effect_of}
 use Rattle.flu_model.specs.Updates.{list_of_kind, showing_of, with_keys}
@@ -150,20 +151,36 @@ showing-plain p kind =
     ap (λ items. record { iso = p.iso; lists = p.lists; items = items; keys = None })
     (list-plain (slice_get p.kinds kind) ∙ ap list_of_plain_kind (sym (slice_get-map plain_kind p.kinds kind)))
 
+-- the time of a moment, and an event at its time
+time_in : Job → ℕ → ℕ
+time_in j m = m / (if j.version == 3 then max 1 (length j.sources) * j.ties else 1)
+
+event_in : Job → Event → Event
+event_in j x = record { time = time_in j x.time; itag = x.itag; item = x.item; value = x.value }
+
 plain_effect : Job → Contents → Event → Effect
 plain_effect j s x =
     effect_of_plain_actions (showing_at j (tag_at j.sources x.itag).kind) j.families (plain_actions_of (slice_get j.kinds (tag_at j.sources x.itag).kind))
-    s x (tag_at j.sources x.itag).key
+    s (event_in j x) (tag_at j.sources x.itag).key
 
 effect-plain : (p : Program) (s : Contents) (x : Event) → effect_of p s x ≡ plain_effect (job_of p) s x
-unfolding plain_effect
+unfolding plain_effect event_in time_in
 effect-plain p s x =
     let t = tag_at p.sources x.itag in
     let shown = showing_at (job_of p) t.kind in
-    ap (λ show. effect_of_actions show p.families (actions_of (slice_get p.kinds t.kind)) s x t.key) (showing-plain p t.kind)
-    ∙ actions-plain shown p.families (actions_of (slice_get p.kinds t.kind)) s x t.key
-    ∙ ap (λ all. effect_of_plain_actions shown p.families all s x t.key)
+    let y = at_its_time p x in
+    ap (λ show. effect_of_actions show p.families (actions_of (slice_get p.kinds t.kind)) s y t.key) (showing-plain p t.kind)
+    ∙ actions-plain shown p.families (actions_of (slice_get p.kinds t.kind)) s y t.key
+    ∙ ap (λ all. effect_of_plain_actions shown p.families all s y t.key)
     (kind-plain (slice_get p.kinds t.kind) ∙ ap plain_actions_of (sym (slice_get-map plain_kind p.kinds t.kind)))
 
 pub same_effect : (p q : Program) (s : Contents) (x : Event) → IsSameJob p q → effect_of p s x ≡ effect_of q s x
 same_effect p q s x same = effect-plain p s x ∙ (ap (λ (j : Job). plain_effect j s x) same ∙ sym (effect-plain q s x))
+
+-- and a moment has the same time
+time-plain : (p : Program) (m : ℕ) → time_of_moment p m ≡ time_in (job_of p) m
+unfolding time_in
+time-plain p m = refl
+
+pub same_time : (p q : Program) (m : ℕ) → IsSameJob p q → time_of_moment p m ≡ time_of_moment q m
+same_time p q m same = time-plain p m ∙ (ap (λ (j : Job). time_in j m) same ∙ sym (time-plain q m))

@@ -15,6 +15,7 @@ use Rattle.flu_model.specs.declared.modes.Mode.{Mode}
 use Rattle.flu_model.specs.declared.modes.Mode.TheVariants.{None as NoMode, Add as AddMode, Raise as RaiseMode, Read as ReadMode, Own}
 use Rattle.flu_model.specs.Contents.{joined_worth, added, raised}
 use Rattle.flu_model.specs.Itags.{tag_of_itag}
+use Rattle.flu_model.specs.Moments.{at_its_time}
 use Rattle.flu_model.specs.Rules.{has_sort}
 use Rattle.flu_model.specs.Updates.{actions_of, showing_of}
 use Rattle.flu_model.specs.Sorts.{MayHold}
@@ -75,12 +76,12 @@ is_mix p c m quiet = at_mode (mode_at p m.event c) refl quiet
 
     at_mode : (n : Mode) → mode_at p m.event c ≡ n → needs n ≡ false
         → (let g : Tag = tag_of_itag p m.event.itag in IsMix p.families c
-        (change_by (showing_of p g.kind) p.families n (actions_of (slice_get p.kinds g.kind)) m.before m.event g.key c))
+        (change_by (showing_of p g.kind) p.families n (actions_of (slice_get p.kinds g.kind)) m.before (at_its_time p m.event) g.key c))
     at_mode NoMode e q = tt
     at_mode AddMode e q = (added_sort p (tag_of_itag p m.event.itag) c e, added_may p m.before m.event c e)
     at_mode RaiseMode e q =
         let g : Tag = tag_of_itag p m.event.itag in
-        reached (level_reached (showing_of p g.kind) p.families (actions_of (slice_get p.kinds g.kind)) m.before m.event g.key c)
+        reached (level_reached (showing_of p g.kind) p.families (actions_of (slice_get p.kinds g.kind)) m.before (at_its_time p m.event) g.key c)
         (raised_sort p g c e, raised_may p m.before m.event c e)
     at_mode ReadMode e q = cc
     at_mode Own e q = cc

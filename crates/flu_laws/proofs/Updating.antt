@@ -10,6 +10,7 @@ use Rattle.flu_model.specs.declared.modes.Mode.TheVariants.{None as NoMode, Add 
 use Rattle.flu_model.specs.Contents.{Contents}
 use Rattle.flu_model.specs.Folding.{state_after}
 use Rattle.flu_model.specs.Itags.{tag_of_itag}
+use Rattle.flu_model.specs.Moments.{at_its_time}
 use Rattle.flu_model.specs.Merging.{merged}
 use Rattle.flu_model.specs.Sorts.{IsStateOf}
 use Rattle.flu_model.specs.Updates.{actions_of, effect_of, showing_of}
@@ -27,41 +28,47 @@ pub texts_are_local : TextsAreLocal
 texts_are_local p s t x same =
     let g : Tag = tag_of_itag p x.itag in
     let found = found_fits p.families p.kinds g.kind p.kinds_fit in
-    texts-agree (showing_of p g.kind) p.families found.0 found.1.0 x g.key (actions_of (slice_get p.kinds g.kind)) s t found.1.1 (agree_on_needs p x s t same)
+    texts-agree (showing_of p g.kind) p.families found.0 found.1.0 (at_its_time p x) g.key
+    (actions_of (slice_get p.kinds g.kind)) s t found.1.1 (agree_on_needs p x s t same)
 
 pub cells_are_local : CellsAreLocal
 cells_are_local p s t x c same here =
     let g : Tag = tag_of_itag p x.itag in
-    cells-agree (showing_of p g.kind) p.families false false x g.key (actions_of (slice_get p.kinds g.kind)) s t (agree_on_needs p x s t same) c here
+    cells-agree (showing_of p g.kind) p.families false false (at_its_time p x) g.key
+    (actions_of (slice_get p.kinds g.kind)) s t (agree_on_needs p x s t same) c here
 
 pub changes_are_local : ChangesAreLocal
 changes_are_local p s t x c same = at_mode (mode_at p x c) refl
   where
     at_mode : (m : Mode) → mode_at p x c ≡ m
         → (let g : Tag = tag_of_itag p x.itag in let all : List Action = actions_of
-        (slice_get p.kinds g.kind) in change_by (showing_of p g.kind) p.families m all s x g.key c
-        ≡ change_by (showing_of p g.kind) p.families m all t x g.key c)
+        (slice_get p.kinds g.kind) in change_by (showing_of p g.kind) p.families m all s (at_its_time p x) g.key c
+        ≡ change_by (showing_of p g.kind) p.families m all t (at_its_time p x) g.key c)
     at_mode NoMode e = refl
     at_mode ReadMode e = refl
     at_mode AddMode e =
         let g : Tag = tag_of_itag p x.itag in
-        ap Gain (amount-agree (showing_of p g.kind) p.families false false x g.key (actions_of (slice_get p.kinds g.kind)) s t c (agree_on_needs p x s t same))
+        ap Gain (amount-agree (showing_of p g.kind) p.families false false (at_its_time p x) g.key
+        (actions_of (slice_get p.kinds g.kind)) s t c (agree_on_needs p x s t same))
     at_mode RaiseMode e =
         let g : Tag = tag_of_itag p x.itag in
-        ap reach (level-agree (showing_of p g.kind) p.families false false x g.key (actions_of (slice_get p.kinds g.kind)) s t c (agree_on_needs p x s t same))
+        ap reach (level-agree (showing_of p g.kind) p.families false false (at_its_time p x) g.key
+        (actions_of (slice_get p.kinds g.kind)) s t c (agree_on_needs p x s t same))
     at_mode Own e = ap Put (cells_are_local p s t x c same (same c (ap needs e)))
 
 pub updates_are_changes : UpdatesAreChanges
 updates_are_changes p s x c sorted =
     let g : Tag = tag_of_itag p x.itag in
     let found = found_fits p.families p.kinds g.kind p.kinds_fit in
-    step p.version (showing_of p g.kind) p.families found.0 found.1.0 x g.key (actions_of (slice_get p.kinds g.kind)) found.1.1 s s sorted (λ d o. refl) c
+    step p.version (showing_of p g.kind) p.families found.0 found.1.0 (at_its_time p x) g.key
+    (actions_of (slice_get p.kinds g.kind)) found.1.1 s s sorted (λ d o. refl) c
 
 pub keeps_sorts : KeepsSorts
 keeps_sorts p s x sorted =
     let g : Tag = tag_of_itag p x.itag in
     let found = found_fits p.families p.kinds g.kind p.kinds_fit in
-    actions_keep (showing_of p g.kind) p.families found.0 found.1.0 x g.key (key_in_range p x.itag) (actions_of (slice_get p.kinds g.kind)) s found.1.1 sorted
+    actions_keep (showing_of p g.kind) p.families found.0 found.1.0 (at_its_time p x) g.key (key_in_range p x.itag)
+    (actions_of (slice_get p.kinds g.kind)) s found.1.1 sorted
 
 after_keeps : (p : Program) (s : Contents) (xs : List Event) → IsStateOf p.families s → IsStateOf p.families (state_after p s xs)
 after_keeps p s [] sorted = sorted
@@ -74,7 +81,8 @@ pub unwritten_keeps : UnwrittenKeeps
 unwritten_keeps p s x c quiet = at_mode (mode_at p x c) quiet
   where
     at_mode : (m : Mode) → writes m ≡ false
-        → (let g : Tag = tag_of_itag p x.itag in change_by (showing_of p g.kind) p.families m (actions_of (slice_get p.kinds g.kind)) s x g.key c ≡ Keep)
+        → (let g : Tag = tag_of_itag p x.itag in
+        change_by (showing_of p g.kind) p.families m (actions_of (slice_get p.kinds g.kind)) s (at_its_time p x) g.key c ≡ Keep)
     at_mode NoMode e = refl
     at_mode ReadMode e = refl
     at_mode AddMode e = cc

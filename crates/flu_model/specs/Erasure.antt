@@ -88,6 +88,7 @@ plain_kind k = record {
 -- a job as it is written
 pub record Job : Type 0 where
   pub version : ℕ
+  pub ties : ℕ
   pub iso : Option Unit
   pub lists : List Numbering
   pub families : List Family
@@ -98,6 +99,7 @@ pub record Job : Type 0 where
 abbrev pub job_of : Program → Job
 job_of p = record {
   version = p.version;
+  ties = p.ties;
   iso = p.iso;
   lists = p.lists;
   families = p.families;

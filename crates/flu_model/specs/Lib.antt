@@ -8,6 +8,7 @@ pub mod Itags
 pub mod Rules
 pub mod Versions
 pub mod ListRules
+pub mod Moments
 pub mod Updates
 pub mod Modes
 pub mod Sorts

@@ -1,6 +1,6 @@
 -- What the versions of the language have: items, division, families that are cleared whole, and fields of a flush that name a family
 -- came with version 3. Each is a test, which computes.
-use Rattle.std.specs.Prelude.{ℕ, Bool, true, false, not, ◌==◌, ◌&&◌, ◌||◌, Option, Some, None, List, codes, if◌then◌else◌}
+use Rattle.std.specs.Prelude.{ℕ, ◌^◌, nat_le, Bool, true, false, not, ◌==◌, ◌&&◌, ◌||◌, Option, Some, None, List, codes, if◌then◌else◌}
 use Rattle.std.specs.List.{list_all, list_any}
 use Rattle.flu_calendar.specs.declared.unit.Unit.{Unit}
 use Rattle.flu_model.specs.declared.jobs.Family.{Family}
@@ -136,6 +136,10 @@ is_named_item f = is_same_text f.name (codes "item")
 abbrev pub fit_version : ℕ → List Family → List Kind → Bool
 fit_version version families kinds =
     list_all items_fit kinds && (if version == 3 then not (list_any is_named_item families) else list_all is_older_kind kinds)
+
+-- several rows of a source at one time came with version 3
+abbrev pub ties_fit : ℕ → ℕ → Bool
+ties_fit version ties = nat_le 1 ties && nat_le ties (2 ^ 31) && (version == 3 || ties == 1)
 
 -- times as text came with version 3
 abbrev pub iso_fits : ℕ → Option Unit → Bool

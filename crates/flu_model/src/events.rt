@@ -20,7 +20,8 @@ pub struct Tag {
 #[derive(Clone, Copy, PartialEq, Eq, PartialOrd, Ord, Debug)]
 pub struct Itag(pub u32);
 
-/// An event. Its item is 0 where its kind has no items, and its value is 0 where its kind has none.
+/// An event. Its time is its moment (`docs/MODEL.md`, "Moments"), which before version 3 is the time of its row. Its item is 0 where its kind has
+/// no items, and its value is 0 where its kind has none.
 #[derive(Clone, Copy, PartialEq, Eq, Debug)]
 pub struct Event {
     pub time: u64,

@@ -2,7 +2,7 @@
 
 ghost use Rattle.std.specs.Prelude.{◌≤◌, length, IsTrue};
 ghost use Rattle.flu_model.specs.Listing.{itags_of_sources};
-ghost use Rattle.flu_model.specs.Versions.{fit_version, iso_fits};
+ghost use Rattle.flu_model.specs.Versions.{fit_version, ties_fit, iso_fits};
 ghost use Rattle.flu_model.specs.Rules.{is_version, are_families, are_kinds, are_depends, are_sources, have_own_names, have_own_files};
 ghost use Rattle.flu_model.specs.ListRules.{are_lists, fit_lists};
 
@@ -166,11 +166,13 @@ pub struct Source {
 }
 
 /// A job. Its names, shapes and sizes keep the rules of the language (`docs/LANGUAGE.md`), so no caller can make another. The
-/// version of the language, 1 to 3, says how tags that only read a cell may share it, and whether there are items. With a unit, `iso`,
-/// times count it from 1970-01-01T00:00:00 UTC on: rows may write them as text, and the report and `{time}` show them so.
+/// version of the language, 1 to 3, says how tags that only read a cell may share it, and whether there are items. In version 3 a source may
+/// have up to `ties` rows at one time, from 1 to 2,147,483,648; before it `ties` is 1. With a unit, `iso`, times count it from
+/// 1970-01-01T00:00:00 UTC on: rows may write them as text, and the report and `{time}` show them so.
 #[derive(Drop)]
 pub struct Program {
     pub version: u32,
+    pub ties: u32,
     pub iso: Option<Unit>,
     pub lists: List<NameList>,
     pub families: List<Family>,
@@ -178,6 +180,7 @@ pub struct Program {
     pub depends: List<Depend>,
     pub sources: List<Source>,
     pub ghost known_version: { IsTrue (is_version version) },
+    pub ghost known_ties: { IsTrue (ties_fit version ties) },
     pub ghost known_iso: { IsTrue (iso_fits version iso) },
     pub ghost few_lists: { length lists ≤ 64 },
     pub ghost few_families: { length families ≤ 64 },

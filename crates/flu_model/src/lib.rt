@@ -9,6 +9,7 @@ pub mod laws;
 pub mod limits;
 pub mod lists;
 pub mod modes;
+pub mod moments;
 pub mod names;
 pub mod numbering;
 pub mod plans;
@@ -27,6 +28,7 @@ pub use jobs::{
 pub use limits::{KEY_COUNT, What};
 pub use lists::List;
 pub use modes::Mode;
+pub use moments::{Timing, at_its_time, moments_a_time, time_of_moment, timing_of};
 pub use names::tag_text;
 pub use numbering::{NameList, NameTexts};
 pub use plans::{Node, Plan, Pred, matches};

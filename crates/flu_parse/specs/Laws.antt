@@ -17,12 +17,13 @@ abbrev pub JobsKeepRules : Type 0
 JobsKeepRules =
     (bytes : List ℕ) (job : Job) → job_in bytes ≡ Ok job
     → (kinds : List Kind) → map plain_kind kinds ≡ job.kinds
-    → KeepsRules job.version job.iso job.lists job.families kinds job.depends job.sources
+    → KeepsRules job.version job.ties job.iso job.lists job.families kinds job.depends job.sources
 
 -- a job of these parts
-abbrev pub job_with : ℕ → Option Unit → List Numbering → List Family → List Kind → List Depend → List Source → Job
-job_with version iso lists families kinds depends sources = record {
+abbrev pub job_with : ℕ → ℕ → Option Unit → List Numbering → List Family → List Kind → List Depend → List Source → Job
+job_with version ties iso lists families kinds depends sources = record {
   version = version;
+  ties = ties;
   iso = iso;
   lists = lists;
   families = families;
@@ -34,8 +35,9 @@ job_with version iso lists families kinds depends sources = record {
 -- the normal form of a job that keeps the rules is read as that job, if it is not too long to be read
 abbrev pub PrintedIsRead : Type 0
 PrintedIsRead =
-    (version : ℕ) (iso : Option Unit) (lists : List Numbering) (families : List Family) (kinds : List Kind) (depends : List Depend) (sources : List Source)
-    → KeepsRules version iso lists families kinds depends sources
-    → IsUtf8 (normal_form (job_with version iso lists families kinds depends sources))
-    → length (normal_form (job_with version iso lists families kinds depends sources)) ≤ 1048576
-    → job_in (normal_form (job_with version iso lists families kinds depends sources)) ≡ Ok (job_with version iso lists families kinds depends sources)
+    (version ties : ℕ) (iso : Option Unit) (lists : List Numbering) (families : List Family) (kinds : List Kind) (depends : List Depend) (sources : List Source)
+    → KeepsRules version ties iso lists families kinds depends sources
+    → IsUtf8 (normal_form (job_with version ties iso lists families kinds depends sources))
+    → length (normal_form (job_with version ties iso lists families kinds depends sources)) ≤ 1048576
+    → job_in (normal_form (job_with version ties iso lists families kinds depends sources))
+    ≡ Ok (job_with version ties iso lists families kinds depends sources)

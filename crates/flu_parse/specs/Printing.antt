@@ -79,10 +79,17 @@ abbrev pub iso_text : Option Unit → List ℕ
 iso_text None = []
 iso_text (Some unit) = codes " iso " ++ unit_name unit
 
--- the version of the language, which is 1 if no line says otherwise, and the unit of the times, if there is one
-abbrev pub version_line : ℕ → Option Unit → List ℕ
-version_line version iso =
-    if version == 2 then codes "version 2" ++ line_end else if version == 3 then codes "version 3" ++ iso_text iso ++ line_end else []
+-- how many rows a source may have at one time, if they may be several
+abbrev pub ties_text : ℕ → List ℕ
+ties_text ties = if nat_lt 1 ties then codes " ties " ++ decimal ties else []
+
+-- the version of the language, which is 1 if no line says otherwise, how many rows a source may have at one time, and the unit of the times,
+-- if there is one
+abbrev pub version_line : ℕ → ℕ → Option Unit → List ℕ
+version_line version ties iso =
+    if version == 2 then codes "version 2" ++ line_end
+    else if version == 3 then codes "version 3" ++ ties_text ties ++ iso_text iso ++ line_end
+    else []
 
 abbrev pub names_line : Numbering → List ℕ
 names_line l = codes "names " ++ l.name ++ codes ": " ++ separated (codes ", ") quoted l.texts ++ line_end
@@ -160,7 +167,7 @@ source_line kinds s = source_head s ++ separated (codes ", ") (tag_text kinds) s
 
 abbrev pub normal_form : Job → List ℕ
 normal_form job =
-    version_line job.version job.iso
+    version_line job.version job.ties job.iso
     ++ flat_map names_line job.lists
     ++ flat_map (cell_line job.lists) job.families
     ++ flat_map (tag_line job.lists) job.kinds

@@ -1,5 +1,6 @@
 -- A written job: its names first, then its declarations in order again, token by token.
-use Rattle.std.specs.Prelude.{ℕ, zero, suc, Bool, true, false, not, ◌&&◌, ◌==◌, if◌then◌else◌, List, [], ◌∷◌, ◌++◌, map, Option, Some, None, codes, Ok, Err}
+use Rattle.std.specs.Prelude.{ℕ, zero, suc, ◌^◌, nat_le, Bool, true, false, not, ◌&&◌, ◌==◌, if◌then◌else◌, List, [], ◌∷◌, ◌++◌, map, Option, Some, None}
+use Rattle.std.specs.Prelude.{codes, Ok, Err}
 use Rattle.std.specs.List.{list_any}
 use Rattle.std.specs.Str.{bytes_eq}
 use Rattle.flu_model.specs.declared.jobs.Depend.{Depend}
@@ -16,6 +17,7 @@ use Rattle.flu_syntax.specs.declared.tree.WrittenCells.{WrittenCells}
 use Rattle.flu_syntax.specs.declared.tree.WrittenItem.{WrittenItem}
 use Rattle.flu_syntax.specs.declared.tree.WrittenRelation.{WrittenRelation}
 use Rattle.flu_syntax.specs.declared.tree.WrittenRelation.TheVariants as r
+use Rattle.flu_syntax.specs.declared.tree.WrittenTies.{WrittenTies}
 use Rattle.flu_syntax.specs.declared.tree.WrittenUnit.{WrittenUnit}
 use Rattle.flu_syntax.specs.declared.tree.WrittenHead.{WrittenHead}
 use Rattle.flu_syntax.specs.Tree.{Action, Declaration}
@@ -163,6 +165,18 @@ version_of (Some head) = do
   unless (is_version (written_value head.version.value)) (f.WrongShape head.version.at)
   Ok (written_value head.version.value)
 
+-- how many rows a source may have at one time: 1 if no number is written; only version 3 has more
+abbrev pub ties_counted : ℕ → Option WrittenTies → Found ℕ
+ties_counted version None = Ok 1
+ties_counted version (Some ties) = do
+  unless (version == 3) (f.WrongShape ties.at)
+  unless (nat_le 1 (written_value ties.number.value) && nat_le (written_value ties.number.value) (2 ^ 31)) (f.WrongShape ties.number.at)
+  Ok (written_value ties.number.value)
+
+abbrev pub ties_of : ℕ → Option WrittenHead → Found ℕ
+ties_of version None = Ok 1
+ties_of version (Some head) = ties_counted version head.ties
+
 -- the unit that has this name
 abbrev pub unit_named : List ℕ → Option TimeUnit
 unit_named name =
@@ -186,9 +200,10 @@ abbrev pub iso_of : List ℕ → ℕ → Option WrittenHead → Found (Option Ti
 iso_of text version None = Ok None
 iso_of text version (Some head) = unit_of text version head.iso
 
-abbrev pub job_with : Option TimeUnit → Naming → Drafted → Job
-job_with iso n d = record {
+abbrev pub job_with : ℕ → Option TimeUnit → Naming → Drafted → Job
+job_with ties iso n d = record {
   version = n.version;
+  ties = ties;
   iso = iso;
   lists = d.lists;
   families = listed_families (families_of n) d.family_lists;
@@ -197,20 +212,23 @@ job_with iso n d = record {
   sources = d.sources;
 }
 
--- The job that is written, or the first fault: the names of all declarations, then the version and the unit, then the declarations again.
+-- The job that is written, or the first fault: the names of all declarations, then the version, the rows at one time and the unit, then the
+-- declarations again.
 unfoldable pub resolved : List ℕ → w.Job → Found Job
 resolved text job = do
   n ← naming_of text job.declarations
   version ← version_of job.head
+  ties ← ties_of version job.head
   iso ← iso_of text version job.head
   let m = in_version n version
   d ← draft_of text m job.declarations
-  Ok (job_with iso m d)
+  Ok (job_with ties iso m d)
 
 -- the parts of a job as plain data
 abbrev pub job_of_parts : JobParts → Job
 job_of_parts p = record {
   version = p.version;
+  ties = p.ties;
   iso = p.iso;
   lists = p.lists;
   families = p.families;

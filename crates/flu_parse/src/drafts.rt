@@ -27,6 +27,7 @@ pub struct TagList {
 #[derive(Drop)]
 pub struct JobParts {
     pub version: u32,
+    pub ties: u32,
     pub iso: Option<Unit>,
     pub lists: List<NameList>,
     pub families: List<Family>,

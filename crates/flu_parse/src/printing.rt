@@ -7,7 +7,8 @@ ghost use Rattle.flu_model.specs.Erasure.{job_of, plain_kind};
 ghost use Rattle.flu_model.specs.Numberings.{text_at};
 ghost use Rattle.flu_layout.specs.Laid.{quoted};
 ghost use Rattle.flu_layout.specs.Lists.{separated};
-ghost use Rattle.flu_parse.specs.Printing.{iso_text, version_line, names_line, name_of_list, list_name, by_text, sort_text, keyed_text, cell_line, item_text, value_text, tag_line, kind_name, same_text, depends_line};
+ghost use Rattle.flu_parse.specs.Printing.{ties_text, iso_text, version_line, names_line, name_of_list, list_name, by_text, sort_text, keyed_text, cell_line};
+ghost use Rattle.flu_parse.specs.Printing.{item_text, value_text, tag_line, kind_name, same_text, depends_line};
 ghost use Rattle.flu_parse.specs.Printing.{on_line, tag_text, slack_text, source_head, source_line, normal_form};
 ghost use Rattle.flu_parse.specs.Reading.{job_in};
 
@@ -28,14 +29,31 @@ fn iso_text(iso: Option<Unit>) -> &'static str
     }
 }
 
-fn add_version(text: &mut String, version: u32, iso: Option<Unit>) -> Result<(), AllocError>
-    ensures { OnOk result (string_bytes text.new ≡ string_bytes text.old ++ version_line version iso) }
+// Adds how many rows a source may have at one time, if they may be several.
+fn add_ties(text: &mut String, ties: u32) -> Result<(), AllocError>
+    ensures { OnOk result (string_bytes text.new ≡ string_bytes text.old ++ ties_text ties) }
+{
+    if ties > 1 {
+        write!(text, " ties {ties}")?;
+    }
+    Ok(())
+}
+
+fn add_version(
+    text: &mut String,
+    version: u32,
+    ties: u32,
+    iso: Option<Unit>,
+) -> Result<(), AllocError>
+    ensures { OnOk result (string_bytes text.new ≡ string_bytes text.old ++ version_line version ties iso) }
 {
     if version == 2 {
         text.push_str("version 2\n")?;
     } else if version == 3 {
+        text.push_str("version 3")?;
+        add_ties(text, ties)?;
         let iso = iso_text(iso);
-        write!(text, "version 3{iso}\n")?;
+        write!(text, "{iso}\n")?;
     }
     Ok(())
 }
@@ -284,7 +302,7 @@ fn printed(alloc: Global, p: &Program) -> Result<String, AllocError>
     let families = p.families.items();
     let kinds = p.kinds.items();
     let mut text = String::new(alloc);
-    add_version(&mut text, p.version, p.iso)?;
+    add_version(&mut text, p.version, p.ties, p.iso)?;
     add_lists(&mut text, lists)?;
     add_cells(&mut text, lists, families)?;
     add_tags(&mut text, lists, kinds)?;
@@ -294,9 +312,10 @@ fn printed(alloc: Global, p: &Program) -> Result<String, AllocError>
     Ok(text)
 }
 
-/// A job as a text, in normal form (`docs/LANGUAGE.md`): the version if it is not 1 with the unit of the times, lists of names, cells,
-/// tags, `depends`, the actions of the kinds that have some, and sources, each on a line of its own with one blank between words. Each operator is in parentheses
-/// of its own, numbers have no needless zeros, the rate is always there, and the slack if it is not 0.
+/// A job as a text, in normal form (`docs/LANGUAGE.md`): the version if it is not 1, with the rows at one time if they may be several and the
+/// unit of the times if there is one, lists of names, cells, tags, `depends`, the actions of the kinds that have some, and sources, each on a
+/// line of its own with one blank between words. Each operator is in parentheses of its own, numbers have no needless zeros, the rate is
+/// always there, and the slack if it is not 0.
 ///
 /// The text is read as this job again, if it has at most 1,048,576 bytes.
 ///

@@ -83,12 +83,13 @@ fn read_parts(alloc: Global, bytes: &[u8]) -> Result<JobParts, JobFault>
 ///
 /// Then names are checked, in the order of the declarations: [`JobFault::TwiceNamed`] at the second declaration of a name,
 /// [`JobFault::OverLimit`] for a family, kind, source, list or `depends` that is one too many. Then [`JobFault::WrongShape`] at a version
-/// other than 1, 2 and 3, at the word `iso` in versions 1 and 2, and at a unit other than `seconds`, `milliseconds` and `microseconds`,
-/// in this order. At last the declarations are checked again, token by token, where [`JobFault::UnknownName`] comes before
-/// [`JobFault::WrongShape`], that before [`JobFault::OverLimit`], and that before [`JobFault::TwiceNamed`]. So it is with lists of names:
-/// [`JobFault::WrongShape`] at the word `names` and the word `by` in versions 1 and 2; [`JobFault::UnknownName`] at the name behind `by`
-/// where no list has it; and at a text of a list [`JobFault::WrongShape`] where it may not be in one, [`JobFault::OverLimit`] where it is
-/// the 65,537th, and [`JobFault::TwiceNamed`] where it is in the list already. [`JobFault::NoMemory`] if memory runs out.
+/// other than 1, 2 and 3, at the word `ties` in versions 1 and 2, at a number behind it that is not from 1 to 2,147,483,648, at the word
+/// `iso` in versions 1 and 2, and at a unit other than `seconds`, `milliseconds` and `microseconds`, in this order. At last the
+/// declarations are checked again, token by token, where [`JobFault::UnknownName`] comes before [`JobFault::WrongShape`], that before
+/// [`JobFault::OverLimit`], and that before [`JobFault::TwiceNamed`]. So it is with lists of names: [`JobFault::WrongShape`] at the word
+/// `names` and the word `by` in versions 1 and 2; [`JobFault::UnknownName`] at the name behind `by` where no list has it; and at a text of
+/// a list [`JobFault::WrongShape`] where it may not be in one, [`JobFault::OverLimit`] where it is the 65,537th, and
+/// [`JobFault::TwiceNamed`] where it is in the list already. [`JobFault::NoMemory`] if memory runs out.
 pub fn read_job(alloc: Global, bytes: &[u8]) -> Result<Program, JobFault>
     ensures { Gives job_of result (job_in bytes.now) }
 {
@@ -96,6 +97,7 @@ pub fn read_job(alloc: Global, bytes: &[u8]) -> Result<Program, JobFault>
     let parts = read_parts(alloc, bytes)?;
     match program(
         parts.version,
+        parts.ties,
         parts.iso,
         parts.lists,
         parts.families,

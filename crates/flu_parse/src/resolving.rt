@@ -7,7 +7,8 @@ ghost use Rattle.flu_syntax.specs.Tree.{action_of as action_seen, declaration_of
 ghost use Rattle.flu_parse.specs.Faults.{Gives};
 ghost use Rattle.flu_parse.specs.Naming.{naming, in_version};
 ghost use Rattle.flu_parse.specs.Resolving.{drafted, same_of, with_depend, with_actions, with_on, with_source, with_cell, with_tag, with_names, with_declaration, idle_kind};
-ghost use Rattle.flu_parse.specs.Resolving.{cell_name_fits, item_word_fits, first_draft, draft_of, version_of, unit_named, unit_of, iso_of, resolved, job_of_parts};
+ghost use Rattle.flu_parse.specs.Resolving.{cell_name_fits, item_word_fits, first_draft, draft_of, version_of};
+ghost use Rattle.flu_parse.specs.Resolving.{ties_counted, ties_of, unit_named, unit_of, iso_of, resolved, job_of_parts};
 
 use crate::actions::resolved_actions;
 use crate::drafts::{Draft, JobParts};
@@ -21,7 +22,7 @@ use flu_layout::{name_of, written_value};
 use flu_model::{Action, Depend, Kind, List, Name, NameList, Source, Text, Unit};
 use flu_syntax::{
     WrittenAction, WrittenCells, WrittenDeclaration, WrittenHead, WrittenItem, WrittenJob,
-    WrittenNumber, WrittenRelation, WrittenSpan, WrittenTag, WrittenUnit,
+    WrittenNumber, WrittenRelation, WrittenSpan, WrittenTag, WrittenTies, WrittenUnit,
 };
 use std::alloc::{AllocError, Global};
 
@@ -310,6 +311,31 @@ fn version_of(written: &Option<WrittenHead>) -> Result<u32, JobFault>
     }
 }
 
+/// The most rows that a source may have at one time.
+const MOST_TIES: u64 = 2_147_483_648;
+
+fn ties_counted(version: u32, written: Option<WrittenTies>) -> Result<u32, JobFault>
+    ensures { Gives (λ ties. ties) result (ties_counted version written) }
+{
+    let Some(ties) = written else {
+        return Ok(1);
+    };
+    shape_at(version == 3, ties.at)?;
+    let count = written_value(ties.number.value);
+    shape_at(1 <= count && count <= MOST_TIES, ties.number.at)?;
+    Ok(count as u32)
+}
+
+// How many rows a source may have at one time: the number that is written, or 1.
+fn ties_of(version: u32, written: &Option<WrittenHead>) -> Result<u32, JobFault>
+    ensures { Gives (λ ties. ties) result (ties_of version written.now) }
+{
+    match written {
+        None => Ok(1),
+        Some(head) => ties_counted(version, head.ties),
+    }
+}
+
 fn unit_named(name: &str) -> Option<Unit>
     ensures { result ≡ unit_named name.now }
 {
@@ -353,11 +379,11 @@ fn iso_of(text: &str, version: u32, written: &Option<WrittenHead>) -> Result<Opt
 ///
 /// Names are checked first, in the order of the declarations: [`JobFault::TwiceNamed`] at the second declaration of a name,
 /// [`JobFault::OverLimit`] for a family, kind, source, list or `depends` that is one too many. Then [`JobFault::WrongShape`] at a
-/// version other than 1, 2 and 3, at the word `iso` in versions 1 and 2, and at a unit that is none, in this order. Then the
-/// declarations are checked again, token by token, where an unknown name comes before a wrong shape, that before a limit, and that
-/// before what is named twice: in versions 1 and 2 there is a wrong shape at the words `names` and `by`, the name after `by` is of a
-/// list, and a text of a list has a wrong shape, is the 65,537th of its list, or is there already. [`JobFault::NoMemory`] if memory
-/// runs out.
+/// version other than 1, 2 and 3, at the word `ties` in versions 1 and 2, at a number behind it that is not from 1 to 2,147,483,648, at
+/// the word `iso` in versions 1 and 2, and at a unit that is none, in this order. Then the declarations are checked again, token by
+/// token, where an unknown name comes before a wrong shape, that before a limit, and that before what is named twice: in versions 1 and
+/// 2 there is a wrong shape at the words `names` and `by`, the name after `by` is of a list, and a text of a list has a wrong shape, is
+/// the 65,537th of its list, or is there already. [`JobFault::NoMemory`] if memory runs out.
 #[tactic(auto, unfolding(crate::specs::Resolving::resolved))]
 pub fn resolve(alloc: Global, text: &str, job: &WrittenJob) -> Result<JobParts, JobFault>
     ensures { Gives job_of_parts result (resolved text.now (job_of job.now)) }
@@ -368,6 +394,7 @@ pub fn resolve(alloc: Global, text: &str, job: &WrittenJob) -> Result<JobParts, 
         Err(fault) => return Err(fault),
     };
     let version = version_of(&job.head)?;
+    let ties = ties_of(version, &job.head)?;
     let iso = iso_of(text, version, &job.head)?;
     names.version = version;
     let draft = draft_of(alloc, text, &names, declarations)?;
@@ -376,6 +403,7 @@ pub fn resolve(alloc: Global, text: &str, job: &WrittenJob) -> Result<JobParts, 
     let kinds = listed_kinds(alloc, draft.kinds, draft.kind_lists.as_slice())?;
     Ok(JobParts {
         version,
+        ties,
         iso,
         lists: List::of(draft.lists),
         families: List::of(families),

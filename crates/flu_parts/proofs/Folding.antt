@@ -116,7 +116,8 @@ module _ (law : Lawful) (p : Program) (nodes : List Node) (job plan : List ℕ) 
       let lists = part_read p nodes whole w in
       subst (λ (bytes : List ℕ). IsPartialOf p nodes bytes w (sent_by p nodes w lists)) (sym at.is)
       (law.are_whole p nodes w lists (law.utf8 job (job_of p) has) (law.has_text p plan nodes ((law.grammar p plan nodes).1 planned))
-      planned.means.rules.own_names at.there (law.size p read) (good_streams w at.good) (law.readable p read)
+      planned.means.rules.own_names at.there (law.size p read) (good_streams w at.good)
+      (law.readable p read (law.defects p (reads p nodes w) whole ∙ at.good))
       (subst (λ (bytes : List ℕ). length bytes ≤ most_bytes) at.is few))
 
   -- bytes are a partial of one node

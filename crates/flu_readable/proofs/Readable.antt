@@ -1,6 +1,6 @@
 -- The rows of files have times and values in range, and there are few of them; so have the lists that they give.
 use Rattle.std.proofs.Common.{◌≡◌, ◌<◌, ◌≤◌, ◌+◌, ◌*◌, ◌-◌, ◌^◌, ℕ, zero, suc, ℤ, pos, Bool, true, false, cond, Option, Some, None, List, []}
-use Rattle.std.proofs.Common.{◌∷◌, ◌++◌, length, map, refl, arith, drop, take}
+use Rattle.std.proofs.Common.{◌∷◌, ◌++◌, length, map, refl, ap, arith, drop, take}
 use lib.Signed.{mag}
 use Rattle.std.specs.Prelude.{◌==◌, ◌&&◌, nat_le, nat_lt, not, neg_ℤ, option_and_then, option_map, slice_index, sum_by, unwrap_or, FitsSigned, codes, IfSome, ⊤}
 use Rattle.std.specs.Char.{is_ascii_digit}
@@ -22,7 +22,9 @@ use Rattle.flu_model.specs.declared.jobs.Kind.{Kind}
 use Rattle.flu_model.specs.declared.jobs.Program.{Program}
 use Rattle.flu_model.specs.declared.jobs.Source.{Source}
 use Rattle.flu_model.specs.Numberings.{Numbering}
+use Rattle.flu_model.specs.declared.moments.Timing.{Timing}
 use Rattle.flu_model.specs.Merging.{events_of, all_events}
+use Rattle.flu_model.specs.Moments.{timing_of}
 use Rattle.flu_outside.specs.Outside.{Contents}
 use Rattle.flu_outside.specs.Taking.{bytes_left}
 use Rattle.flu_partial.specs.Partial.{IsTime}
@@ -37,17 +39,20 @@ use Rattle.flu_rows.specs.declared.rows.Next.{Next}
 use Rattle.flu_rows.specs.Fields.{number_of, time_of, item_of, value_of, tag_of}
 use Rattle.flu_rows.specs.Laws.{TimesAreInRange}
 use Rattle.flu_rows.specs.Lines.{begins_with_mark, line_of, line_of_row, line_of_fields, line_of_one, line_of_records, lines_of}
-use Rattle.flu_rows.specs.Reading.{read_line, read_lines}
+use Rattle.flu_rows.specs.Reading.{read_line, read_lines, read_file}
 use Rattle.flu_rows.specs.Records.{first_record, record_after}
 use Rattle.flu_rows.specs.ItemNames.{items_named, named_item}
 use Rattle.flu_rows.specs.Row.{form_of, number_field, number_fields, named_fields, field_by, fields_by, one_field, two_fields, filled_len}
 use Rattle.flu_rows.specs.Row.{row_of, row_of_two, row_of_three, row_of_four}
 use Rattle.flu_sending.specs.Lines.{times_of, all_times}
 use Rattle.flu_selected.specs.Laws.{LawOfLength}
-use Rattle.flu_streams.specs.Before.{each_with_before}
-use Rattle.flu_streams.specs.Good.{rows_in, event_of, item_in, time_at, items_at, lists_of_rows, lists_of}
+use Rattle.flu_streams.specs.declared.faults.SourceFault.{SourceFault}
+use Rattle.flu_streams.specs.Before.{with_before, or_else, first_some}
+use Rattle.flu_streams.specs.Good.{rows_in, items_held, fault_of_source, event_of, item_in, time_at, at_moments, items_at, lists_of_rows, lists_of}
 use Rattle.flu_streams.specs.Tags.{place_named, given, given_by, given_to, width}
-use Rattle.flu_streams.specs.Tests.{rows_of}
+use Rattle.flu_streams.specs.Tests.{rows_of, times_of as row_times, first_of, first_defect}
+use Rattle.flu_streams.proofs.Moments.{timing_fits}
+use Rattle.flu_streams.proofs.Ranges.{IsLow, moments_low, good_range}
 use Rattle.flu_readable.specs.Laws.{WhatIsReadIsReadable}
 
 -- a number of 64 bits
@@ -358,21 +363,56 @@ lists_right kinds s first rows [] all few = tt
 lists_right kinds s first rows (place ∷ places) all few =
     (list_right kinds s first rows place all few, lists_right kinds s first rows places all few)
 
+-- the same rows at their moments
+right_at : (timing : Timing) (earlier : List ℕ) (rows : List Row) → AllByRecursion IsRight rows → AllByRecursion IsLow (at_moments timing earlier rows)
+    → AllByRecursion IsRight (at_moments timing earlier rows)
+right_at timing earlier [] all low = tt
+right_at timing earlier (Event time name key fields ∷ rows) all low = ((low.0, all.0.1), right_at timing (earlier ++ time ∷ []) rows all.1 low.1)
+right_at timing earlier (Beat time ∷ rows) all low = (low.0, right_at timing (earlier ++ time ∷ []) rows all.1 low.1)
+right_at timing earlier (End ∷ rows) all low = (tt, right_at timing (earlier ++ []) rows all.1 low.1)
+
+length_at : (timing : Timing) (earlier : List ℕ) (rows : List Row) → length (at_moments timing earlier rows) ≡ length rows
+length_at timing earlier [] = refl
+length_at timing earlier (row ∷ rows) = ap suc (length_at timing (earlier ++ row_times (row ∷ [])) rows)
+
+none_first : {X : Type 0} (a b : Option X) → or_else a b ≡ None → (a ≡ None) × (b ≡ None)
+none_first None b e = (refl, e)
+none_first (Some x) b e = cc
+
+none_mapped : {X Y : Type 0} (f : X → Y) (o : Option X) → option_map f o ≡ None → o ≡ None
+none_mapped f None e = refl
+none_mapped f (Some x) e = cc
+
 module _ (times : TimesAreInRange) (p : Program) (left : Contents) where
   abbrev lists_from : List Source × Source → List (List Item)
-  lists_from e = lists_of_rows p.kinds e.1 (sum_by width e.0) (rows_in (form_of (job_of p)) left e.1)
+  lists_from e = lists_of_rows (timing_of p (length e.0)) p.kinds e.1 (sum_by width e.0) (rows_in (form_of (job_of p)) left e.1)
 
-  source_right : (e : List Source × Source) → AllByRecursion IsRightList (lists_from e)
-  source_right e =
+  abbrev fault_in : List Source × Source → Option SourceFault
+  fault_in e = fault_of_source (timing_of p) (form_of (job_of p)) p.kinds left e.0 e.1
+
+  source_right : (e : List Source × Source) → length e.0 < length p.sources → fault_in e ≡ None → AllByRecursion IsRightList (lists_from e)
+  source_right e lt none =
       let form = form_of (job_of p) in
-      let lines = lines_of (bytes_left left e.1.file) in
-      let right = lines_read times form 0 lines (omega arith) in
+      let timing = timing_of p (length e.0) in
+      let bytes = bytes_left left e.1.file in
+      let held = items_held form left e.0 in
+      let rows = rows_in form left e.1 in
+      let right = lines_read times form 0 (lines_of bytes) (omega arith) in
       let few = right.1 in
-      lists_right p.kinds e.1 (sum_by width e.0) (rows_in form left e.1) (range_with_len 0 (width e.1)) right.0 (omega (arith, few))
+      let sound : first_of timing p.kinds e.1 held (read_file form bytes) ≡ None = none_mapped _ (first_defect timing form p.kinds e.1 held bytes) none in
+      let low = moments_low timing (timing_fits p (length e.0) lt) [] rows (good_range timing p.kinds e.1 held (read_file form bytes) sound) in
+      let many = length_at timing [] rows in
+      lists_right p.kinds e.1 (sum_by width e.0) (at_moments timing [] rows) (range_with_len 0 (width e.1)) (right_at timing [] rows right.0 low)
+      (omega (arith, few, many))
 
-  sources_right : (es : List (List Source × Source)) → AllByRecursion IsRightList (flat_map lists_from es)
-  sources_right [] = tt
-  sources_right (e ∷ es) = all_append IsRightList (lists_from e) (flat_map lists_from es) (source_right e) (sources_right es)
+  sources_right : (before sources : List Source) → length before + length sources ≤ length p.sources
+      → first_some fault_in (with_before before sources) ≡ None → AllByRecursion IsRightList (flat_map lists_from (with_before before sources))
+  sources_right before [] few none = tt
+  sources_right before (s ∷ sources) few none =
+      let parts = none_first (fault_in (before, s)) _ none in
+      let past : length (before ++ s ∷ []) ≡ length before + 1 = length-append before (s ∷ []) in
+      all_append IsRightList (lists_from (before, s)) (flat_map lists_from (with_before (before ++ s ∷ []) sources))
+      (source_right (before, s) (omega arith) parts.0) (sources_right (before ++ s ∷ []) sources (omega arith) parts.1)
 
 -- ---- all of them
 times_right : (items : List Item) → AllByRecursion IsRightItem items → AllByRecursion IsTime (times_of items)
@@ -406,9 +446,9 @@ all_few (items ∷ lists) all =
     omega (arith, here, more, whole)
 
 pub read_is_readable : TimesAreInRange → LawOfLength → WhatIsReadIsReadable
-read_is_readable times size p left =
+read_is_readable times size p left good =
     let lists = lists_of p left in
-    let all : AllByRecursion IsRightList lists = sources_right times p left (each_with_before p.sources) in
+    let all : AllByRecursion IsRightList lists = sources_right times p left [] p.sources (omega arith) good in
     let few = all_few lists all in
     let one = size p left in
     let itags = p.few_itags in

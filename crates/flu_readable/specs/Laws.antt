@@ -2,8 +2,8 @@
 use Rattle.flu_model.specs.declared.jobs.Program.{Program}
 use Rattle.flu_outside.specs.Outside.{Contents}
 use Rattle.flu_sending.specs.Laws.{AreReadable}
-use Rattle.flu_streams.specs.Good.{lists_of}
+use Rattle.flu_streams.specs.Good.{AreGood, lists_of}
 
--- WHAT IS READ IS READABLE: whatever files have, the lists of their rows have times below 2^63, values of 64 bits, and fewer than 2^64 events
+-- WHAT IS READ IS READABLE: where no source has a defect, the lists of their rows have moments below 2^63, values of 64 bits, and fewer than 2^64 events
 abbrev pub WhatIsReadIsReadable : Type 0
-WhatIsReadIsReadable = (p : Program) (left : Contents) → AreReadable (lists_of p left)
+WhatIsReadIsReadable = (p : Program) (left : Contents) → AreGood p left → AreReadable (lists_of p left)

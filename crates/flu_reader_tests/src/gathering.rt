@@ -64,8 +64,8 @@ fn gathered(alloc: Global, p: &Program, a: &str, b: &str) -> Result<String, Allo
 
 /// Whether gathering gives this, for the bytes of each two files, which are on both sides of an `&`. In them a slash stands for a line
 /// feed, and a percent sign for a carriage return.
-fn expect_all(rt: &impl Abort, alloc: Global, table: &str) -> Result<(), Fail> {
-    let p = read_job(alloc, JOB.as_bytes())?;
+fn expect_all(rt: &impl Abort, alloc: Global, job: &str, table: &str) -> Result<(), Fail> {
+    let p = read_job(alloc, job.as_bytes())?;
     for line in table.split('\n') {
         let (text, wanted) = case_of(line);
         let text = text.replace(alloc, "/", "\n")?.replace(alloc, "%", "\r")?;
@@ -99,7 +99,7 @@ end & 1,inc,2/end => 1 1 UnknownTag
 
 #[test]
 fn gathers_or_tells_the_first_defect(rt: HostRuntime) -> Result<(), Fail> {
-    expect_all(&rt, rt.alloc(), SOURCES)
+    expect_all(&rt, rt.alloc(), JOB, SOURCES)
 }
 
 #[test]
@@ -121,15 +121,45 @@ fn tells_a_defect_before_a_read_fault(rt: HostRuntime) -> Result<(), Fail> {
     Ok(())
 }
 
+/// A job of two sources that may have two rows at one time; the first has a slack.
+const TIED_JOB: &str =
+    "version 3 ties 2 tag inc int tag tick none source a \"a\" slack 2: inc, tick source b \"b\": tick";
+
+/// Rows at one time, at their moments: of a time the first source has those of four times the time and one more, and the second source the two
+/// after them. A heartbeat counts among the rows of its time; late rows come behind those of their time; one row more than two at a time is too many.
+/// The greatest time is the last one whose moments are below 2^63.
+const TIED: &str =
+    "5,inc,1/5,inc,2/end & 5,tick/6,tick/end => 0:20=1 0:21=2 end |end |2:22=0 2:26=0 end |
+5,inc,1/5,beat/end & end => 0:20=1 beat21 end |beat21 end |end |
+5,inc,1/5,tick/5,inc,3/end & end => 0 3 TooMany { count: 3 }
+5,beat/5,beat/5,beat/end & end => 0 3 TooMany { count: 3 }
+5,inc,1/3,inc,2/5,inc,3/3,tick/end & end => 0:12=2 0:20=1 0:21=3 end |1:13=0 end |end |
+5,inc,1/4,inc,2/3,inc,3/4,inc,4/5,tick/3,beat/end & end => 0:12=3 beat13 0:16=2 0:17=4 0:20=1 end |beat13 1:21=0 end |end |
+5,inc,1/3,inc,2/5,inc,3/3,tick/3,inc,1/end & end => 0 5 TooMany { count: 3 }
+5,inc,1/2,inc,2/end & end => 0 2 Disordered { last: 5, got: 2 }
+end & 5,tick/5,tick/5,tick/end => 1 3 TooMany { count: 3 }
+end & 5,tick/4,tick/end => 1 2 Disordered { last: 5, got: 4 }
+2305843009213693951,inc,1/end & end => 0:9223372036854775804=1 end |end |end |
+2305843009213693952,inc,1/end & end => 0 1 BadRow
+2305843009213693952,nope,1/end & end => 0 1 BadRow";
+
+#[test]
+fn rows_at_one_time_have_their_moments(rt: HostRuntime) -> Result<(), Fail> {
+    let alloc = rt.alloc();
+    expect_all(&rt, alloc, TIED_JOB, TIED)
+}
+
 /// A job whose source lists `ride`, which has items by a list and a value, and `stop`, which has items by another list and none.
 const NAMED_JOB: &str =
     "version 3 names towns: \"harbour\", \"market hall\", \"7\" names lines: \"7\" tag ride item by towns int tag stop item by lines none \
      source a \"a\": ride, stop source b \"b\": stop";
 
-/// Rows with names, and their first defects.
+/// Rows with names, and their first defects. There are two sources, so a row of the first one at a time has the moment of twice the time, and one
+/// of the second the moment after it.
 const NAMED: &str =
-    "1,ride,harbour,5/2,ride,\"market hall\",-7/3,ride,7,1/4,stop,7/end & end => 0:1=0,5 0:2=1,-7 0:3=2,1 end |1:4=0,0 end |end |
-1,ride,7,5/2,stop,\"7\"/end & 3,stop,7/end => 0:1=2,5 end |1:2=0,0 end |2:3=0,0 end |
+    "1,ride,harbour,5/2,ride,\"market hall\",-7/3,ride,7,1/4,stop,7/end & end => 0:2=0,5 0:4=1,-7 0:6=2,1 end |1:8=0,0 end |end |
+1,ride,7,5/2,stop,\"7\"/end & 3,stop,7/end => 0:2=2,5 end |1:4=0,0 end |2:7=0,0 end |
+5,ride,7,5/5,ride,7,5/end & end => 0 2 TooMany { count: 2 }
 1,ride,mill,5/end & end => 0 1 UnknownItem
 1,ride,07,5/end & end => 0 1 UnknownItem
 1,ride,Harbour,5/end & end => 0 1 UnknownItem

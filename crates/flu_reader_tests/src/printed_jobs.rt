@@ -187,6 +187,16 @@ version 3 iso microseconds cell a sum
 version 3 iso microseconds
 cell a sum
 %%
+version 3 ties 0070 iso seconds cell a sum
+-->
+version 3 ties 70 iso seconds
+cell a sum
+%%
+version 3 ties 1 cell ties sum
+-->
+version 3
+cell ties sum
+%%
 version 3 cell hits keyed sum cell mean last
 tag hit item int tag day keyed item none
 on hit: add hits[ item ] value/2%item-1*(7/2);set mean item when has hits[item]

@@ -5,10 +5,12 @@ use Rattle.std.specs.List.{flat_map, AllByRecursion}
 use Rattle.std.proofs.lemmas.Bool.{cases_Bool}
 use Rattle.std.proofs.lemmas.List.Sums.{sum_by-append}
 use Rattle.flu_model.specs.Erasure.{job_of}
+use Rattle.flu_model.specs.Moments.{timing_of}
 use Rattle.flu_lemmas.proofs.Containing.{contains_here, contains_later}
 use Rattle.flu_lemmas.proofs.Elements.{all_push}
 use Rattle.flu_model.specs.declared.jobs.Kind.{Kind}
 use Rattle.flu_model.specs.declared.jobs.Source.{Source}
+use Rattle.flu_model.specs.declared.moments.Timing.{Timing}
 use Rattle.flu_outside.specs.Outside.{Contents}
 use Rattle.flu_rows.specs.declared.row.RowForm.{RowForm}
 use Rattle.flu_rows.specs.Reading.{read_file}
@@ -26,18 +28,18 @@ use Rattle.flu_readers.specs.Laws.{FilesThatAreReadMatter}
 abbrev Alike : Contents → Contents → List Source → Type 0
 Alike a b sources = AllByRecursion (λ (s : Source). a s.file ≡ b s.file) sources
 
-module _ (form : RowForm) (kinds : List Kind) (a b : Contents) where
+module _ (timing : ℕ → Timing) (form : RowForm) (kinds : List Kind) (a b : Contents) where
   rows_alike : (s : Source) → a s.file ≡ b s.file → rows_in form a s ≡ rows_in form b s
   rows_alike s same = ap (λ bytes. rows_of (read_file form (unwrap_or bytes []))) same
 
   lists_alike : (before sources : List Source) → Alike a b sources
-      → flat_map (λ e. lists_of_rows kinds e.1 (sum_by width e.0) (rows_in form a e.1)) (with_before before sources)
-      ≡ flat_map (λ e. lists_of_rows kinds e.1 (sum_by width e.0) (rows_in form b e.1)) (with_before before sources)
+      → flat_map (λ e. lists_of_rows (timing (length e.0)) kinds e.1 (sum_by width e.0) (rows_in form a e.1)) (with_before before sources)
+      ≡ flat_map (λ e. lists_of_rows (timing (length e.0)) kinds e.1 (sum_by width e.0) (rows_in form b e.1)) (with_before before sources)
   lists_alike before [] alike = refl
   lists_alike before (s ∷ sources) alike =
       let rows = rows_alike s alike.0 in
       let more = lists_alike (before ++ s ∷ []) sources alike.1 in
-      λ k. lists_of_rows kinds s (sum_by width before) (rows k) ++ more k
+      λ k. lists_of_rows (timing (length before)) kinds s (sum_by width before) (rows k) ++ more k
 
   held_alike : (sources : List Source) → Alike a b sources → items_held form a sources ≡ items_held form b sources
   held_alike [] alike = refl
@@ -48,15 +50,15 @@ module _ (form : RowForm) (kinds : List Kind) (a b : Contents) where
       ∙ sym (sum_by-append (λ (t : Source). items_of (width t) (rows_in form b t)) (s ∷ []) sources)
 
   fault_alike : (before : List Source) (s : Source) → Alike a b before → a s.file ≡ b s.file
-      → fault_of_source form kinds a before s ≡ fault_of_source form kinds b before s
+      → fault_of_source timing form kinds a before s ≡ fault_of_source timing form kinds b before s
   fault_alike before s alike same =
       let held = held_alike before alike in
       λ k. option_map (λ d. record { source = length before; row = d.0; why = d.1 })
-      (first_defect form kinds s (held k) (unwrap_or (same k) []))
+      (first_defect (timing (length before)) form kinds s (held k) (unwrap_or (same k) []))
 
   faults_alike : (before sources : List Source) → Alike a b before → Alike a b sources
-      → first_some (λ e. fault_of_source form kinds a e.0 e.1) (with_before before sources)
-      ≡ first_some (λ e. fault_of_source form kinds b e.0 e.1) (with_before before sources)
+      → first_some (λ e. fault_of_source timing form kinds a e.0 e.1) (with_before before sources)
+      ≡ first_some (λ e. fault_of_source timing form kinds b e.0 e.1) (with_before before sources)
   faults_alike before [] earlier alike = refl
   faults_alike before (s ∷ sources) earlier alike =
       let here = fault_alike before s earlier alike.0 in
@@ -84,8 +86,8 @@ read_files_matter defects p is_read left other same =
     let alike : Alike (selected p is_read left) (selected p is_read other) p.sources =
     all_alike (selected p is_read left) (selected p is_read other) p.sources
     (λ name there. closed_alike names left other name (λ not_closed. same name (there, not_closed))) in (
-      lists_alike (form_of (job_of p)) p.kinds (selected p is_read left) (selected p is_read other) [] p.sources alike,
+      lists_alike (timing_of p) (form_of (job_of p)) p.kinds (selected p is_read left) (selected p is_read other) [] p.sources alike,
       sym (defects p is_read left)
-          ∙ faults_alike (form_of (job_of p)) p.kinds (selected p is_read left) (selected p is_read other) [] p.sources tt alike
+          ∙ faults_alike (timing_of p) (form_of (job_of p)) p.kinds (selected p is_read left) (selected p is_read other) [] p.sources tt alike
           ∙ defects p is_read other,
     )

@@ -1,10 +1,11 @@
 -- The lists of good sources are streams.
-use Rattle.std.proofs.Common.{◌≡◌, ◌+◌, ℕ, zero, suc, Bool, true, false, List, [], ◌∷◌, ◌++◌, length, map, None, refl, ap, ◌∙◌, arith}
+use Rattle.std.proofs.Common.{◌≡◌, ◌<◌, ◌≤◌, ◌+◌, length-append, ℕ, zero, suc, Bool, true, false, List, [], ◌∷◌, ◌++◌, length, map, None, refl, ap, ◌∙◌, arith}
 use Rattle.std.specs.Prelude.{◌==◌, ◌&&◌, nat_le, unwrap_or, option_map, sum_by}
 use Rattle.std.specs.List.{filter_map, flat_map, range_with_len}
 use Rattle.std.proofs.lemmas.List.FromFn.{length-map-range_with_len}
 use Rattle.std.proofs.lemmas.List.Sums.{sum_by-append}
 use Rattle.flu_model.specs.Erasure.{job_of}
+use Rattle.flu_model.specs.Moments.{timing_of, IsTiming}
 use Rattle.flu_lemmas.proofs.Numbers.{same_number}
 use Rattle.flu_lemmas.proofs.Tests.{and_left, and_right, both, le_true}
 use Rattle.flu_model.specs.declared.events.Item.{Item}
@@ -12,6 +13,7 @@ use Rattle.flu_model.specs.declared.events.Item.TheVariants.{End as EndItem}
 use Rattle.flu_model.specs.declared.jobs.Kind.{Kind}
 use Rattle.flu_model.specs.declared.jobs.Source.{Source}
 use Rattle.flu_model.specs.declared.jobs.Program.{Program}
+use Rattle.flu_model.specs.declared.moments.Timing.{Timing}
 use Rattle.flu_model.specs.Streaming.{is_stream_from, are_streams}
 use Rattle.flu_outside.specs.Outside.{Contents}
 use Rattle.flu_outside.specs.Taking.{bytes_left}
@@ -21,9 +23,10 @@ use Rattle.flu_rows.specs.declared.row.RowForm.{RowForm}
 use Rattle.flu_rows.specs.Reading.{read_file}
 use Rattle.flu_rows.specs.Row.{form_of}
 use Rattle.flu_streams.specs.Before.{with_before, first_some}
-use Rattle.flu_streams.specs.Good.{rows_in, items_held, fault_of_source, AreGood, item_in, in_time_order, items_at, lists_of_rows, lists_of}
+use Rattle.flu_streams.specs.Good.{rows_in, items_held, fault_of_source, AreGood, item_in, at_moments, in_time_order, items_at, lists_of_rows, lists_of}
 use Rattle.flu_streams.specs.Tags.{place_named, width}
 use Rattle.flu_streams.specs.Tests.{first_defect}
+use Rattle.flu_streams.proofs.Moments.{timing_fits}
 use Rattle.flu_readers.proofs.Rising.{Rise, rise_lower, no_first, no_mapped, good_rows_rise}
 
 -- ---- the list of one itag
@@ -56,12 +59,13 @@ streams_of_range first from (suc n) f each =
     both (is_stream_from (first + from) 0 (f from)) _ (each from)
     (ap (λ i. are_streams i (map f (range_with_len (from + 1) n))) next ∙ streams_of_range first (from + 1) n f each)
 
-streams_of_source : (kinds : List Kind) (s : Source) (first : ℕ) (rows : List Row) → Rise 0 (in_time_order rows)
-    → are_streams first (lists_of_rows kinds s first rows) ≡ true
-streams_of_source kinds s first rows up =
+streams_of_source : (timing : Timing) (kinds : List Kind) (s : Source) (first : ℕ) (rows : List Row) → Rise 0 (in_time_order (at_moments timing [] rows))
+    → are_streams first (lists_of_rows timing kinds s first rows) ≡ true
+streams_of_source timing kinds s first rows up =
     let start : first ≡ first + 0 = omega arith in
-    ap (λ i. are_streams i (lists_of_rows kinds s first rows)) start
-    ∙ streams_of_range first 0 (width s) (items_at kinds s first rows) (λ place. stream_of kinds s first place 0 (in_time_order rows) up)
+    ap (λ i. are_streams i (lists_of_rows timing kinds s first rows)) start
+    ∙ streams_of_range first 0 (width s) (items_at kinds s first (at_moments timing [] rows))
+    (λ place. stream_of kinds s first place 0 (in_time_order (at_moments timing [] rows)) up)
 
 -- ---- the lists of all sources
 streams_append : (i : ℕ) (front back : List (List Item)) → are_streams i front ≡ true → are_streams (i + length front) back ≡ true
@@ -72,25 +76,31 @@ streams_append i (items ∷ front) back p q =
     both (is_stream_from i 0 items) _ (and_left (is_stream_from i 0 items) (are_streams (i + 1) front) p)
     (streams_append (i + 1) front back (and_right (is_stream_from i 0 items) (are_streams (i + 1) front) p) (ap (λ j. are_streams j back) one ∙ q))
 
-streams_from : (form : RowForm) (kinds : List Kind) (left : Contents) (before sources : List Source)
-    → first_some (λ e. fault_of_source form kinds left e.0 e.1) (with_before before sources) ≡ None
+streams_from : (timing : ℕ → Timing) (most : ℕ) (fits : (i : ℕ) → i < most → IsTiming (timing i)) (form : RowForm) (kinds : List Kind) (left : Contents)
+    (before sources : List Source) → length before + length sources ≤ most
+    → first_some (λ e. fault_of_source timing form kinds left e.0 e.1) (with_before before sources) ≡ None
     → are_streams (sum_by width before)
-    (flat_map (λ e. lists_of_rows kinds e.1 (sum_by width e.0) (rows_in form left e.1)) (with_before before sources)) ≡ true
-streams_from form kinds left before [] none = refl
-streams_from form kinds left before (s ∷ sources) none =
-    let parts = no_first (fault_of_source form kinds left before s) _ none in
-    let defect = no_mapped _ (first_defect form kinds s (items_held form left before) (bytes_left left s.file)) parts.0 in
+    (flat_map (λ e. lists_of_rows (timing (length e.0)) kinds e.1 (sum_by width e.0) (rows_in form left e.1)) (with_before before sources)) ≡ true
+streams_from timing most fits form kinds left before [] few none = refl
+streams_from timing most fits form kinds left before (s ∷ sources) few none =
+    let own = timing (length before) in
+    let parts = no_first (fault_of_source timing form kinds left before s) _ none in
+    let defect = no_mapped _ (first_defect own form kinds s (items_held form left before) (bytes_left left s.file)) parts.0 in
     let first = sum_by width before in
     let rows = rows_in form left s in
-    let here : List (List Item) = lists_of_rows kinds s first rows in
-    let many : length here ≡ width s = length-map-range_with_len (items_at kinds s first rows) 0 (width s) in
+    let here : List (List Item) = lists_of_rows own kinds s first rows in
+    let many : length here ≡ width s = length-map-range_with_len (items_at kinds s first (at_moments own [] rows)) 0 (width s) in
     let next : sum_by width (before ++ s ∷ []) ≡ sum_by width before + sum_by width (s ∷ []) = sum_by-append width before (s ∷ []) in
     let number : first + length here ≡ sum_by width (before ++ s ∷ []) = omega arith in
-    let back : List (List Item) = flat_map (λ e. lists_of_rows kinds e.1 (sum_by width e.0) (rows_in form left e.1)) (with_before (before ++ s ∷ []) sources) in
+    let back : List (List Item) =
+    flat_map (λ e. lists_of_rows (timing (length e.0)) kinds e.1 (sum_by width e.0) (rows_in form left e.1)) (with_before (before ++ s ∷ []) sources) in
+    let past : length (before ++ s ∷ []) ≡ length before + 1 = length-append before (s ∷ []) in
+    let fewer : length (before ++ s ∷ []) + length sources ≤ most = omega arith in
     streams_append first here back
-    (streams_of_source kinds s first rows
-    (good_rows_rise kinds s (items_held form left before) (read_file form (bytes_left left s.file)) defect))
-    (ap (λ i. are_streams i back) number ∙ streams_from form kinds left (before ++ s ∷ []) sources parts.1)
+    (streams_of_source own kinds s first rows
+    (good_rows_rise own (fits (length before) (omega arith)) kinds s (items_held form left before) (read_file form (bytes_left left s.file)) defect))
+    (ap (λ i. are_streams i back) number ∙ streams_from timing most fits form kinds left (before ++ s ∷ []) sources fewer parts.1)
 
 pub good_streams : (p : Program) (left : Contents) → AreGood p left → are_streams 0 (lists_of p left) ≡ true
-good_streams p left good = streams_from (form_of (job_of p)) p.kinds left [] p.sources good
+good_streams p left good =
+    streams_from (timing_of p) (length p.sources) (timing_fits p) (form_of (job_of p)) p.kinds left [] p.sources (omega arith) good

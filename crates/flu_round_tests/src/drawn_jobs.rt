@@ -68,20 +68,20 @@ fn draw_input(alloc: Global, seed: u32) -> Result<Drawn, Fail>
     let slacks = [draws.below(4), draws.below(4), draws.below(4)];
     let mut job = drawn_job(alloc, &mut draws, slacks)?;
     accept(alloc, &mut job)?;
+    let tied = job.as_str().starts_with("version 3 ties ");
     let [a, b, c] = slacks;
-    Ok(Drawn {
-        job,
-        a: rows(alloc, &mut draws, a, A, "")?,
-        b: rows(alloc, &mut draws, b, B, "")?,
-        c: rows(alloc, &mut draws, c, C, LAST)?,
-    })
+    let a = rows(alloc, &mut draws, a, tied, A, "")?;
+    let b = rows(alloc, &mut draws, b, tied, B, "")?;
+    let c = rows(alloc, &mut draws, c, tied, C, LAST)?;
+    Ok(Drawn { job, a, b, c })
 }
 
-/// The rows of a source with these tags, with this one after them.
+/// The rows of a source with these tags, with this one after them; where rows may be tied, there are two at some times.
 fn rows(
     alloc: Global,
     draws: &mut Draws,
     slack: u32,
+    tied: bool,
     tags: &str,
     last: &str,
 ) -> Result<String, AllocError> {
@@ -89,6 +89,9 @@ fn rows(
     let stretches = draws.below(16);
     for at in times(alloc, draws, stretches, slack)? {
         text.push_str(&row(alloc, draws, at, tags)?)?;
+        if tied && draws.below(3) == 0 {
+            text.push_str(&row(alloc, draws, at, tags)?)?;
+        }
     }
     write!(text, "{last}end\n")?;
     Ok(text)
@@ -158,7 +161,7 @@ fn shares<R: Abort + Threads + Wait + Sync>(
     requires { seed < 2 ^ 31 }
 {
     let valid = drawn_plan(alloc, &mut Draws::of(seed), checked)?;
-    works(rt, alloc, checked, &valid, input, 4, wanted)?;
+    works(rt, alloc, checked, &valid, input, 1 + seed % 7, wanted)?;
     works(rt, alloc, checked, &valid, input, 4096, wanted)?;
     Ok(valid.plan().nodes.items().len() > 1)
 }

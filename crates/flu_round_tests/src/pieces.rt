@@ -9,7 +9,8 @@ use std::test::Fail;
 
 /// How the report shows times.
 const VERSIONS: &str = "version 3
-version 3 iso seconds
+version 3 ties 2
+version 3 ties 3 iso seconds
 version 3 iso milliseconds";
 
 /// Three keyed families and a single cell, and the kinds in the order of `KINDS`. The last one prints all cells. The names of a list are the

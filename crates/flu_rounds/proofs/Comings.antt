@@ -8,6 +8,7 @@ use Rattle.flu_model.specs.declared.jobs.Program.{Program}
 use Rattle.flu_model.specs.Contents.{Contents}
 use Rattle.flu_model.specs.Folding.{final_state, final_outputs, state_after, outputs_of}
 use Rattle.flu_model.specs.Merging.{merged}
+use Rattle.flu_model.specs.Moments.{timing_of}
 use Rattle.flu_model.specs.Reports.{report}
 use Rattle.flu_outside.specs.Outside.{Contents as Files, WhereTold}
 use Rattle.flu_rows.specs.declared.rows.Next.{Next}
@@ -173,12 +174,12 @@ law_of_next_text law none border opening p rows start left left' old written end
 sound_at : (p : Program) (rows : ℕ) (above : Option ℕ) (whole before now : ℕ → List Next) → IsRound p rows above whole before now Closed → AreSound p whole
 sound_at p rows above whole before now round i s is =
     let shut = round i s is in
-    ap (defect_in p.kinds s) shut.stops.0 ∙ shut.sound
+    ap (defect_in (timing_of p i) p.kinds s) shut.stops.0 ∙ shut.sound
 
 -- the rows of the last round and those before it are all rows above the border
 pub last_events : LawOfLastRound → LawOfLastAbove → (p : Program) (rows : ℕ) (border above : Option ℕ) (whole before now : ℕ → List Next) (left : Files)
     → LinesIn p left whole → IsRound p rows above whole before now Closed
-    → merged (lists_between p border Closed now) ≡ merged (lists_above border (lists_of p left))
+    → merged (lists_between p border Closed now) ≡ merged (lists_above p border (lists_of p left))
 last_events last later p rows None above whole before now left lines round = ap (λ lists. merged lists) (last p rows above whole before now left lines round)
 last_events last later p rows (Some t) above whole before now left lines round = later p rows above whole before now left t lines round
 

@@ -38,7 +38,7 @@ law_of_last_counts law last later p rows border opening start left left' old new
     told_then (Stands p rows border came.done came.before old)
     (λ mid is. (whole : ℕ → List Next) → AreInAll old.held came.before mid whole
     → IsRound old.held.program old.held.rows old.held.border whole came.before now Closed × AreInAll new.held now is whole)
-    (λ was is. grown counts (round_lists old Closed now) ≡ grown first (lists_above border (lists_of p was))) start left left'
+    (λ was is. grown counts (round_lists old Closed now) ≡ grown first (lists_above p border (lists_of p was))) start left left'
     (λ was mid is stood fills.
     let f = fills (lines_in p was) stood.1 in
     let round = same_round p old.held.program rows old.held.rows old.held.border (lines_in p was) came.before now Closed came.program came.number f.0 in

@@ -19,7 +19,7 @@ module _ (fronts : LawOfFronts) (later : LawOfFrontsAbove) where
   front_at : (p : Program) (rows : ℕ) (border : Option ℕ) (opening : Contents) (left : Files) → 1 ≤ rows → AreSound p (lines_in p left)
       → (above : Option ℕ) (done : List (List (List Item))) (before : ℕ → List Next) → ComesFrom p rows (lines_in p left) border done above before
       → IsFrontOfReport p border opening left (text_up_from p border opening above before)
-  front_at p rows border opening left one sound None done before came = (report p (final_outputs p opening (lists_above border (lists_of p left))), refl)
+  front_at p rows border opening left one sound None done before came = (report p (final_outputs p opening (lists_above p border (lists_of p left))), refl)
   front_at p rows None opening left one sound (Some t) done before came = (
     report p (final_outputs p (final_state p opening (lists_between p None (At t) before)) (lists_between p (Some t) Closed (lines_in p left))),
     (fronts p opening rows (lines_in p left) done t before left (lines_are_in p left) sound came).lines,

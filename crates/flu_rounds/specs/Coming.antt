@@ -43,8 +43,8 @@ CameTo p rows start left now written = CameFrom p rows None nothing_held start l
 -- ALL OF THE RUN: no source has a defect, and the state and what was written are those of the fold of all rows above the border
 pub record HasRunFrom (p : Program) (border : Option ℕ) (opening : Contents) (was : Files) (now : Standing) (written : List ℕ) : Type 0 where
   pub sound : AreSound p (lines_in p was)
-  pub state : held now.state ≡ final_state p opening (lists_above border (lists_of p was))
-  pub text : written ≡ report p (final_outputs p opening (lists_above border (lists_of p was)))
+  pub state : held now.state ≡ final_state p opening (lists_above p border (lists_of p was))
+  pub text : written ≡ report p (final_outputs p opening (lists_above p border (lists_of p was)))
 
 abbrev pub HasRun : Program → Files → Standing → List ℕ → Type 0
 HasRun p was now written = HasRunFrom p None nothing_held was now written
@@ -155,7 +155,7 @@ LawOfOtherNames border opening =
 -- ---- prefixes of the report
 -- this is a prefix of the report of the fold of all rows above a border, if there is one, and from a state
 abbrev pub IsFrontOfReport : Program → Option ℕ → Contents → Files → List ℕ → Type 0
-IsFrontOfReport p border opening left text = (rest : List ℕ) × (report p (final_outputs p opening (lists_above border (lists_of p left))) ≡ text ++ rest)
+IsFrontOfReport p border opening left text = (rest : List ℕ) × (report p (final_outputs p opening (lists_above p border (lists_of p left))) ≡ text ++ rest)
 
 -- LAW OF FRONTS: if no source has a defect, what a run has written after a border is a prefix of its report
 abbrev pub LawOfReportFronts : Option ℕ → Contents → Type 0

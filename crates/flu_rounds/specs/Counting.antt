@@ -42,4 +42,4 @@ LawOfLastCounts =
     → 1 ≤ rows
     → (counted : CountedFrom p rows border opening start left old written first counts)
     → (runs : Runs old new left left' Closed counted.came.before)
-    → WhereTold start left' (λ was is. grown counts (round_lists old Closed runs.fills.now) ≡ grown first (lists_above border (lists_of p was)))
+    → WhereTold start left' (λ was is. grown counts (round_lists old Closed runs.fills.now) ≡ grown first (lists_above p border (lists_of p was)))

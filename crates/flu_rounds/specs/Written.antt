@@ -6,6 +6,7 @@ use Rattle.flu_lemmas.specs.Elements.{AtEach}
 use Rattle.flu_model.specs.declared.events.Item.{Item}
 use Rattle.flu_model.specs.declared.jobs.Source.{Source}
 use Rattle.flu_model.specs.declared.jobs.Program.{Program}
+use Rattle.flu_model.specs.Moments.{timing_of}
 use Rattle.flu_model.specs.Contents.{Contents, nothing_held}
 use Rattle.flu_model.specs.Folding.{final_outputs}
 use Rattle.flu_model.specs.Reports.{report}
@@ -21,9 +22,9 @@ use Rattle.flu_streams.specs.Rounds.{ComesFrom, IsRound, defect_in, lists_betwee
 
 -- ---- lines and texts
 -- the items above a border, if there is one
-abbrev pub lists_above : Option ℕ → List (List Item) → List (List Item)
-lists_above None lists = lists
-lists_above (Some t) lists = beyond t lists
+abbrev pub lists_above : Program → Option ℕ → List (List Item) → List (List Item)
+lists_above p None lists = lists
+lists_above p (Some t) lists = beyond p t lists
 
 -- the lines of the file of each source, by the source's number
 abbrev pub lines_in : Program → Files → ℕ → List Next
@@ -68,4 +69,4 @@ WouldWrite p rows whole above before now end written = WouldWriteFrom p rows Non
 
 -- NO DEFECT in these lines of each source
 abbrev pub AreSound : Program → (ℕ → List Next) → Type 0
-AreSound p whole = AtEach (λ i s. defect_in p.kinds s (whole i) ≡ None) p.sources
+AreSound p whole = AtEach (λ i s. defect_in (timing_of p i) p.kinds s (whole i) ≡ None) p.sources

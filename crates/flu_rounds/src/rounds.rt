@@ -12,7 +12,8 @@ ghost use Rattle.flu_rows.specs.declared.rows.Next.{Next};
 ghost use Rattle.flu_streams.specs.declared.border.Border.{Border};
 ghost use Rattle.flu_streams.specs.declared.held.Stage.{Stage};
 ghost use Rattle.flu_streams.specs.Files.{files_of, LeavesOthers, CountsOfNames, OneRose};
-ghost use Rattle.flu_streams.specs.Holding.{AreHeldBehind, ClosedAreReadOut, AreClosed, IsNewBorder, HidesNoRoundFault, HoldsFew, HoldsAtMost, HaveAtMost};
+ghost use Rattle.flu_streams.specs.Holding.{AreHeldBehind, ClosedAreReadOut, AreClosed, IsNewBorder, HidesNoRoundFault, HoldsFew};
+ghost use Rattle.flu_streams.specs.Holding.{HoldsAtMost, HaveAtMost, most_held};
 ghost use Rattle.flu_streams.specs.Holding.{Fills, KeepsJob, Cuts};
 ghost use Rattle.flu_streams.specs.Rounds.{lists_between};
 ghost use Rattle.flu_rounds.specs.Halves.{Begins, AppendsReport, AppendsPartOfReport};
@@ -138,7 +139,7 @@ impl Rounds {
 
         // What is held of the sources is bounded, whatever the answer.
         ensures few { OnOk result (HoldsFew self.new.held) }
-        ensures most { HoldsAtMost 64096 self.new.held }
+        ensures most { HoldsAtMost (most_held self.old.held.program) self.new.held }
 
         // A source fault is the defect that the round meets; nothing was written to out.
         ensures fault { IfErr result (λ f. IsSourceFault self.old.held (F.left files.old) (F.left files.new) f) }
@@ -198,8 +199,8 @@ impl Rounds {
 
         // What is held of the sources is bounded, whatever the answer, and so are the rows of the round.
         ensures few { OnOk result (HoldsFew self.new.held) }
-        ensures most { HoldsAtMost 64096 self.new.held }
-        ensures few_items { IfOk result (λ begun. HaveAtMost 64096 (listed begun.rows)) }
+        ensures most { HoldsAtMost (most_held self.old.held.program) self.new.held }
+        ensures few_items { IfOk result (λ begun. HaveAtMost (most_held p.now) (listed begun.rows)) }
 
         // A source fault is the defect that the round meets.
         ensures fault { IfErr result (λ f. IsSourceFault self.old.held (F.left files.old) (F.left files.new) f) }
@@ -251,7 +252,7 @@ impl Rounds {
 
         // What is held of the sources is bounded, whatever the answer.
         ensures few { OnOk result (HoldsFew self.new.held) }
-        ensures most { HoldsAtMost 64096 self.new.held }
+        ensures most { HoldsAtMost (most_held self.old.held.program) self.new.held }
 
         // A source fault is the defect that the round meets.
         ensures fault { IfErr result (λ f. IsSourceFault self.old.held (F.left files.old) (F.left files.new) f) }
@@ -295,8 +296,8 @@ impl Rounds {
         ensures itags { IfOk result (λ begun. length (listed begun.rows) ≡ count_of_itags p.now) }
         ensures cut { OnOk result (Cuts self.old.held self.new.held border) }
         ensures few { OnOk result (HoldsFew self.new.held) }
-        ensures most { HoldsAtMost 64096 self.new.held }
-        ensures few_items { IfOk result (λ begun. HaveAtMost 64096 (listed begun.rows)) }
+        ensures most { HoldsAtMost (most_held self.old.held.program) self.new.held }
+        ensures few_items { IfOk result (λ begun. HaveAtMost (most_held p.now) (listed begun.rows)) }
     {
         let opening = mem::replace(&mut self.state, State::new(alloc));
         let rows = self.held.cut(alloc, p, border)?;

@@ -8,12 +8,13 @@ use Rattle.flu_model.specs.Listing.{itags_of_sources}
 use Rattle.flu_model.specs.Numberings.{Numbering}
 use Rattle.flu_model.specs.ListRules.{are_lists, fit_lists}
 use Rattle.flu_model.specs.Texts.{Unit}
-use Rattle.flu_model.specs.Versions.{fit_version, iso_fits}
+use Rattle.flu_model.specs.Versions.{fit_version, ties_fit, iso_fits}
 use Rattle.flu_model.specs.Rules.{is_version, are_families, are_kinds, are_depends, are_sources, have_own_names, have_own_files}
 
-pub record KeepsRules (version : ℕ) (iso : Option Unit) (lists : List Numbering) (families : List Family) (kinds : List Kind) (depends : List Depend)
+pub record KeepsRules (version ties : ℕ) (iso : Option Unit) (lists : List Numbering) (families : List Family) (kinds : List Kind) (depends : List Depend)
     (sources : List Source) : Type 0 where
   pub known_version : IsTrue (is_version version)
+  pub known_ties : IsTrue (ties_fit version ties)
   pub known_iso : IsTrue (iso_fits version iso)
   pub few_lists : length lists ≤ 64
   pub few_families : length families ≤ 64

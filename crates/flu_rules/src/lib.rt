@@ -3,7 +3,7 @@
 
 ghost use Rattle.std.specs.Prelude.{◌≡◌, ◌↔◌, IsTrue, IfSome, IfNone};
 ghost use Rattle.std.specs.List.{list_all};
-ghost use Rattle.flu_model.specs.Versions.{iso_fits};
+ghost use Rattle.flu_model.specs.Versions.{ties_fit, iso_fits};
 ghost use Rattle.flu_model.specs.Rules.{is_version, are_families, are_kinds, are_depends, are_sources};
 ghost use Rattle.flu_rules.specs.Kept.{KeepsRules};
 ghost use Rattle.flu_rules.specs.Keys.{TagsMeet, TagsDiffer};
@@ -33,6 +33,9 @@ const MOST_PARTS: usize = 64;
 /// The most dependencies of a job.
 const MOST_DEPENDS: usize = 4096;
 
+/// The most rows that a source may have at one time.
+const MOST_TIES: u32 = 2_147_483_648;
+
 /// Parts of sources' lists share a tag if they are of one kind and their keys meet; and no tag is listed twice if no two
 /// parts share one.
 pub fn tags_meet_by_their_ends()
@@ -41,12 +44,14 @@ pub fn tags_meet_by_their_ends()
 {}
 
 /// The job of this version with these parts, if they keep the rules of the language (`docs/LANGUAGE.md`); none if they
-/// break one. With a unit, `iso`, its times are text too; only version 3 has this.
+/// break one. Its sources may have up to `ties` rows at one time, from 1 to 2,147,483,648, and only in version 3 more than 1. With a unit,
+/// `iso`, its times are text too; only version 3 has this.
 ///
 /// The parts may be any, so what the lists hold need not have been looked at before. It takes no memory: ranges of keys
 /// are not written out, and expressions are looked at no deeper than they may be high.
 pub fn program(
     version: u32,
+    ties: u32,
     iso: Option<Unit>,
     lists: List<NameList>,
     families: List<Family>,
@@ -55,14 +60,16 @@ pub fn program(
     sources: List<Source>,
 ) -> Option<Program>
     ensures version { IfSome result (λ p. p.version ≡ version) }
+    ensures ties { IfSome result (λ p. p.ties ≡ ties) }
     ensures iso { IfSome result (λ p. p.iso ≡ iso) }
     ensures lists { IfSome result (λ p. p.lists ≡ lists) }
     ensures parts { IfSome result (λ p. (p.families ≡ families) × (p.kinds ≡ kinds) × (p.depends ≡ depends) × (p.sources ≡ sources)) }
-    ensures kept { IfSome result (λ p. KeepsRules version iso lists families kinds depends sources) }
-    ensures refused { IfNone result (¬ (KeepsRules version iso lists families kinds depends sources)) }
+    ensures kept { IfSome result (λ p. KeepsRules version ties iso lists families kinds depends sources) }
+    ensures refused { IfNone result (¬ (KeepsRules version ties iso lists families kinds depends sources)) }
 {
     if keep_rules(
         version,
+        ties,
         iso,
         lists.items(),
         families.items(),
@@ -72,6 +79,7 @@ pub fn program(
     ) {
         Some(Program {
             version,
+            ties,
             iso,
             lists,
             families,
@@ -86,6 +94,7 @@ pub fn program(
 
 fn keep_rules(
     version: u32,
+    ties: u32,
     iso: Option<Unit>,
     lists: &[NameList],
     families: &[Family],
@@ -93,9 +102,10 @@ fn keep_rules(
     depends: &[Depend],
     sources: &[Source],
 ) -> bool
-    ensures { IsTrue result ↔ KeepsRules version iso lists.now families.now kinds.now depends.now sources.now }
+    ensures { IsTrue result ↔ KeepsRules version ties iso lists.now families.now kinds.now depends.now sources.now }
 {
     is_version(version)
+        && ties_fit(version, ties)
         && iso_fits(version, iso)
         && lists.len() <= MOST_PARTS
         && families.len() <= MOST_PARTS
@@ -118,6 +128,12 @@ fn is_version(version: u32) -> bool
     ensures { result ≡ is_version version }
 {
     version == 1 || version == 2 || version == 3
+}
+
+fn ties_fit(version: u32, ties: u32) -> bool
+    ensures { result ≡ ties_fit version ties }
+{
+    1 <= ties && ties <= MOST_TIES && (version == 3 || ties == 1)
 }
 
 fn iso_fits(version: u32, iso: Option<Unit>) -> bool

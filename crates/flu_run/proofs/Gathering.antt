@@ -6,7 +6,7 @@ use Rattle.flu_lemmas.proofs.Options.{none_or_some, pair_there}
 use Rattle.flu_model.specs.declared.events.Out.{Out}
 use Rattle.flu_fork.specs.declared.content.Content.{Content}
 use Rattle.flu_fork.specs.declared.lots.Lot.{Lot}
-use Rattle.flu_fork.specs.Lots.{nodes, kids, LotFits, HasJoinedCounts}
+use Rattle.flu_fork.specs.Lots.{nodes, kids, LotFits, LotsPaired, HasJoinedCounts}
 use Rattle.flu_worker.specs.declared.hand.Hand.TheVariants.{Down}
 use Rattle.flu_worker.specs.declared.hand.Side.{Side}
 use Rattle.flu_worker.specs.declared.hand.Side.TheVariants.{Left, Right}
@@ -20,7 +20,7 @@ use Rattle.flu_run.specs.Final.{IsFinal, IsDone}
 use Rattle.flu_run.specs.Starts.{EndStarts}
 use Rattle.flu_run.specs.Rests.{Rests}
 use Rattle.flu_run.proofs.Leaves.{final_as, done_at, finished_open}
-use Rattle.flu_run.proofs.Joined.{joined_final}
+use Rattle.flu_run.proofs.Joined.{joined_final, joined_paired}
 
 pub down_of_inner : (n : WorkerNote) → IsFinished n → IsSome (kids n.case n.node) → n.hand ≡ Down
 down_of_inner n done inner = elim done.hand [
@@ -83,6 +83,11 @@ module _ (laws : LawsBelow) (k : Content) (w : ℕ) (n : WorkerNote) (low : Lowe
 
     here : (l r : ℕ) → kids k w ≡ Some (l, r) → kids n.case n.node ≡ Some (l, r)
     here l r e = (λ i. kids (ek i) (ew i)) ∙ e
+
+    pub gathered_paired : (l r : ℕ) → kids k w ≡ Some (l, r) → LotsPaired k l r left right
+    gathered_paired l r e =
+        subst (λ (j : Content). LotsPaired j l r left right) ek
+        (joined_paired laws n l r (here l r e) rests.finished down left right outs lefts rights (at_left l r (here l r e)) (at_right l r (here l r e)))
 
     pub gathered_done : (lot : Lot) (all : List Out) → LotFits k w lot → HasJoinedCounts k w left right lot → all ≡ (outs ++ lefts) ++ rights
         → IsDone low low lot all

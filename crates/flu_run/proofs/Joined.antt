@@ -6,7 +6,7 @@ use Rattle.flu_fork.specs.declared.content.Content.{Content}
 use Rattle.flu_fork.specs.declared.lots.Lot.{Lot}
 use Rattle.flu_fork.specs.Classes.{own, below}
 use Rattle.flu_fork.specs.Completing.{IsLastFork, JoinsAll}
-use Rattle.flu_fork.specs.Lots.{job, nodes, kids, setting_of, LotFits, HasJoinedCounts}
+use Rattle.flu_fork.specs.Lots.{job, nodes, kids, setting_of, LotFits, LotsPaired, HasJoinedCounts}
 use Rattle.flu_fork.specs.Texts.{InOneOf}
 use Rattle.flu_worker.specs.declared.hand.Hand.TheVariants.{Down}
 use Rattle.flu_worker.specs.Notes.{WorkerNote, own_of, below_of}
@@ -35,6 +35,9 @@ module _ (laws : LawsBelow) (n : WorkerNote) (l r : ℕ) (e : kids n.case n.node
     own = λ i mine. forked.own i mine ∙ done.own i mine;
     outside = forked.outside;
   }
+
+  pub joined_paired : LotsPaired n.case l r left right
+  joined_paired = laws.last_paired n.case n.node l r n.held n.lent_left n.lent_right left right last fl.brings fr.brings
 
   module _ (lot : Lot) (fits : LotFits n.case n.node lot) (counts : HasJoinedCounts n.case n.node left right lot) (tells : Tells n outs) where
     joins : JoinsAll n.case n.node l r n.held left right lot

@@ -31,7 +31,7 @@ use Rattle.flu_worker.specs.Calls.{IsNew, IsAskable, IsSamePlace, HandlesEvent, 
 use Rattle.flu_worker.specs.Ties.{IsAsked, IsLoan}
 use Rattle.flu_worker.specs.Turning.{other, LendTurns, TakeTurns, StartIsShut}
 use Rattle.flu_link.specs.Notes.{UpperNote, LowerNote, after_lend, after_asked}
-use Rattle.flu_run.specs.EndNotes.{LooksUp}
+use Rattle.flu_run.specs.EndNotes.{LooksUp, LooksAside}
 use Rattle.flu_run.specs.LawsBelow.{LawsBelow}
 use Rattle.flu_run.specs.Ties.{IsAskedFor, Hangs, Lets, Tells}
 use Rattle.flu_run.specs.Seeing.{Sees, SeesMore, WatchesFrom, limits_of}
@@ -253,6 +253,19 @@ hangs_seen n n' l h more =
             inr record { phase = a.phase; ask = a.ask; noted = a.noted; tie = record { opened = a.tie.opened; above = a.tie.above; next = a.tie.next } }
       ];
     }
+
+-- a look at another moment of the same loan: what it hangs from stays
+pub hangs_aside : (n : WorkerNote) (l l' : LowerNote) → Hangs n l → LooksAside l l' → Hangs n l'
+hangs_aside n l l' h a = record {
+  case = a.same.case ∙ h.case;
+  lower = a.same.lower ∙ h.lower;
+  given = a.same.given ∙ h.given;
+  held = λ o. a.same.held ∙ h.held o;
+  phase = λ o. elim (h.phase o) [
+    | inl e ↦ inl (a.phase ∙ e)
+    | inr x ↦ inr record { phase = a.phase ∙ x.phase; ask = x.ask; noted = a.same.ask ∙ x.noted; tie = x.tie }
+  ];
+}
 
 -- ---- as the calls say it
 pub hangs_look : (n : WorkerNote) (l l' : LowerNote) (found : Option Ask) → Hangs n l → is_open n.hand ≡ true

@@ -7,8 +7,10 @@ use Rattle.std.proofs.lemmas.List.Elements.{filter_map-append}
 use Rattle.std.proofs.lemmas.List.{append-nil}
 use Rattle.std.proofs.lemmas.List.Sums.{sum_by-append}
 use Rattle.flu_model.specs.Erasure.{job_of}
+use Rattle.flu_model.specs.Moments.{timing_of}
 use Rattle.flu_model.specs.declared.jobs.Kind.{Kind}
 use Rattle.flu_model.specs.declared.jobs.Source.{Source}
+use Rattle.flu_model.specs.declared.moments.Timing.{Timing}
 use Rattle.flu_outside.specs.Outside.{Contents}
 use Rattle.flu_outside.specs.Taking.{bytes_left}
 use Rattle.flu_rows.specs.declared.row.RowForm.{RowForm}
@@ -23,8 +25,8 @@ use Rattle.flu_streams.specs.declared.faults.Why.TheVariants.{AfterEnd, TooMany}
 use Rattle.flu_streams.specs.Before.{with_before, each_with_before, or_else, first_some}
 use Rattle.flu_streams.specs.Good.{rows_in, items_held, fault_of_source}
 use Rattle.flu_streams.specs.Tags.{width}
-use Rattle.flu_streams.specs.Tests.{rows_of, row_in, has_ended, times_of, items_in, items_of, where_true, test_tag, test_fields, test_item, test_time}
-use Rattle.flu_streams.specs.Tests.{test_items, fault_of, defect_of, first_of, first_defect}
+use Rattle.flu_streams.specs.Tests.{rows_of, row_in, has_ended, times_of, items_in, items_of, where_true, test_range, test_tag, test_fields, test_item}
+use Rattle.flu_streams.specs.Tests.{test_time, test_items, fault_of, defect_of, first_of, first_defect}
 use Rattle.flu_selected.proofs.Ends.{end_read}
 use Rattle.flu_selected.proofs.Lists.{open_left, closed_left, open_rows, closed_rows}
 use Rattle.flu_selected.proofs.Names.{ClosesOthers, closes_others}
@@ -51,39 +53,46 @@ few_pass : (n : ℕ) (why : Why) → n ≤ 16777216 → where_true (nat_lt 16777
 few_pass n why le = let fails : nat_lt 16777216 n ≡ false = grind (arith, nat_tests) in rw fails refl
 
 -- ---- the tests of a row, by how many items are held
-none_of_six : {X : Type 0} (a b c d e f : Option X) → or_else a (or_else b (or_else c (or_else d (or_else e (or_else f None))))) ≡ None
-    → (a ≡ None) × (b ≡ None) × (c ≡ None) × (d ≡ None) × (e ≡ None) × (f ≡ None)
-none_of_six a b c d e f none =
-    let p = no_first a (or_else b (or_else c (or_else d (or_else e (or_else f None))))) none in
-    let q = no_first b (or_else c (or_else d (or_else e (or_else f None)))) p.1 in
-    let r = no_first c (or_else d (or_else e (or_else f None))) q.1 in
-    let t = no_first d (or_else e (or_else f None)) r.1 in
-    let u = no_first e (or_else f None) t.1 in
-    (p.0, q.0, r.0, t.0, u.0, (no_first f None u.1).0)
+none_of_seven : {X : Type 0} (a b c d e f g : Option X) → or_else a (or_else b (or_else c (or_else d (or_else e (or_else f (or_else g None)))))) ≡ None
+    → (a ≡ None) × (b ≡ None) × (c ≡ None) × (d ≡ None) × (e ≡ None) × (f ≡ None) × (g ≡ None)
+none_of_seven a b c d e f g none =
+    let p = no_first a (or_else b (or_else c (or_else d (or_else e (or_else f (or_else g None)))))) none in
+    let q = no_first b (or_else c (or_else d (or_else e (or_else f (or_else g None))))) p.1 in
+    let r = no_first c (or_else d (or_else e (or_else f (or_else g None)))) q.1 in
+    let t = no_first d (or_else e (or_else f (or_else g None))) r.1 in
+    let u = no_first e (or_else f (or_else g None)) t.1 in
+    let v = no_first f (or_else g None) u.1 in
+    (p.0, q.0, r.0, t.0, u.0, v.0, (no_first g None v.1).0)
 
-six_none : {X : Type 0} (a b c d e f : Option X) → a ≡ None → b ≡ None → c ≡ None → d ≡ None → e ≡ None → f ≡ None
-    → or_else a (or_else b (or_else c (or_else d (or_else e (or_else f None))))) ≡ None
-six_none a b c d e f p q r t u v = rw (p, q, r, t, u, v) refl
+seven_none : {X : Type 0} (a b c d e f g : Option X) → a ≡ None → b ≡ None → c ≡ None → d ≡ None → e ≡ None → f ≡ None → g ≡ None
+    → or_else a (or_else b (or_else c (or_else d (or_else e (or_else f (or_else g None)))))) ≡ None
+seven_none a b c d e f g p q r t u v w = rw (p, q, r, t, u, v, w) refl
 
-none_of_tests : (kinds : List Kind) (s : Source) (ended : Bool) (earlier : List ℕ) (held : ℕ) (row : Row) → fault_of kinds s ended earlier held row ≡ None
-    → (where_true ended AfterEnd ≡ None) × (test_tag kinds s row ≡ None) × (test_fields kinds row ≡ None) × (test_item row ≡ None)
-    × (test_time s.slack earlier row ≡ None) × (test_items (width s) held row ≡ None)
-none_of_tests kinds s ended earlier held row none =
-    none_of_six (where_true ended AfterEnd) (test_tag kinds s row) (test_fields kinds row) (test_item row) (test_time s.slack earlier row)
+none_of_tests : (timing : Timing) (kinds : List Kind) (s : Source) (ended : Bool) (earlier : List ℕ) (held : ℕ) (row : Row)
+    → fault_of timing kinds s ended earlier held row ≡ None
+    → (where_true ended AfterEnd ≡ None) × (test_range timing row ≡ None) × (test_tag kinds s row ≡ None) × (test_fields kinds row ≡ None) ×
+    (test_item row ≡ None)
+    × (test_time timing s.slack earlier row ≡ None) × (test_items (width s) held row ≡ None)
+none_of_tests timing kinds s ended earlier held row none =
+    none_of_seven (where_true ended AfterEnd) (test_range timing row) (test_tag kinds s row) (test_fields kinds row) (test_item row)
+    (test_time timing s.slack earlier row)
     (test_items (width s) held row) none
 
-row_few : (kinds : List Kind) (s : Source) (ended : Bool) (earlier : List ℕ) (held : ℕ) (row : Row) → fault_of kinds s ended earlier held row ≡ None
+row_few : (timing : Timing) (kinds : List Kind) (s : Source) (ended : Bool) (earlier : List ℕ) (held : ℕ) (row : Row)
+    → fault_of timing kinds s ended earlier held row ≡ None
     → held + items_in (width s) row ≤ 16777216
-row_few kinds s ended earlier held row none =
-    not_more (held + items_in (width s) row) (TooMany 16777217) (none_of_tests kinds s ended earlier held row none).5
+row_few timing kinds s ended earlier held row none =
+    not_more (held + items_in (width s) row) (TooMany 16777217) (none_of_tests timing kinds s ended earlier held row none).6
 
-row_still : (kinds : List Kind) (s : Source) (ended : Bool) (earlier : List ℕ) (fewer held : ℕ) (row : Row) → fewer ≤ held
-    → fault_of kinds s ended earlier held row ≡ None → fault_of kinds s ended earlier fewer row ≡ None
-row_still kinds s ended earlier fewer held row le none =
-    let tests = none_of_tests kinds s ended earlier held row none in
-    let most : held + items_in (width s) row ≤ 16777216 = row_few kinds s ended earlier held row none in
-    six_none (where_true ended AfterEnd) (test_tag kinds s row) (test_fields kinds row) (test_item row) (test_time s.slack earlier row)
-    (test_items (width s) fewer row) tests.0 tests.1 tests.2 tests.3 tests.4 (few_pass (fewer + items_in (width s) row) (TooMany 16777217) (omega arith))
+row_still : (timing : Timing) (kinds : List Kind) (s : Source) (ended : Bool) (earlier : List ℕ) (fewer held : ℕ) (row : Row) → fewer ≤ held
+    → fault_of timing kinds s ended earlier held row ≡ None → fault_of timing kinds s ended earlier fewer row ≡ None
+row_still timing kinds s ended earlier fewer held row le none =
+    let tests = none_of_tests timing kinds s ended earlier held row none in
+    let most : held + items_in (width s) row ≤ 16777216 = row_few timing kinds s ended earlier held row none in
+    seven_none (where_true ended AfterEnd) (test_range timing row) (test_tag kinds s row) (test_fields kinds row) (test_item row)
+    (test_time timing s.slack earlier row)
+    (test_items (width s) fewer row) tests.0 tests.1 tests.2 tests.3 tests.4 tests.5
+    (few_pass (fewer + items_in (width s) row) (TooMany 16777217) (omega arith))
 
 -- ---- the lines of a source
 one_more_row : (itags : ℕ) (done : List Next) (line : ℕ) (row : Row)
@@ -96,61 +105,64 @@ one_more_row itags done line row =
 no_more_rows : (itags : ℕ) (done : List Next) (lines : ℕ) → items_of itags (rows_of (done ++ Done lines ∷ [])) ≡ items_of itags (rows_of done)
 no_more_rows itags done lines = ap (sum_by (items_in itags)) (filter_map-append row_in done (Done lines ∷ []) ∙ append-nil (rows_of done))
 
-defect_few : (kinds : List Kind) (s : Source) (held : ℕ) (done : List Next) (next : Next) → held + items_of (width s) (rows_of done) ≤ 16777216
-    → defect_of kinds s held done next ≡ None → held + items_of (width s) (rows_of (done ++ next ∷ [])) ≤ 16777216
-defect_few kinds s held done (RowNext line row) few none =
-    let fault = fault_of kinds s (has_ended (rows_of done)) (times_of (rows_of done)) (held + items_of (width s) (rows_of done)) row in
+defect_few : (timing : Timing) (kinds : List Kind) (s : Source) (held : ℕ) (done : List Next) (next : Next)
+    → held + items_of (width s) (rows_of done) ≤ 16777216
+    → defect_of timing kinds s held done next ≡ None → held + items_of (width s) (rows_of (done ++ next ∷ [])) ≤ 16777216
+defect_few timing kinds s held done (RowNext line row) few none =
+    let fault = fault_of timing kinds s (has_ended (rows_of done)) (times_of (rows_of done)) (held + items_of (width s) (rows_of done)) row in
     let passes : fault ≡ None = no_mapped (λ (why : Why). (line, why)) fault none in
     let most : held + items_of (width s) (rows_of done) + items_in (width s) row ≤ 16777216 =
-    row_few kinds s (has_ended (rows_of done)) (times_of (rows_of done)) (held + items_of (width s) (rows_of done)) row passes in
+    row_few timing kinds s (has_ended (rows_of done)) (times_of (rows_of done)) (held + items_of (width s) (rows_of done)) row passes in
     omega (arith, one_more_row (width s) done line row, most)
-defect_few kinds s held done (Bad line) few none = cc
-defect_few kinds s held done TooManyLines few none = cc
-defect_few kinds s held done (Done lines) few none = omega (arith, no_more_rows (width s) done lines, few)
+defect_few timing kinds s held done (Bad line) few none = cc
+defect_few timing kinds s held done TooManyLines few none = cc
+defect_few timing kinds s held done (Done lines) few none = omega (arith, no_more_rows (width s) done lines, few)
 
-lines_few : (kinds : List Kind) (s : Source) (held : ℕ) (done read : List Next) → held + items_of (width s) (rows_of done) ≤ 16777216
-    → first_some (λ e. defect_of kinds s held e.0 e.1) (with_before done read) ≡ None → held + items_of (width s) (rows_of (done ++ read)) ≤ 16777216
-lines_few kinds s held done [] few none = rw append-nil few
-lines_few kinds s held done (next ∷ rest) few none =
-    let both = no_first (defect_of kinds s held done next)
-    (first_some (λ (e : List Next × Next). defect_of kinds s held e.0 e.1) (with_before (done ++ next ∷ []) rest)) none in
+lines_few : (timing : Timing) (kinds : List Kind) (s : Source) (held : ℕ) (done read : List Next) → held + items_of (width s) (rows_of done) ≤ 16777216
+    → first_some (λ e. defect_of timing kinds s held e.0 e.1) (with_before done read) ≡ None → held + items_of (width s) (rows_of (done ++ read)) ≤ 16777216
+lines_few timing kinds s held done [] few none = rw append-nil few
+lines_few timing kinds s held done (next ∷ rest) few none =
+    let both = no_first (defect_of timing kinds s held done next)
+    (first_some (λ (e : List Next × Next). defect_of timing kinds s held e.0 e.1) (with_before (done ++ next ∷ []) rest)) none in
     let later : held + items_of (width s) (rows_of ((done ++ next ∷ []) ++ rest)) ≤ 16777216 =
-    lines_few kinds s held (done ++ next ∷ []) rest (defect_few kinds s held done next few both.0) both.1 in
+    lines_few timing kinds s held (done ++ next ∷ []) rest (defect_few timing kinds s held done next few both.0) both.1 in
     subst (λ (read : List Next). held + items_of (width s) (rows_of read) ≤ 16777216) (append_assoc done (next ∷ []) rest) later
 
-defect_still : (kinds : List Kind) (s : Source) (fewer held : ℕ) (done : List Next) (next : Next) → fewer ≤ held → defect_of kinds s held done next ≡ None
-    → defect_of kinds s fewer done next ≡ None
-defect_still kinds s fewer held done (RowNext line row) le none =
+defect_still : (timing : Timing) (kinds : List Kind) (s : Source) (fewer held : ℕ) (done : List Next) (next : Next) → fewer ≤ held
+    → defect_of timing kinds s held done next ≡ None
+    → defect_of timing kinds s fewer done next ≡ None
+defect_still timing kinds s fewer held done (RowNext line row) le none =
     let ended = has_ended (rows_of done) in
     let times = times_of (rows_of done) in
     let more = items_of (width s) (rows_of done) in
-    let passes : fault_of kinds s ended times (held + more) row ≡ None =
-    no_mapped (λ (why : Why). (line, why)) (fault_of kinds s ended times (held + more) row) none in
-    ap (option_map (λ (why : Why). (line, why))) (row_still kinds s ended times (fewer + more) (held + more) row (omega (arith, le)) passes)
-defect_still kinds s fewer held done (Bad line) le none = none
-defect_still kinds s fewer held done TooManyLines le none = none
-defect_still kinds s fewer held done (Done lines) le none = none
+    let passes : fault_of timing kinds s ended times (held + more) row ≡ None =
+    no_mapped (λ (why : Why). (line, why)) (fault_of timing kinds s ended times (held + more) row) none in
+    ap (option_map (λ (why : Why). (line, why))) (row_still timing kinds s ended times (fewer + more) (held + more) row (omega (arith, le)) passes)
+defect_still timing kinds s fewer held done (Bad line) le none = none
+defect_still timing kinds s fewer held done TooManyLines le none = none
+defect_still timing kinds s fewer held done (Done lines) le none = none
 
-lines_still : (kinds : List Kind) (s : Source) (fewer held : ℕ) (done read : List Next) → fewer ≤ held
-    → first_some (λ e. defect_of kinds s held e.0 e.1) (with_before done read) ≡ None
-    → first_some (λ e. defect_of kinds s fewer e.0 e.1) (with_before done read) ≡ None
-lines_still kinds s fewer held done [] le none = refl
-lines_still kinds s fewer held done (next ∷ rest) le none =
-    let both = no_first (defect_of kinds s held done next)
-    (first_some (λ (e : List Next × Next). defect_of kinds s held e.0 e.1) (with_before (done ++ next ∷ []) rest)) none in
-    rw (defect_still kinds s fewer held done next le both.0) (lines_still kinds s fewer held (done ++ next ∷ []) rest le both.1)
+lines_still : (timing : Timing) (kinds : List Kind) (s : Source) (fewer held : ℕ) (done read : List Next) → fewer ≤ held
+    → first_some (λ e. defect_of timing kinds s held e.0 e.1) (with_before done read) ≡ None
+    → first_some (λ e. defect_of timing kinds s fewer e.0 e.1) (with_before done read) ≡ None
+lines_still timing kinds s fewer held done [] le none = refl
+lines_still timing kinds s fewer held done (next ∷ rest) le none =
+    let both = no_first (defect_of timing kinds s held done next)
+    (first_some (λ (e : List Next × Next). defect_of timing kinds s held e.0 e.1) (with_before (done ++ next ∷ []) rest)) none in
+    rw (defect_still timing kinds s fewer held done next le both.0) (lines_still timing kinds s fewer held (done ++ next ∷ []) rest le both.1)
 
 -- ---- a source
 -- the items of a source without a defect are few, with those that are held
-source_few : (form : RowForm) (kinds : List Kind) (left : Contents) (s : Source) (held : ℕ) → held ≤ 16777216
-    → first_defect form kinds s held (bytes_left left s.file) ≡ None → held + items_of (width s) (rows_in form left s) ≤ 16777216
-source_few form kinds left s held few none = lines_few kinds s held [] (read_file form (bytes_left left s.file)) (omega (arith, few)) none
+source_few : (timing : Timing) (form : RowForm) (kinds : List Kind) (left : Contents) (s : Source) (held : ℕ) → held ≤ 16777216
+    → first_defect timing form kinds s held (bytes_left left s.file) ≡ None → held + items_of (width s) (rows_in form left s) ≤ 16777216
+source_few timing form kinds left s held few none = lines_few timing kinds s held [] (read_file form (bytes_left left s.file)) (omega (arith, few)) none
 
 -- a source without a row has no defect
-closed_sound : (form : RowForm) (kinds : List Kind) (s : Source) (held : ℕ) → held ≤ 16777216 → first_defect form kinds s held end_line ≡ None
-closed_sound form kinds s held few =
+closed_sound : (timing : Timing) (form : RowForm) (kinds : List Kind) (s : Source) (held : ℕ) → held ≤ 16777216
+    → first_defect timing form kinds s held end_line ≡ None
+closed_sound timing form kinds s held few =
     let fails : nat_lt 16777216 ((held + 0) + 0) ≡ false = grind (arith, nat_tests) in
-    ap (first_of kinds s held) (end_read form) ∙ rw fails refl
+    ap (first_of timing kinds s held) (end_read form) ∙ rw fails refl
 
 -- ---- the items of the sources before
 pub before-push : {X : Type 0} (before xs : List X) (x : X) → with_before before (xs ++ x ∷ []) ≡ with_before before xs ++ (before ++ xs, x) ∷ []
@@ -178,19 +190,23 @@ held_push form left before s =
 abbrev fault_at : ℕ → Option (ℕ × Why) → Option SourceFault
 fault_at number defect = option_map (λ d. record { source = number; row = d.0; why = d.1 }) defect
 
-fault_by : (form : RowForm) (kinds : List Kind) (is_read : ℕ → Bool) (names : List (List ℕ)) (left : Contents) (before : List Source) (s : Source) (b : Bool)
+fault_by : (timing : ℕ → Timing) (form : RowForm) (kinds : List Kind) (is_read : ℕ → Bool) (names : List (List ℕ)) (left : Contents) (before : List Source)
+    (s : Source) (b : Bool)
     → is_among names s.file ≡ not b → items_held form (closed_at names left) before ≡ read_items form is_read left before
     → items_held form (closed_at names left) before ≤ 16777216
-    → fault_of_source form kinds (closed_at names left) before s
-    ≡ (if b then fault_at (length before) (first_defect form kinds s (read_items form is_read left before) (bytes_left left s.file)) else None)
-fault_by form kinds is_read names left before s true is same few =
-    ap (λ held. fault_at (length before) (first_defect form kinds s held (bytes_left (closed_at names left) s.file))) same
-    ∙ ap (λ bytes. fault_at (length before) (first_defect form kinds s (read_items form is_read left before) (unwrap_or bytes [])))
+    → fault_of_source timing form kinds (closed_at names left) before s
+    ≡ (if b
+    then fault_at (length before) (first_defect (timing (length before)) form kinds s (read_items form is_read left before) (bytes_left left s.file))
+    else None)
+fault_by timing form kinds is_read names left before s true is same few =
+    ap (λ held. fault_at (length before) (first_defect (timing (length before)) form kinds s held (bytes_left (closed_at names left) s.file))) same
+    ∙ ap (λ bytes. fault_at (length before) (first_defect (timing (length before)) form kinds s (read_items form is_read left before) (unwrap_or bytes [])))
     (open_left names left s.file is)
-fault_by form kinds is_read names left before s false is same few =
-    ap (λ bytes. fault_at (length before) (first_defect form kinds s (items_held form (closed_at names left) before) (unwrap_or bytes [])))
+fault_by timing form kinds is_read names left before s false is same few =
+    ap (λ bytes. fault_at (length before) (first_defect (timing (length before)) form kinds s (items_held form (closed_at names left) before)
+    (unwrap_or bytes [])))
     (closed_left names left s.file is)
-    ∙ ap (fault_at (length before)) (closed_sound form kinds s (items_held form (closed_at names left) before) few)
+    ∙ ap (fault_at (length before)) (closed_sound (timing (length before)) form kinds s (items_held form (closed_at names left) before) few)
 
 items_by : (form : RowForm) (names : List (List ℕ)) (left : Contents) (s : Source) (b : Bool) → is_among names s.file ≡ not b
     → items_of (width s) (rows_in form (closed_at names left) s) ≡ (if b then items_of (width s) (rows_in form left s) else 0)
@@ -202,37 +218,39 @@ behind_same : {X : Type 0} (o a b : Option X) → (o ≡ None → a ≡ b) → o
 behind_same None a b same = same refl
 behind_same (Some x) a b same = refl
 
-faults_same : (form : RowForm) (kinds : List Kind) (is_read : ℕ → Bool) (names : List (List ℕ)) (left : Contents) (before sources : List Source)
+faults_same : (timing : ℕ → Timing) (form : RowForm) (kinds : List Kind) (is_read : ℕ → Bool) (names : List (List ℕ)) (left : Contents)
+    (before sources : List Source)
     → ClosesOthers is_read names (with_before before sources) → items_held form (closed_at names left) before ≡ read_items form is_read left before
     → items_held form (closed_at names left) before ≤ 16777216
-    → first_some (λ e. fault_of_source form kinds (closed_at names left) e.0 e.1) (with_before before sources)
-    ≡ first_some (λ e. read_fault form kinds is_read left e.0 e.1) (with_before before sources)
-faults_same form kinds is_read names left before [] closes same few = refl
-faults_same form kinds is_read names left before (s ∷ rest) closes same few =
+    → first_some (λ e. fault_of_source timing form kinds (closed_at names left) e.0 e.1) (with_before before sources)
+    ≡ first_some (λ e. read_fault timing form kinds is_read left e.0 e.1) (with_before before sources)
+faults_same timing form kinds is_read names left before [] closes same few = refl
+faults_same timing form kinds is_read names left before (s ∷ rest) closes same few =
     let now = closed_at names left in
     let held = items_held form now before in
-    let here : fault_of_source form kinds now before s ≡ read_fault form kinds is_read left before s =
-    fault_by form kinds is_read names left before s (is_read (length before)) closes.0 same few in
+    let here : fault_of_source timing form kinds now before s ≡ read_fault timing form kinds is_read left before s =
+    fault_by timing form kinds is_read names left before s (is_read (length before)) closes.0 same few in
     let items : items_of (width s) (rows_in form now s) ≡ read_items_in form is_read left (before, s) =
     items_by form names left s (is_read (length before)) closes.0 in
     let all_now : Option SourceFault =
-    first_some (λ (e : List Source × Source). fault_of_source form kinds now e.0 e.1) (with_before (before ++ s ∷ []) rest) in
+    first_some (λ (e : List Source × Source). fault_of_source timing form kinds now e.0 e.1) (with_before (before ++ s ∷ []) rest) in
     let all_read : Option SourceFault =
-    first_some (λ (e : List Source × Source). read_fault form kinds is_read left e.0 e.1) (with_before (before ++ s ∷ []) rest) in
+    first_some (λ (e : List Source × Source). read_fault timing form kinds is_read left e.0 e.1) (with_before (before ++ s ∷ []) rest) in
     let same_now : items_held form now (before ++ s ∷ []) ≡ read_items form is_read left (before ++ s ∷ []) =
     held_push form now before s ∙ ap (λ n. n + items_of (width s) (rows_in form now s)) same ∙ ap (λ n. read_items form is_read left before + n) items
     ∙ sym (read_push form is_read left before s) in
-    let later : read_fault form kinds is_read left before s ≡ None → all_now ≡ all_read = λ none.
-    let sound : first_defect form kinds s held (bytes_left now s.file) ≡ None =
+    let later : read_fault timing form kinds is_read left before s ≡ None → all_now ≡ all_read = λ none.
+    let sound : first_defect (timing (length before)) form kinds s held (bytes_left now s.file) ≡ None =
     no_mapped (λ (d : ℕ × Why). record { source = length before; row = d.0; why = d.1 })
-    (first_defect form kinds s held (bytes_left now s.file)) (here ∙ none) in
-    let few_now : items_held form now (before ++ s ∷ []) ≤ 16777216 = omega (arith, held_push form now before s, source_few form kinds now s held few sound) in
-    faults_same form kinds is_read names left (before ++ s ∷ []) rest closes.1 same_now few_now in
-    ap (λ fault. or_else fault all_now) here ∙ behind_same (read_fault form kinds is_read left before s) all_now all_read later
+    (first_defect (timing (length before)) form kinds s held (bytes_left now s.file)) (here ∙ none) in
+    let few_now : items_held form now (before ++ s ∷ []) ≤ 16777216 =
+    omega (arith, held_push form now before s, source_few (timing (length before)) form kinds now s held few sound) in
+    faults_same timing form kinds is_read names left (before ++ s ∷ []) rest closes.1 same_now few_now in
+    ap (λ fault. or_else fault all_now) here ∙ behind_same (read_fault timing form kinds is_read left before s) all_now all_read later
 
 pub defects_law : LawOfDefects
 defects_law p is_read left =
-    faults_same (form_of (job_of p)) p.kinds is_read (closed_files p is_read) left [] p.sources (closes_others p is_read) refl (omega arith)
+    faults_same (timing_of p) (form_of (job_of p)) p.kinds is_read (closed_files p is_read) left [] p.sources (closes_others p is_read) refl (omega arith)
 
 -- ---- where no source has a defect
 read_few : (form : RowForm) (left : Contents) (s : Source) (b : Bool)
@@ -244,26 +262,27 @@ none_by : (b : Bool) (number : ℕ) (defect : Option (ℕ × Why)) → defect �
 none_by true number defect none = ap (fault_at number) none
 none_by false number defect none = refl
 
-read_sound : (form : RowForm) (kinds : List Kind) (is_read : ℕ → Bool) (left : Contents) (before sources : List Source)
+read_sound : (timing : ℕ → Timing) (form : RowForm) (kinds : List Kind) (is_read : ℕ → Bool) (left : Contents) (before sources : List Source)
     → read_items form is_read left before ≤ items_held form left before
-    → first_some (λ e. fault_of_source form kinds left e.0 e.1) (with_before before sources) ≡ None
-    → first_some (λ e. read_fault form kinds is_read left e.0 e.1) (with_before before sources) ≡ None
-read_sound form kinds is_read left before [] le none = refl
-read_sound form kinds is_read left before (s ∷ rest) le none =
+    → first_some (λ e. fault_of_source timing form kinds left e.0 e.1) (with_before before sources) ≡ None
+    → first_some (λ e. read_fault timing form kinds is_read left e.0 e.1) (with_before before sources) ≡ None
+read_sound timing form kinds is_read left before [] le none = refl
+read_sound timing form kinds is_read left before (s ∷ rest) le none =
     let bytes = bytes_left left s.file in
-    let both = no_first (fault_of_source form kinds left before s)
-    (first_some (λ (e : List Source × Source). fault_of_source form kinds left e.0 e.1) (with_before (before ++ s ∷ []) rest)) none in
-    let sound : first_defect form kinds s (items_held form left before) bytes ≡ None =
+    let both = no_first (fault_of_source timing form kinds left before s)
+    (first_some (λ (e : List Source × Source). fault_of_source timing form kinds left e.0 e.1) (with_before (before ++ s ∷ []) rest)) none in
+    let sound : first_defect (timing (length before)) form kinds s (items_held form left before) bytes ≡ None =
     no_mapped (λ (d : ℕ × Why). record { source = length before; row = d.0; why = d.1 })
-    (first_defect form kinds s (items_held form left before) bytes) both.0 in
-    let still : first_defect form kinds s (read_items form is_read left before) bytes ≡ None =
-    lines_still kinds s (read_items form is_read left before) (items_held form left before) [] (read_file form bytes) le sound in
+    (first_defect (timing (length before)) form kinds s (items_held form left before) bytes) both.0 in
+    let still : first_defect (timing (length before)) form kinds s (read_items form is_read left before) bytes ≡ None =
+    lines_still (timing (length before)) kinds s (read_items form is_read left before) (items_held form left before) [] (read_file form bytes) le sound in
     let fewer : read_items_in form is_read left (before, s) ≤ items_of (width s) (rows_in form left s) = read_few form left s (is_read (length before)) in
     let le_now : read_items form is_read left (before ++ s ∷ []) ≤ items_held form left (before ++ s ∷ []) =
     omega (arith, read_push form is_read left before s, held_push form left before s, fewer, le) in
-    rw (none_by (is_read (length before)) (length before) (first_defect form kinds s (read_items form is_read left before) bytes) still)
-    (read_sound form kinds is_read left (before ++ s ∷ []) rest le_now both.1)
+    rw (none_by (is_read (length before)) (length before)
+    (first_defect (timing (length before)) form kinds s (read_items form is_read left before) bytes) still)
+    (read_sound timing form kinds is_read left (before ++ s ∷ []) rest le_now both.1)
 
 pub good_stay_good : GoodStayGood
 good_stay_good p is_read left good =
-    defects_law p is_read left ∙ read_sound (form_of (job_of p)) p.kinds is_read left [] p.sources (omega arith) good
+    defects_law p is_read left ∙ read_sound (timing_of p) (form_of (job_of p)) p.kinds is_read left [] p.sources (omega arith) good

@@ -14,7 +14,9 @@ use Rattle.flu_model.specs.declared.events.Item.TheVariants.{End as EndItem}
 use Rattle.flu_model.specs.declared.events.Tag.{Tag}
 use Rattle.flu_model.specs.declared.jobs.Kind.{Kind}
 use Rattle.flu_model.specs.declared.jobs.Source.{Source}
+use Rattle.flu_model.specs.declared.moments.Timing.{Timing}
 use Rattle.flu_model.specs.Itags.{count_of_itags, source_of_itag}
+use Rattle.flu_model.specs.Moments.{timing_of}
 use Rattle.flu_model.specs.Streaming.{is_stream_from, are_streams}
 use Rattle.flu_model.specs.Listing.{tag, tags_of_source, itags_of_sources}
 use Rattle.flu_outside.specs.Outside.{Contents}
@@ -24,7 +26,7 @@ use Rattle.flu_rows.specs.declared.row.Row.TheVariants.{End}
 use Rattle.flu_rows.specs.Reading.{read_file}
 use Rattle.flu_rows.specs.Row.{form_of}
 use Rattle.flu_streams.specs.Before.{with_before}
-use Rattle.flu_streams.specs.Good.{rows_in, items_at, lists_of_rows, lists_of}
+use Rattle.flu_streams.specs.Good.{rows_in, at_moments, items_at, lists_of_rows, lists_of}
 use Rattle.flu_streams.specs.Tags.{width}
 use Rattle.flu_streams.specs.Tests.{rows_of}
 use Rattle.flu_selected.proofs.Ends.{end_read}
@@ -50,35 +52,37 @@ closed_rows form names left s there =
     ap (λ bytes. rows_of (read_file form (unwrap_or bytes []))) (closed_left names left s.file there) ∙ ap rows_of (end_read form)
 
 -- ---- the lists of one source
-length_of_rows : (kinds : List Kind) (s : Source) (first : ℕ) (rows : List Row) → length (lists_of_rows kinds s first rows) ≡ width s
-length_of_rows kinds s first rows = length-map-range_with_len (items_at kinds s first rows) 0 (width s)
+length_of_rows : (timing : Timing) (kinds : List Kind) (s : Source) (first : ℕ) (rows : List Row) → length (lists_of_rows timing kinds s first rows) ≡ width s
+length_of_rows timing kinds s first rows = length-map-range_with_len (items_at kinds s first (at_moments timing [] rows)) 0 (width s)
 
-end_alone : (kinds : List Kind) (s : Source) (first i : ℕ) → i < width s → get_or (lists_of_rows kinds s first (End ∷ [])) i [] ≡ EndItem ∷ []
-end_alone kinds s first i lt = get_or-map-range_with_len (items_at kinds s first (End ∷ [])) 0 (width s) i (0 + i) [] lt refl
+end_alone : (timing : Timing) (kinds : List Kind) (s : Source) (first i : ℕ) → i < width s
+    → get_or (lists_of_rows timing kinds s first (End ∷ [])) i [] ≡ EndItem ∷ []
+end_alone timing kinds s first i lt = get_or-map-range_with_len (items_at kinds s first (at_moments timing [] (End ∷ []))) 0 (width s) i (0 + i) [] lt refl
 
 -- ---- the lists of all sources
-abbrev lists_from : RowForm → List Kind → Contents → List Source → List Source → List (List Item)
-lists_from form kinds left before sources =
-    flat_map (λ e. lists_of_rows kinds e.1 (sum_by width e.0) (rows_in form left e.1)) (with_before before sources)
+abbrev lists_from : (ℕ → Timing) → RowForm → List Kind → Contents → List Source → List Source → List (List Item)
+lists_from timing form kinds left before sources =
+    flat_map (λ e. lists_of_rows (timing (length e.0)) kinds e.1 (sum_by width e.0) (rows_in form left e.1)) (with_before before sources)
 
-length_from : (form : RowForm) (kinds : List Kind) (left : Contents) (before sources : List Source) (n : ℕ)
-    → length (lists_from form kinds left before sources) ≡ length (itags_of_sources n sources)
-length_from form kinds left before [] n = refl
-length_from form kinds left before (s ∷ rest) n =
-    let here : List (List Item) = lists_of_rows kinds s (sum_by width before) (rows_in form left s) in
+length_from : (timing : ℕ → Timing) (form : RowForm) (kinds : List Kind) (left : Contents) (before sources : List Source) (n : ℕ)
+    → length (lists_from timing form kinds left before sources) ≡ length (itags_of_sources n sources)
+length_from timing form kinds left before [] n = refl
+length_from timing form kinds left before (s ∷ rest) n =
+    let here : List (List Item) = lists_of_rows (timing (length before)) kinds s (sum_by width before) (rows_in form left s) in
     let mine : List (Tag × ℕ) = map (λ (t : Tag). (t, n)) (tags_of_source s) in
-    let lists_len : length (lists_from form kinds left before (s ∷ rest)) ≡ length here + length (lists_from form kinds left (before ++ s ∷ []) rest) =
-    length-append here (lists_from form kinds left (before ++ s ∷ []) rest) in
+    let lists_len : length (lists_from timing form kinds left before (s ∷ rest)) ≡ length here + length
+    (lists_from timing form kinds left (before ++ s ∷ []) rest) =
+    length-append here (lists_from timing form kinds left (before ++ s ∷ []) rest) in
     let itags_len : length (itags_of_sources n (s ∷ rest)) ≡ length mine + length (itags_of_sources (n + 1) rest) =
     length-append mine (itags_of_sources (n + 1) rest) in
-    let here_len : length here ≡ width s = length_of_rows kinds s (sum_by width before) (rows_in form left s) in
+    let here_len : length here ≡ width s = length_of_rows (timing (length before)) kinds s (sum_by width before) (rows_in form left s) in
     let mine_len : length mine ≡ width s = length-map (tags_of_source s) (λ (t : Tag). (t, n)) in
-    let later : length (lists_from form kinds left (before ++ s ∷ []) rest) ≡ length (itags_of_sources (n + 1) rest) =
-    length_from form kinds left (before ++ s ∷ []) rest (n + 1) in
+    let later : length (lists_from timing form kinds left (before ++ s ∷ []) rest) ≡ length (itags_of_sources (n + 1) rest) =
+    length_from timing form kinds left (before ++ s ∷ []) rest (n + 1) in
     omega arith
 
 pub length_law : LawOfLength
-length_law p left = length_from (form_of (job_of p)) p.kinds left [] p.sources 0
+length_law p left = length_from (timing_of p) (form_of (job_of p)) p.kinds left [] p.sources 0
 
 -- the list of an itag: what a read source gives, and else the end alone
 abbrev list_if : Bool → List Item → List Item
@@ -88,49 +92,51 @@ list_if b items = if b then items else EndItem ∷ []
 abbrev source_in : ℕ → List Source → ℕ → ℕ
 source_in n sources i = (get_or (itags_of_sources n sources) i (tag 0 0, 0)).1
 
-here_same : (form : RowForm) (kinds : List Kind) (names : List (List ℕ)) (left : Contents) (s : Source) (first i : ℕ) (b : Bool)
+here_same : (timing : Timing) (form : RowForm) (kinds : List Kind) (names : List (List ℕ)) (left : Contents) (s : Source) (first i : ℕ) (b : Bool)
     → is_among names s.file ≡ not b → i < width s
-    → get_or (lists_of_rows kinds s first (rows_in form (closed_at names left) s)) i []
-    ≡ list_if b (get_or (lists_of_rows kinds s first (rows_in form left s)) i [])
-here_same form kinds names left s first i true is lt = ap (λ rows. get_or (lists_of_rows kinds s first rows) i []) (open_rows form names left s is)
-here_same form kinds names left s first i false is lt =
-    ap (λ rows. get_or (lists_of_rows kinds s first rows) i []) (closed_rows form names left s is) ∙ end_alone kinds s first i lt
+    → get_or (lists_of_rows timing kinds s first (rows_in form (closed_at names left) s)) i []
+    ≡ list_if b (get_or (lists_of_rows timing kinds s first (rows_in form left s)) i [])
+here_same timing form kinds names left s first i true is lt =
+    ap (λ rows. get_or (lists_of_rows timing kinds s first rows) i []) (open_rows form names left s is)
+here_same timing form kinds names left s first i false is lt =
+    ap (λ rows. get_or (lists_of_rows timing kinds s first rows) i []) (closed_rows form names left s is) ∙ end_alone timing kinds s first i lt
 
 mine_source : (tags : List Tag) (n i : ℕ) (rest : List (Tag × ℕ)) → i < length tags → (get_or (map (λ t. (t, n)) tags ++ rest) i (tag 0 0, 0)).1 ≡ n
 mine_source [] n i rest lt = absurd (omega arith)
 mine_source (t ∷ tags) n zero rest lt = refl
 mine_source (t ∷ tags) n (suc i) rest lt = mine_source tags n i rest (omega arith)
 
-lists_same : (form : RowForm) (kinds : List Kind) (is_read : ℕ → Bool) (names : List (List ℕ)) (left : Contents) (before sources : List Source) (i : ℕ)
+lists_same : (timing : ℕ → Timing) (form : RowForm) (kinds : List Kind) (is_read : ℕ → Bool) (names : List (List ℕ)) (left : Contents)
+    (before sources : List Source) (i : ℕ)
     → ClosesOthers is_read names (with_before before sources) → i < length (itags_of_sources (length before) sources)
-    → get_or (lists_from form kinds (closed_at names left) before sources) i []
-    ≡ list_if (is_read (source_in (length before) sources i)) (get_or (lists_from form kinds left before sources) i [])
-lists_same form kinds is_read names left before [] i closes lt = absurd (omega arith)
-lists_same form kinds is_read names left before (s ∷ rest) i closes lt =
+    → get_or (lists_from timing form kinds (closed_at names left) before sources) i []
+    ≡ list_if (is_read (source_in (length before) sources i)) (get_or (lists_from timing form kinds left before sources) i [])
+lists_same timing form kinds is_read names left before [] i closes lt = absurd (omega arith)
+lists_same timing form kinds is_read names left before (s ∷ rest) i closes lt =
     let n = length before in
     let first = sum_by width before in
-    let front : Contents → List (List Item) = λ x. lists_of_rows kinds s first (rows_in form x s) in
-    let back : Contents → List (List Item) = λ x. lists_from form kinds x (before ++ s ∷ []) rest in
+    let front : Contents → List (List Item) = λ x. lists_of_rows (timing n) kinds s first (rows_in form x s) in
+    let back : Contents → List (List Item) = λ x. lists_from timing form kinds x (before ++ s ∷ []) rest in
     let mine : List (Tag × ℕ) = map (λ (t : Tag). (t, n)) (tags_of_source s) in
     let mine_len : length mine ≡ width s = length-map (tags_of_source s) (λ (t : Tag). (t, n)) in
-    let front_len : (x : Contents) → length (front x) ≡ width s = λ x. length_of_rows kinds s first (rows_in form x s) in
+    let front_len : (x : Contents) → length (front x) ≡ width s = λ x. length_of_rows (timing n) kinds s first (rows_in form x s) in
     let now = closed_at names left in
-    let Goal : Type 0 = get_or (lists_from form kinds now before (s ∷ rest)) i []
-    ≡ list_if (is_read (source_in n (s ∷ rest) i)) (get_or (lists_from form kinds left before (s ∷ rest)) i []) in
+    let Goal : Type 0 = get_or (lists_from timing form kinds now before (s ∷ rest)) i []
+    ≡ list_if (is_read (source_in n (s ∷ rest) i)) (get_or (lists_from timing form kinds left before (s ∷ rest)) i []) in
     elim (cases_lt i (width s)) as (λ c. Goal) [
       | inl inside ↦
           let left_now : i < length (front now) = omega (arith, front_len now) in
           let left_was : i < length (front left) = omega (arith, front_len left) in
-          get_or-append (front now) (back now) [] i left_now ∙ here_same form kinds names left s first i (is_read n) closes.0 inside
+          get_or-append (front now) (back now) [] i left_now ∙ here_same (timing n) form kinds names left s first i (is_read n) closes.0 inside
           ∙ ap (λ items. list_if (is_read n) items) (sym (get_or-append (front left) (back left) [] i left_was))
-          ∙ ap (λ number. list_if (is_read number) (get_or (lists_from form kinds left before (s ∷ rest)) i []))
+          ∙ ap (λ number. list_if (is_read number) (get_or (lists_from timing form kinds left before (s ∷ rest)) i []))
           (sym (mine_source (tags_of_source s) n i (itags_of_sources (n + 1) rest) inside))
       | inr past ↦
           let number : length (before ++ s ∷ []) ≡ n + 1 = length-append before (s ∷ []) in
           let all : length (itags_of_sources n (s ∷ rest)) ≡ length mine + length (itags_of_sources (n + 1) rest) =
           length-append mine (itags_of_sources (n + 1) rest) in
           let more : i - width s < length (itags_of_sources (length (before ++ s ∷ [])) rest) = rw number (omega arith) in
-          let later = lists_same form kinds is_read names left (before ++ s ∷ []) rest (i - width s) closes.1 more in
+          let later = lists_same timing form kinds is_read names left (before ++ s ∷ []) rest (i - width s) closes.1 more in
           let there : get_or (itags_of_sources n (s ∷ rest)) i (tag 0 0, 0) ≡ get_or (itags_of_sources (n + 1) rest) (i - width s) (tag 0 0, 0) =
           get_or-append_right mine (itags_of_sources (n + 1) rest) (width s) i (tag 0 0, 0) mine_len past in
           get_or-append_right (front now) (back now) (width s) i [] (front_len now) past ∙ later
@@ -142,7 +148,7 @@ lists_same form kinds is_read names left before (s ∷ rest) i closes lt =
 
 pub lists_law : LawOfLists
 lists_law p is_read left itag lt =
-    lists_same (form_of (job_of p)) p.kinds is_read (closed_files p is_read) left [] p.sources itag (closes_others p is_read) lt
+    lists_same (timing_of p) (form_of (job_of p)) p.kinds is_read (closed_files p is_read) left [] p.sources itag (closes_others p is_read) lt
 
 -- ---- streams
 streams_by_place : (from : ℕ) (lists others : List (List Item)) → length others ≡ length lists

@@ -11,6 +11,7 @@ use Rattle.flu_streams.specs.declared.faults.Why.{Why}
 use Rattle.flu_streams.specs.Before.{each_with_before, first_some}
 use Rattle.flu_streams.specs.Files.{files_of}
 use Rattle.flu_streams.specs.OneJob.{JobsReadTheSame}
+use Rattle.flu_streams.proofs.OneJob.{timing_in}
 use Rattle.flu_selected.specs.Gathering.{IsRead}
 use Rattle.flu_selected.specs.Laws.{closed_file, closed_files, selected, read_items, first_read_fault}
 use Rattle.flu_selected.specs.OneJob.{JobsSelectTheSame}
@@ -27,7 +28,8 @@ module _ (law : JobsReadTheSame) (p q : Program) (same : IsSameJob p q) where
   same_faults = λ i is_read left. first_some (λ (e : List Source × Source).
       if is_read (length e.0)
       then option_map (λ (d : ℕ × Why). record { source = length e.0; row = d.0; why = d.1 })
-      ((law p q same).rows.defects (form_of (same i)) i e.1 (read_items (form_of (same i)) is_read left e.0) (bytes_left left e.1.file))
+      ((law p q same).rows.defects (timing_in (same i) (length e.0)) (form_of (same i)) i e.1 (read_items (form_of (same i)) is_read left e.0)
+      (bytes_left left e.1.file))
       else None) (each_with_before (same i).sources)
 
   same_read : (is_read : ℕ → Bool) (name : List ℕ) → IsRead p is_read name → IsRead q is_read name

@@ -6,6 +6,8 @@ use Rattle.flu_model.specs.declared.events.Item.TheVariants.{End as EndItem}
 use Rattle.flu_model.specs.declared.jobs.Kind.{Kind}
 use Rattle.flu_model.specs.declared.jobs.Source.{Source}
 use Rattle.flu_model.specs.declared.jobs.Program.{Program}
+use Rattle.flu_model.specs.declared.moments.Timing.{Timing}
+use Rattle.flu_model.specs.Moments.{timing_of}
 use Rattle.flu_model.specs.Itags.{count_of_itags, source_of_itag}
 use Rattle.flu_model.specs.Streaming.{are_streams}
 use Rattle.flu_outside.specs.Outside.{Contents}
@@ -65,16 +67,16 @@ read_items form is_read left sources = sum_by (read_items_in form is_read left) 
 
 -- the fault of a read source that comes after others: its first defect, given that the items of the read ones among those are held.
 -- A source that is not read has none.
-abbrev pub read_fault : RowForm → List Kind → (ℕ → Bool) → Contents → List Source → Source → Option SourceFault
-read_fault form kinds is_read left earlier s =
+abbrev pub read_fault : (ℕ → Timing) → RowForm → List Kind → (ℕ → Bool) → Contents → List Source → Source → Option SourceFault
+read_fault timing form kinds is_read left earlier s =
     if is_read (length earlier)
     then option_map (λ d. record { source = length earlier; row = d.0; why = d.1 })
-    (first_defect form kinds s (read_items form is_read left earlier) (bytes_left left s.file))
+    (first_defect (timing (length earlier)) form kinds s (read_items form is_read left earlier) (bytes_left left s.file))
     else None
 
 -- THE FIRST FAULT OF THE READ SOURCES: the fault of the first one, as declared, that has a defect
 abbrev pub first_read_fault : Program → (ℕ → Bool) → Contents → Option SourceFault
-first_read_fault p is_read left = first_some (λ e. read_fault (form_of (job_of p)) p.kinds is_read left e.0 e.1) (each_with_before p.sources)
+first_read_fault p is_read left = first_some (λ e. read_fault (timing_of p) (form_of (job_of p)) p.kinds is_read left e.0 e.1) (each_with_before p.sources)
 
 -- LAW OF DEFECTS: the first fault of all sources is that of the read ones
 abbrev pub LawOfDefects : Type 0

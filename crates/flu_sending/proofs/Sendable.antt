@@ -3,6 +3,7 @@ use Rattle.std.proofs.Common.{◌≡◌, ◌<◌, ◌+◌, ◌^◌, ℕ, Bool, t
 use Rattle.std.specs.Prelude.{Option, FitsSigned, not}
 use Rattle.std.specs.Int.{w64}
 use Rattle.std.specs.List.{AllByRecursion}
+use Rattle.std.proofs.Math.Nat.{div-le_self}
 use Rattle.flu_lemmas.proofs.Elements.{all_append, all_filter, all_map, all_of_both}
 use Rattle.flu_model.specs.declared.events.Cell.{Cell}
 use Rattle.flu_model.specs.declared.events.Event.{Event}
@@ -14,6 +15,7 @@ use Rattle.flu_model.specs.Contents.{Contents, nothing_held}
 use Rattle.flu_model.specs.Folding.{outputs_at}
 use Rattle.flu_model.specs.Itags.{count_of_itags, tag_of_itag}
 use Rattle.flu_model.specs.Merging.{merged}
+use Rattle.flu_model.specs.Moments.{moments_a_time, time_of_moment}
 use Rattle.flu_model.specs.Updates.{effect_of}
 use Rattle.flu_laws.specs.Updating.{KeepsSorts}
 use Rattle.flu_contribution.specs.Contributions.{keeps, is_inside, is_above, Contribution, opened, with_event, closed, contributions_from, contributions}
@@ -32,6 +34,10 @@ record IsRead (p : Program) (x : Event) : Type 0 where
   itag : x.itag.0 < count_of_itags p
   time : IsTime x.time
   value : FitsSigned w64 x.value
+
+-- the time of a moment is no greater than it
+is_time : (p : Program) (m : ℕ) → IsTime m → IsTime (time_of_moment p m)
+is_time p m low = omega (arith, div-le_self m (moments_a_time p), low)
 
 -- the outputs of an event
 outputs_are : (P : Out → Type 0) (time : ℕ) (tag : Tag) (texts : List (List ℕ)) → ((text : List ℕ) → P (record { time = time; tag = tag; text = text }))
@@ -84,18 +90,19 @@ module _ (sorts : KeepsSorts) (fit : TagsFit) (p : Program) (nodes : List Node) 
   with_event_has k x h read few =
       let texts = (effect_of p k.cells x).texts in
       let t = tag_of_itag p x.itag in
+      let time = time_of_moment p x.time in
       record {
         sendable = record {
           cells = record {
             sorts = sorts p k.cells x h.sendable.cells.sorts;
             width = update_words fit p k.cells x read.value.sfits h.sendable.cells.width;
           };
-          tags = all_append (λ (o : Out). IsListed p o.tag) k.outputs (outputs_at x.time t texts) h.sendable.tags
-              (outputs_are (λ (o : Out). IsListed p o.tag) x.time t texts (λ text. (x.itag, read.itag, refl)));
+          tags = all_append (λ (o : Out). IsListed p o.tag) k.outputs (outputs_at time t texts) h.sendable.tags
+              (outputs_are (λ (o : Out). IsListed p o.tag) time t texts (λ text. (x.itag, read.itag, refl)));
         };
         in_range = record {
-          times = all_append (λ (o : Out). IsTime o.time) k.outputs (outputs_at x.time t texts) h.in_range.times
-              (outputs_are (λ (o : Out). IsTime o.time) x.time t texts (λ text. read.time));
+          times = all_append (λ (o : Out). IsTime o.time) k.outputs (outputs_at time t texts) h.in_range.times
+              (outputs_are (λ (o : Out). IsTime o.time) time t texts (λ text. is_time p x.time read.time));
           place = low;
           count = few;
         };

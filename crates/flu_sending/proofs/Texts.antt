@@ -34,9 +34,10 @@ use Rattle.flu_model.specs.declared.jobs.Sort.TheVariants as sorts
 use Rattle.flu_model.specs.declared.plans.Node.{Node}
 use Rattle.flu_model.specs.Contents.{Contents, cell, held_keys, nothing_held}
 use Rattle.flu_model.specs.Expressions.{cell_of, item_of}
-use Rattle.flu_model.specs.Folding.{outputs_at}
+use Rattle.flu_model.specs.Folding.{outputs_at, outputs_with}
 use Rattle.flu_model.specs.Itags.{tag_of_itag}
 use Rattle.flu_model.specs.Merging.{merged}
+use Rattle.flu_model.specs.Moments.{time_of_moment, at_its_time}
 use Rattle.flu_model.specs.Numberings.{Numbering, shown_number, text_at}
 use Rattle.flu_model.specs.Reports.{kind_text, name_with_key, text_of_tag}
 use Rattle.flu_model.specs.Rules.{action_fits, kind_fits}
@@ -248,7 +249,7 @@ module _ (p : Program) (nodes : List Node) (w : ℕ) (named : NamesAreUtf8 p.lis
   event : (s : Contents) (x : Event) → AllByRecursion IsUtf8 (effect_of p s x).texts
   event s x =
       let t = tag_of_itag p x.itag in
-      actions (showing_of p t.kind) named p.families (actions_of (slice_get p.kinds t.kind)) s x t.key (kind_actions p.kinds templates t.kind)
+      actions (showing_of p t.kind) named p.families (actions_of (slice_get p.kinds t.kind)) s (at_its_time p x) t.key (kind_actions p.kinds templates t.kind)
 
   outputs : (time : ℕ) (t : Tag) (texts : List (List ℕ)) → AllByRecursion IsUtf8 texts → AllByRecursion (IsUtf8Output p) (outputs_at time t texts)
   outputs time t [] all = tt
@@ -258,8 +259,8 @@ module _ (p : Program) (nodes : List Node) (w : ℕ) (named : NamesAreUtf8 p.lis
   all_have k [] h = (h, tt)
   all_have k (x ∷ xs) h =
       by (is_inside p nodes w x) (is_above p nodes w x)
-      (all_have (with_event p k x) xs (all_append (IsUtf8Output p) k.outputs (outputs_at x.time (tag_of_itag p x.itag) (effect_of p k.cells x).texts) h
-      (outputs x.time (tag_of_itag p x.itag) (effect_of p k.cells x).texts (event k.cells x))))
+      (all_have (with_event p k x) xs (all_append (IsUtf8Output p) k.outputs (outputs_with p x (effect_of p k.cells x).texts) h
+      (outputs (time_of_moment p x.time) (tag_of_itag p x.itag) (effect_of p k.cells x).texts (event k.cells x))))
       (h, all_have (opened p nodes w k.cells) xs tt) (all_have k xs h)
     where
       by : (i a : Bool) → AllByRecursion HasTexts (contributions_from p nodes w (with_event p k x) xs)

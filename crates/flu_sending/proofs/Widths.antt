@@ -29,6 +29,7 @@ use Rattle.flu_model.specs.Contents.{Contents, is_same_cell, with_worth, added, 
 use Rattle.flu_model.specs.Expressions.{item_of, cell_of, quotient_of, remainder_of, as_number, clamped, is_true, result_of, value_of_expr}
 use Rattle.flu_model.specs.Itags.{itags, count_of_itags, tag_of_itag}
 use Rattle.flu_model.specs.Listing.{tag}
+use Rattle.flu_model.specs.Moments.{at_its_time}
 use Rattle.flu_model.specs.Rules.{is_literal, expr_fits, height, is_good_expr, act_fits, action_fits, kind_fits, tag_fits}
 use Rattle.flu_model.specs.Texts.{Showing}
 use Rattle.flu_model.specs.Updates.{changes_to, effect_of_act, effect_of_action, effect_of_actions, actions_of, effect_of, passes_guard, showing_of}
@@ -205,4 +206,5 @@ pub update_words : TagsFit → (p : Program) (s : Contents) (x : Event) → HasW
 update_words fit p s x value words =
     let t = tag_of_itag p x.itag in
     let found = found_fits p.families p.kinds t.kind p.kinds_fit in
-    actions_words (showing_of p t.kind) p.families found.0 found.1.0 x t.key value (key_low fit p x.itag) (actions_of (slice_get p.kinds t.kind)) s found.1.1 words
+    actions_words (showing_of p t.kind) p.families found.0 found.1.0 (at_its_time p x) t.key value (key_low fit p x.itag)
+    (actions_of (slice_get p.kinds t.kind)) s found.1.1 words

@@ -11,6 +11,7 @@ use Rattle.flu_model.specs.Folding.{outputs_at}
 use Rattle.flu_model.specs.declared.jobs.Kind.{Kind}
 use Rattle.flu_model.specs.declared.jobs.Program.{Program}
 use Rattle.flu_model.specs.Itags.{tag_of_itag}
+use Rattle.flu_model.specs.Moments.{at_its_time}
 use Rattle.flu_model.specs.declared.jobs.Family.{Family}
 use Rattle.flu_model.specs.declared.jobs.At.{At}
 use Rattle.flu_model.specs.declared.jobs.At.TheVariants.{Alone, OwnKey, OwnItem, Fixed}
@@ -116,11 +117,12 @@ tag_targets families kinds t x fits small = of (slice_get kinds t.kind) refl
         targets_in_range families k.keyed k.has_value k.actions t.key (item_of x)
         (and_right _ _ (passes_at (kind_fits families) kinds t.kind k fits e)) (true_lt _ _ (and_right _ _ small)) (item_in_range x)
 
-pub effect-at : (p : Program) (s : Contents) (x : Event) (t : Tag) (show : Showing) (families : List Family) (all : List Action)
+pub effect-at : (p : Program) (s : Contents) (x y : Event) (t : Tag) (show : Showing) (families : List Family) (all : List Action)
     → show ≡ showing_of p t.kind → families ≡ p.families → all ≡ actions_of (slice_get p.kinds t.kind) → t ≡ tag_of_itag p x.itag
-    → effect_of_actions show families all s x t.key ≡ effect_of p s x
-effect-at p s x t show families all is_shown is_families is_all is =
-    ap (λ shown. effect_of_actions shown families all s x t.key) is_shown
-    ∙ ap (λ fs. effect_of_actions (showing_of p t.kind) fs all s x t.key) is_families
-    ∙ ap (λ acts. effect_of_actions (showing_of p t.kind) p.families acts s x t.key) is_all
-    ∙ ap (λ u. effect_of_actions (showing_of p u.kind) p.families (actions_of (slice_get p.kinds u.kind)) s x u.key) is
+    → y ≡ at_its_time p x → effect_of_actions show families all s y t.key ≡ effect_of p s x
+effect-at p s x y t show families all is_shown is_families is_all is at =
+    ap (λ shown. effect_of_actions shown families all s y t.key) is_shown
+    ∙ ap (λ fs. effect_of_actions (showing_of p t.kind) fs all s y t.key) is_families
+    ∙ ap (λ acts. effect_of_actions (showing_of p t.kind) p.families acts s y t.key) is_all
+    ∙ ap (λ z. effect_of_actions (showing_of p t.kind) p.families (actions_of (slice_get p.kinds t.kind)) s z t.key) at
+    ∙ ap (λ u. effect_of_actions (showing_of p u.kind) p.families (actions_of (slice_get p.kinds u.kind)) s (at_its_time p x) u.key) is

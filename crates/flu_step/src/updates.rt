@@ -20,7 +20,7 @@ use crate::texts::{Filling, Shown, text_of};
 use flu_cells::State;
 use flu_model::{
     Act, Action, Cell, Event, Expr, Family, Kind, Out, Outs, Piece, Program, Tag, Text, actions_of,
-    cell_of, item_of, tag_of,
+    at_its_time, cell_of, item_of, tag_of,
 };
 use std::alloc::{AllocError, Global};
 
@@ -49,10 +49,11 @@ pub fn update(
     ensures outputs { OnOk result (outs.new ≡ outs.old ++ outputs_with p.now x.now (effect_of p.now (held s.old) x.now).texts) }
 {
     let tag = tag_of(p, x.itag);
+    let shown = at_its_time(p, x);
     let moment = Moment {
         show: shown_at(p, tag.kind),
         families: p.families.items(),
-        event: x,
+        event: &shown,
         tag,
     };
     do_actions(alloc, &moment, actions_of(p, tag), s, outs)

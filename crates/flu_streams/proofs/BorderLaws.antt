@@ -1,8 +1,9 @@
 -- What is cut at a time is folded in turn.
-use Rattle.std.proofs.Common.{◌≡◌, ℕ, Bool, true, false, cond, List, [], ◌∷◌, ◌++◌, map, refl, sym, ap, ◌∙◌, append_assoc, arith}
+use Rattle.std.proofs.Common.{◌≡◌, ℕ, ◌<◌, ◌≤◌, inl, inr, Bool, true, false, cond, List, [], ◌∷◌, ◌++◌, map, refl, sym, ap, ◌∙◌, append_assoc, arith}
 use Rattle.std.specs.Prelude.{not, nat_lt, nat_le, ◌==◌, ◌&&◌}
 use Rattle.std.specs.List.{filter, flat_map, list_all}
 use Rattle.std.specs.Ordering.{is_lt}
+use Rattle.std.proofs.lemmas.Bool.{cases_lt}
 use Rattle.std.proofs.lemmas.Bool.Decides.{nat_tests}
 use Rattle.std.proofs.lemmas.Grind.{flat_map-append}
 use Rattle.std.proofs.lemmas.List.{append-nil, map-append}
@@ -19,30 +20,53 @@ use Rattle.flu_model.specs.declared.jobs.Program.{Program}
 use Rattle.flu_model.specs.Contents.{Contents}
 use Rattle.flu_model.specs.Folding.{outputs_at, outputs_with, state_after, outputs_of, final_state, final_outputs}
 use Rattle.flu_model.specs.Merging.{is_before, events_of, all_events, merged}
+use Rattle.flu_model.specs.Moments.{time_of_moment}
 use Rattle.flu_model.specs.Reports.{Line, line_of, line_cmp, line_bytes, report}
 use Rattle.flu_model.specs.Updates.{effect_of}
 use Rattle.flu_streams.specs.Lists.{item_time}
 use Rattle.flu_streams.specs.Borders.{AreCutAt, LawOfBorders, ItemsAreCut}
+use Rattle.flu_streams.proofs.Moments.{time_up}
 use Rattle.flu_streams.proofs.Cutting.{in_order-cut, all_early, all_late, kept_all, kept_none, not_not, later_is}
 
 -- ---- the merged list
-early_first : (t : ℕ) (x y : Event) → nat_le x.time t ≡ true → nat_le y.time t ≡ false → is_before x y ≡ true
-early_first t x y e f = let lt : nat_lt x.time y.time ≡ true = grind (arith, nat_tests) in rw lt refl
+tests_apart : (a b t : ℕ) → nat_le a t ≡ true → nat_le b t ≡ false → b ≤ a → ⊥
+tests_apart a b t e f le = grind (arith, nat_tests)
 
-late_last : (t : ℕ) (x y : Event) → nat_le x.time t ≡ false → nat_le y.time t ≡ true → is_before x y ≡ false
-late_last t x y e f =
+-- an event up to a time is before each later one
+moment_before : (p : Program) (t m n : ℕ) → nat_le (time_of_moment p m) t ≡ true → nat_le (time_of_moment p n) t ≡ false → m < n
+moment_before p t m n e f =
+    elim (cases_lt m n) [
+      | inl lt ↦ lt
+      | inr ge ↦ absurd (tests_apart (time_of_moment p m) (time_of_moment p n) t e f (time_up p n m ge))
+    ]
+
+early_first : (p : Program) (t : ℕ) (x y : Event) → nat_le (time_of_moment p x.time) t ≡ true → nat_le (time_of_moment p y.time) t ≡ false
+    → is_before x y ≡ true
+early_first p t x y e f =
+    let before = moment_before p t x.time y.time e f in
+    let lt : nat_lt x.time y.time ≡ true = grind (arith, nat_tests) in
+    rw lt refl
+
+late_last : (p : Program) (t : ℕ) (x y : Event) → nat_le (time_of_moment p x.time) t ≡ false → nat_le (time_of_moment p y.time) t ≡ true
+    → is_before x y ≡ false
+late_last p t x y e f =
+    let behind = moment_before p t y.time x.time f e in
     let lt : nat_lt x.time y.time ≡ false = grind (arith, nat_tests) in
     let eq : (x.time == y.time) ≡ false = grind (arith, nat_tests) in
     rw (lt, eq) refl
 
-pub merged_cut : (t : ℕ) (whole first second : List (List Item)) → AreCutAt t whole first second → merged whole ≡ merged first ++ merged second
-merged_cut t whole first second cut =
-    in_order-cut is_before (λ (x : Event). nat_le x.time t) (early_first t) (late_last t) (all_events whole)
-    ∙ ap (λ (xs : List Event). in_order is_before (filter (λ (x : Event). nat_le x.time t) (all_events whole)) ++ in_order is_before xs) (sym late)
+pub merged_cut : (p : Program) (t : ℕ) (whole first second : List (List Item)) → AreCutAt p t whole first second
+    → merged whole ≡ merged first ++ merged second
+merged_cut p t whole first second cut =
+    in_order-cut is_before is_early (early_first p t) (late_last p t) (all_events whole)
+    ∙ ap (λ (xs : List Event). in_order is_before (filter is_early (all_events whole)) ++ in_order is_before xs) (sym late)
     ∙ ap (λ (xs : List Event). in_order is_before xs ++ merged second) (sym cut.early)
   where
-    late : all_events second ≡ filter (λ (x : Event). not (nat_le x.time t)) (all_events whole)
-    late = cut.late ∙ (λ i. filter (λ (x : Event). later_is t x.time i) (all_events whole))
+    is_early : Event → Bool
+    is_early x = nat_le (time_of_moment p x.time) t
+
+    late : all_events second ≡ filter (λ (x : Event). not (is_early x)) (all_events whole)
+    late = cut.late ∙ (λ i. filter (λ (x : Event). later_is t (time_of_moment p x.time) i) (all_events whole))
 
 -- ---- the fold
 pub state_after-append : (p : Program) (s : Contents) (xs ys : List Event) → state_after p s (xs ++ ys) ≡ state_after p (state_after p s xs) ys
@@ -63,13 +87,14 @@ outputs_timed : (f : ℕ → Bool) (time : ℕ) (tag : Tag) (texts : List (List 
 outputs_timed f time tag [] e = refl
 outputs_timed f time tag (text ∷ texts) e = both (f time) _ e (outputs_timed f time tag texts e)
 
-outputs_all : (f : ℕ → Bool) (p : Program) (s : Contents) (xs : List Event) → list_all (λ (x : Event). f x.time) xs ≡ true
+outputs_all : (f : ℕ → Bool) (p : Program) (s : Contents) (xs : List Event) → list_all (λ (x : Event). f (time_of_moment p x.time)) xs ≡ true
     → list_all (λ (o : Out). f o.time) (outputs_of p s xs) ≡ true
 outputs_all f p s [] all = refl
 outputs_all f p s (x ∷ xs) all =
     let e = effect_of p s x in
+    let time = time_of_moment p x.time in
     list_all-append (λ (o : Out). f o.time) (outputs_with p x e.texts) (outputs_of p e.cells xs)
-    ∙ both _ _ (outputs_timed f x.time _ e.texts (and_left (f x.time) _ all)) (outputs_all f p e.cells xs (and_right (f x.time) _ all))
+    ∙ both _ _ (outputs_timed f time _ e.texts (and_left (f time) _ all)) (outputs_all f p e.cells xs (and_right (f time) _ all))
 
 -- ---- the report
 line_first : (t : ℕ) (a b : Line) → nat_le a.time t ≡ true → nat_le b.time t ≡ false → is_lt (line_cmp a b) ≡ true
@@ -109,7 +134,7 @@ report_cut p t us vs early late =
 -- ---- the law
 pub folds_in_turn : LawOfBorders
 folds_in_turn p opening t whole first second cut =
-    let events = merged_cut t whole first second cut in
+    let events = merged_cut p t whole first second cut in
     let mid = final_state p opening first in
     let outputs = ap (outputs_of p opening) events ∙ outputs_of-append p opening (merged first) (merged second) in
     record {
@@ -119,12 +144,15 @@ folds_in_turn p opening t whole first second cut =
           (outputs_all (λ n. nat_le n t) p opening (merged first) early) (outputs_all (λ n. not (nat_le n t)) p mid (merged second) late);
     }
   where
-    early : list_all (λ (x : Event). nat_le x.time t) (merged first) ≡ true
-    early = rw cut.early (all_early is_before (λ (x : Event). nat_le x.time t) (early_first t) (late_last t) (all_events whole))
+    is_early : Event → Bool
+    is_early x = nat_le (time_of_moment p x.time) t
 
-    late : list_all (λ (x : Event). not (nat_le x.time t)) (merged second) ≡ true
-    late = rw (cut.late ∙ (λ i. filter (λ (x : Event). later_is t x.time i) (all_events whole)))
-        (all_late is_before (λ (x : Event). nat_le x.time t) (early_first t) (late_last t) (all_events whole))
+    early : list_all is_early (merged first) ≡ true
+    early = rw cut.early (all_early is_before is_early (early_first p t) (late_last p t) (all_events whole))
+
+    late : list_all (λ (x : Event). not (is_early x)) (merged second) ≡ true
+    late = rw (cut.late ∙ (λ i. filter (λ (x : Event). later_is t (time_of_moment p x.time) i) (all_events whole)))
+        (all_late is_before is_early (early_first p t) (late_last p t) (all_events whole))
 
 -- ---- items up to a time and later ones
 kept_events : (f : ℕ → Bool) (items : List Item)
@@ -158,4 +186,7 @@ kept_all_events f (items ∷ lists) =
     ∙ sym (filter-append (λ (x : Event). f x.time) (events_of items) (all_events lists))
 
 pub items_are_cut : ItemsAreCut
-items_are_cut t lists = record { early = kept_all_events (λ n. nat_le n t) lists; late = kept_all_events (λ n. nat_lt t n) lists }
+items_are_cut p t lists = record {
+  early = kept_all_events (λ n. nat_le (time_of_moment p n) t) lists;
+  late = kept_all_events (λ n. nat_lt t (time_of_moment p n)) lists;
+}

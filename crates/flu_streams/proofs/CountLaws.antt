@@ -4,6 +4,7 @@ use Rattle.std.specs.Prelude.{◌==◌, min, cond}
 use Rattle.std.proofs.lemmas.List.Sums.{sum_by-append}
 use Rattle.flu_model.specs.declared.events.Event.{Event}
 use Rattle.flu_model.specs.declared.events.Item.{Item}
+use Rattle.flu_model.specs.declared.jobs.Program.{Program}
 use Rattle.flu_model.specs.Merging.{merged}
 use Rattle.flu_streams.specs.declared.border.Border.TheVariants.{At}
 use Rattle.flu_streams.specs.Borders.{AreCutAt}
@@ -27,10 +28,10 @@ grown_by-append itag (count ∷ counts) xs ys =
     λ i. here i ∷ grown_by-append (suc itag) counts xs ys i
 
 -- what is cut at a time is counted in turn
-pub grown_cut : (t : ℕ) (whole first second : List (List Item)) (counts : List ℕ) → AreCutAt t whole first second
+pub grown_cut : (p : Program) (t : ℕ) (whole first second : List (List Item)) (counts : List ℕ) → AreCutAt p t whole first second
     → grown (grown counts first) second ≡ grown counts whole
-grown_cut t whole first second counts cut =
-    grown_by-append 0 counts (merged first) (merged second) ∙ ap (grown_by 0 counts) (sym (merged_cut t whole first second cut))
+grown_cut p t whole first second counts cut =
+    grown_by-append 0 counts (merged first) (merged second) ∙ ap (grown_by 0 counts) (sym (merged_cut p t whole first second cut))
 
 pub one_more_in_turn : OneMoreInTurn
 one_more_in_turn counts [] lists = refl
@@ -42,5 +43,5 @@ law_of_counts p rows whole start done above before now end counts one (GoesOn do
     let so_far = one_more_in_turn counts done' (lists_between p above' (At b) mid)
     ∙ law_of_counts p rows whole start done' above' before' mid (At b) counts one came was in
     ap (λ c. grown c (lists_between p (Some b) end now)) so_far
-    ∙ grown_cut b (lists_between p start end now) (lists_between p start (At b) mid) (lists_between p (Some b) end now) counts
+    ∙ grown_cut p b (lists_between p start end now) (lists_between p start (At b) mid) (lists_between p (Some b) end now) counts
     (cut_of_rounds p rows whole start done' above' before' mid now b end one came was round)

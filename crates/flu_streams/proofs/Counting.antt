@@ -1,6 +1,6 @@
 -- How many items come no later than a time.
 use Rattle.std.proofs.Common.{◌≡◌, inl, inr, ℕ, zero, suc, ◌+◌, ◌-◌, ◌<◌, ◌≤◌, Bool, true, false, cond, List, [], ◌∷◌, length, get_or, take, drop, Option, Some}
-use Rattle.std.proofs.Common.{None, refl, sym, ap, ◌∙◌, arith}
+use Rattle.std.proofs.Common.{None, refl, sym, ap, subst, ◌∙◌, arith}
 use Rattle.std.specs.Prelude.{nat_lt, nat_le, option_and_then, if◌then◌else◌}
 use Rattle.std.specs.List.{filter, list_all}
 use Rattle.std.proofs.lemmas.Bool.{cases_Bool}
@@ -10,9 +10,13 @@ use Rattle.flu_lemmas.proofs.Late.{RisesFrom, rising, is_rising, rises_lower, ri
 use Rattle.flu_lemmas.proofs.Tests.{and_left, and_right, both}
 use Rattle.flu_model.specs.declared.events.Item.{Item}
 use Rattle.flu_model.specs.declared.events.Item.TheVariants.{End}
+use Rattle.flu_model.specs.declared.moments.Timing.{Timing}
+use Rattle.flu_model.specs.Moments.{last_moment}
 use Rattle.flu_streams.specs.Lists.{item_time}
 use Rattle.flu_streams.specs.LoopHeld.{count_to, enough_of}
 use Rattle.flu_streams.specs.Rounds.{is_above, settled}
+use Rattle.flu_streams.specs.Tests.{margin}
+use Rattle.flu_streams.proofs.RoundLaws.{settled_some}
 
 -- ---- the front and the back of a list by a test
 pub take_passing : {X : Type 0} (f : X → Bool) (d : X) (xs : List X) (n : ℕ) → n ≤ length xs → ((i : ℕ) → i < n → f (get_or xs i d) ≡ true)
@@ -104,43 +108,60 @@ count_enough u low (x ∷ xs) (suc n) up lt in_time =
     omega (arith, e, rest)
 
 -- ---- whether so many items are settled
-pub few_settled : (rows slack last : ℕ) (items : List Item) → slack ≤ last → nat_le rows (count_to (last - slack) items) ≡ false
-    → enough_of rows slack (Some last) items ≡ None
-few_settled rows slack last items le few = let e : nat_le slack last ≡ true = grind (arith, nat_tests) in rw (e, few) refl
+-- the settled time, if this many of the items come no later
+abbrev enough_at : Timing → ℕ → List Item → Option ℕ → Option ℕ
+enough_at timing rows items found = option_and_then (λ u. if nat_le rows (count_to (last_moment timing u) items) then Some u else None) found
 
-pub many_settled : (rows slack last : ℕ) (items : List Item) → slack ≤ last → nat_le rows (count_to (last - slack) items) ≡ true
-    → enough_of rows slack (Some last) items ≡ Some (last - slack)
-many_settled rows slack last items le many = let e : nat_le slack last ≡ true = grind (arith, nat_tests) in rw (e, many) refl
+pub few_settled : (timing : Timing) (rows slack last : ℕ) (items : List Item) → margin timing slack ≤ last
+    → nat_le rows (count_to (last_moment timing (last - margin timing slack)) items) ≡ false → enough_of timing rows slack (Some last) items ≡ None
+few_settled timing rows slack last items le few =
+    ap (enough_at timing rows items) (settled_some (margin timing slack) last le)
+    ∙ ap (λ (b : Bool). if b then Some (last - margin timing slack) else None) few
+
+pub many_settled : (timing : Timing) (rows slack last : ℕ) (items : List Item) → margin timing slack ≤ last
+    → nat_le rows (count_to (last_moment timing (last - margin timing slack)) items) ≡ true
+    → enough_of timing rows slack (Some last) items ≡ Some (last - margin timing slack)
+many_settled timing rows slack last items le many =
+    ap (enough_at timing rows items) (settled_some (margin timing slack) last le)
+    ∙ ap (λ (b : Bool). if b then Some (last - margin timing slack) else None) many
 
 -- what comes of it
-pub record IsEnough (rows slack u : ℕ) (last : Option ℕ) (items : List Item) : Type 0 where
-  pub settles : settled slack last ≡ Some u
-  pub count : rows ≤ count_to u items
+pub record IsEnough (timing : Timing) (rows slack u : ℕ) (last : Option ℕ) (items : List Item) : Type 0 where
+  pub settles : settled (margin timing slack) last ≡ Some u
+  pub count : rows ≤ count_to (last_moment timing u) items
 
-pub enough_is : (rows slack u : ℕ) (last : Option ℕ) (items : List Item) → enough_of rows slack last items ≡ Some u → IsEnough rows slack u last items
-enough_is rows slack u last items e = by_time (settled slack last) refl e
+pub enough_is : (timing : Timing) (rows slack u : ℕ) (last : Option ℕ) (items : List Item) → enough_of timing rows slack last items ≡ Some u
+    → IsEnough timing rows slack u last items
+enough_is timing rows slack u last items e = by_time (settled (margin timing slack) last) refl e
   where
-    by_count : (v : ℕ) (b : Bool) → settled slack last ≡ Some v → nat_le rows (count_to v items) ≡ b → (if b then Some v else None) ≡ Some u
-        → IsEnough rows slack u last items
+    le_of : (a b : ℕ) → nat_le a b ≡ true → a ≤ b
+    le_of a b le = grind (arith, nat_tests)
+
+    by_count : (v : ℕ) (b : Bool) → settled (margin timing slack) last ≡ Some v → nat_le rows (count_to (last_moment timing v) items) ≡ b
+        → (if b then Some v else None) ≡ Some u → IsEnough timing rows slack u last items
     by_count v true at c e =
-        let same : v ≡ u = cc in
-        let le : rows ≤ count_to v items = grind (arith, nat_tests) in
-        record { settles = at ∙ e; count = rw (← same) le }
+        let same : v ≡ u = some_is e in
+        record {
+          settles = at ∙ e;
+          count = subst (λ t. rows ≤ count_to (last_moment timing t) items) same (le_of rows (count_to (last_moment timing v) items) c);
+        }
+      where
+        some_is : {a b : ℕ} → Some a ≡ Some b → a ≡ b
+        some_is e = cc
     by_count v false at c e = absurd cc
 
-    by_time : (o : Option ℕ) → settled slack last ≡ o → option_and_then (λ v. if nat_le rows (count_to v items) then Some v else None) o ≡ Some u
-        → IsEnough rows slack u last items
+    by_time : (o : Option ℕ) → settled (margin timing slack) last ≡ o → enough_at timing rows items o ≡ Some u → IsEnough timing rows slack u last items
     by_time None at e = absurd cc
-    by_time (Some v) at e = by_count v (nat_le rows (count_to v items)) at refl e
+    by_time (Some v) at e = by_count v (nat_le rows (count_to (last_moment timing v) items)) at refl e
 
-pub none_enough : (rows slack u : ℕ) (last : Option ℕ) (items : List Item) → enough_of rows slack last items ≡ None → settled slack last ≡ Some u
-    → count_to u items < rows
-none_enough rows slack u last items e at =
-    by_count (nat_le rows (count_to u items)) refl (ap (option_and_then (λ v. if nat_le rows (count_to v items) then Some v else None)) (sym at) ∙ e)
+pub none_enough : (timing : Timing) (rows slack u : ℕ) (last : Option ℕ) (items : List Item) → enough_of timing rows slack last items ≡ None
+    → settled (margin timing slack) last ≡ Some u → count_to (last_moment timing u) items < rows
+none_enough timing rows slack u last items e at =
+    by_count (count_to (last_moment timing u) items) (nat_le rows (count_to (last_moment timing u) items)) refl (ap (enough_at timing rows items) (sym at) ∙ e)
   where
-    by_count : (b : Bool) → nat_le rows (count_to u items) ≡ b → (if b then Some u else None) ≡ None → count_to u items < rows
-    by_count true c e = absurd cc
-    by_count false c e = grind (arith, nat_tests)
+    by_count : (count : ℕ) (b : Bool) → nat_le rows count ≡ b → (if b then Some u else None) ≡ None → count < rows
+    by_count count true c e = absurd cc
+    by_count count false c e = grind (arith, nat_tests)
 
 above_more : (above : Option ℕ) (t u : ℕ) → is_above above t ≡ true → t ≤ u → is_above above u ≡ true
 above_more None t u a le = refl

@@ -3,7 +3,7 @@ use Rattle.std.proofs.Common.{◌≡◌, inl, inr, ℕ, ◌+◌, ◌<◌, true, 
 use Rattle.std.proofs.Common.{◌∙◌, arith}
 use Rattle.std.specs.Global.{Global}
 use Rattle.std.specs.Prelude.{slice_get, nat_lt, sum_by}
-use Rattle.std.specs.List.{flat_map, filter_map, range_with_len}
+use Rattle.std.specs.List.{filter, flat_map, filter_map, list_all, range_with_len}
 use Rattle.std.proofs.lemmas.Bool.{cases_lt}
 use Rattle.std.proofs.lemmas.Bool.Decides.{nat_tests}
 use Rattle.std.proofs.lemmas.Grind.{flat_map-append}
@@ -19,6 +19,8 @@ use Rattle.flu_model.specs.declared.events.Item.TheVariants.{End as EndItem}
 use Rattle.flu_model.specs.declared.jobs.Kind.{Kind}
 use Rattle.flu_model.specs.declared.jobs.Source.{Source}
 use Rattle.flu_model.specs.declared.jobs.Program.{Program}
+use Rattle.flu_model.specs.declared.moments.Timing.{Timing}
+use Rattle.flu_model.specs.Moments.{timing_of, last_moment, IsTiming}
 use Rattle.flu_model.specs.Streaming.{are_streams}
 use Rattle.flu_outside.specs.Outside.{Contents}
 use Rattle.flu_outside.specs.Taking.{IsReadOut}
@@ -29,19 +31,21 @@ use Rattle.flu_streams.specs.declared.held.Stage.{Stage}
 use Rattle.flu_streams.specs.declared.held.Stage.TheVariants.{Filling, Filled, Over}
 use Rattle.flu_streams.specs.declared.inlet.Inlet.{Inlet}
 use Rattle.flu_streams.specs.Before.{each_with_before}
-use Rattle.flu_streams.specs.Good.{in_time_order, items_at, lists_of_rows}
-use Rattle.flu_streams.specs.Holding.{HeldSource, Holding, IsHeldBehind, AreHeldBehind, Cuts, first_itag, still}
+use Rattle.flu_streams.specs.Good.{at_moments, in_time_order, items_at, lists_of_rows}
+use Rattle.flu_streams.specs.Holding.{HeldSource, Holding, IsHeldBehind, AreHeldBehind, Cuts, first_itag, item_of, still}
 use Rattle.flu_streams.specs.Lists.{lists_in, items_of_list, item_time, item_for}
+use Rattle.flu_streams.specs.LoopMoments.{border_moment, end_moment}
 use Rattle.flu_streams.specs.LoopHeld.{source_of, taken_by, DropsTo, AreDropped, IsSettledAt, IsSettledBy, AreWell, AreCaughtUp, IsWellIn, IsWell, AreBehind}
 use Rattle.flu_streams.specs.Rounds.{rows_between, is_above, is_up_to, settled, lists_between}
 use Rattle.flu_streams.specs.Tags.{width}
-use Rattle.flu_streams.specs.Tests.{rows_of}
+use Rattle.flu_streams.specs.Tests.{rows_of, times_of, greatest, margin}
 use Rattle.flu_streams.proofs.Befores.{with_before-append}
 use Rattle.flu_streams.proofs.Bounds.{few_dropped}
 use Rattle.flu_streams.proofs.Counting.{still_rises}
 use Rattle.flu_streams.proofs.Cutting.{all_kept}
-use Rattle.flu_streams.proofs.HeldRows.{taken_items, left_items, items_caught}
-use Rattle.flu_streams.proofs.RoundLaws.{Exceeds}
+use Rattle.flu_streams.proofs.HeldRows.{taken_items, left_items}
+use Rattle.flu_streams.proofs.Moments.{between_moments, timing_fits}
+use Rattle.flu_streams.proofs.RoundLaws.{Exceeds, exceeds_moments}
 use Rattle.flu_streams.proofs.RoundOf.{holding, behind_at, behind_of}
 use Rattle.flu_streams.proofs.Rounding.{set_here}
 use Rattle.flu_lemmas.proofs.Mapped.{from_mapped}
@@ -70,32 +74,47 @@ own_streams lists first n end items len each up =
     (λ i lt. stream_of (first + i) 0 (taken_by end items)
     (rising item_time 0 (taken_by end items) (still_rises (λ (item : Item). is_up_to end (item_time item)) items up)))
 
-pub own_lists : (lists : Vec (Vec Item Global) Global) (kinds : List Kind) (s : Source) (first : ℕ) (border : Option ℕ) (end : Border)
-    (lines : List Next) (h : Inlet) → vec_len lists ≡ width s
-    → ((i : ℕ) → i < width s → items_of_list lists i ≡ own_items first end h.items i) → IsHeldBehind kinds first s border lines (source_of h)
-    → h.goal ≡ None
-    → lists_in lists ≡ lists_of_rows kinds s first (rows_between border end (rows_of lines))
-own_lists lists kinds s first border end lines h len each is caught =
-    let rows = rows_between border end (rows_of lines) in
+-- the items that are held, at their moments, once the reading has reached the border
+items_above : (timing : Timing) (fits : IsTiming timing) (kinds : List Kind) (s : Source) (first : ℕ) (border : Option ℕ) (lines : List Next) (h : HeldSource)
+    → IsHeldBehind timing kinds first s border lines h → h.goal ≡ None
+    → h.items ≡ map (item_of kinds s first) (in_time_order (rows_between (border_moment timing border) Closed (at_moments timing [] (rows_of lines))))
+items_above timing fits kinds s first border lines h is caught =
+    is.items
+    ∙ ap (λ (low : Option ℕ). map (item_of kinds s first) (in_time_order (at_moments timing [] (rows_between low Closed (rows_of lines))))) (is.caught caught)
+    ∙ ap (λ rows. map (item_of kinds s first) (in_time_order rows)) (between_moments timing fits border Closed (rows_of lines))
+
+pub own_lists : (timing : Timing) (fits : IsTiming timing) (lists : Vec (Vec Item Global) Global) (kinds : List Kind) (s : Source) (first : ℕ)
+    (border : Option ℕ) (end : Border) (lines : List Next) (h : Inlet) → vec_len lists ≡ width s
+    → ((i : ℕ) → i < width s → items_of_list lists i ≡ own_items first (end_moment timing end) h.items i)
+    → IsHeldBehind timing kinds first s border lines (source_of h) → h.goal ≡ None
+    → lists_in lists ≡ lists_of_rows timing kinds s first (rows_between border end (rows_of lines))
+own_lists timing fits lists kinds s first border end lines h len each is caught =
+    let all = at_moments timing [] (rows_of lines) in
+    let rows = rows_between (border_moment timing border) (end_moment timing end) all in
     lists_are lists (width s) (items_at kinds s first rows) len
     (λ i lt. each i lt ∙ ap (λ l. filter_map (item_for (first + i)) l ++ (EndItem ∷ []))
-    (taken_items kinds s first border end (rows_of lines) h.items (items_caught kinds s first border lines (source_of h) is caught))
+    (taken_items kinds s first (border_moment timing border) (end_moment timing end) all h.items
+    (items_above timing fits kinds s first border lines (source_of h) is caught))
     ∙ ap (λ l. l ++ (EndItem ∷ [])) (for_itags kinds s first i (in_time_order rows) lt))
+    ∙ ap (λ own. map (items_at kinds s first own) (range_with_len 0 (width s))) (sym (between_moments timing fits border end (rows_of lines)))
 
 -- ---- the lists of all sources
 -- those of the first sources
 abbrev pub lists_first : Program → Option ℕ → Border → (ℕ → List Next) → List Source → List (List Item)
 lists_first p border end lines sources =
-    flat_map (λ e. lists_of_rows p.kinds e.1 (sum_by width e.0) (rows_between border end (rows_of (lines (length e.0))))) (each_with_before sources)
+    flat_map (λ e. lists_of_rows (timing_of p (length e.0)) p.kinds e.1 (sum_by width e.0) (rows_between border end (rows_of (lines (length e.0)))))
+    (each_with_before sources)
 
 pub lists_more : (p : Program) (border : Option ℕ) (end : Border) (lines : ℕ → List Next) (earlier : List Source) (s : Source) (i : ℕ)
     (these own : List (List Item)) → length earlier ≡ i
-    → these ≡ lists_first p border end lines earlier → own ≡ lists_of_rows p.kinds s (sum_by width earlier) (rows_between border end (rows_of (lines i)))
+    → these ≡ lists_first p border end lines earlier → own ≡ lists_of_rows (timing_of p i) p.kinds s (sum_by width earlier)
+    (rows_between border end (rows_of (lines i)))
     → these ++ own ≡ lists_first p border end lines (earlier ++ s ∷ [])
 lists_more p border end lines earlier s i these own size is more =
-    let g = λ (e : List Source × Source). lists_of_rows p.kinds e.1 (sum_by width e.0) (rows_between border end (rows_of (lines (length e.0)))) in
+    let g = λ (e : List Source × Source). lists_of_rows (timing_of p (length e.0)) p.kinds e.1 (sum_by width e.0)
+    (rows_between border end (rows_of (lines (length e.0)))) in
     ap (λ l. l ++ own) is ∙ ap (λ l. lists_first p border end lines earlier ++ l)
-    (more ∙ ap (λ (n : ℕ). lists_of_rows p.kinds s (sum_by width earlier) (rows_between border end (rows_of (lines n)))) (sym size))
+    (more ∙ ap (λ (n : ℕ). lists_of_rows (timing_of p n) p.kinds s (sum_by width earlier) (rows_between border end (rows_of (lines n)))) (sym size))
     ∙ sym (ap (flat_map g) (with_before-append [] earlier (s ∷ [])) ∙ flat_map-append g (each_with_before earlier) ((earlier, s) ∷ [])
     ∙ ap (λ l. lists_first p border end lines earlier ++ l) (append-nil (g (earlier, s))))
 
@@ -109,18 +128,26 @@ exceeds : (border : Option ℕ) (t : ℕ) → is_above border t ≡ true → Exc
 exceeds None t up u e = refl
 exceeds (Some b) t up u e = grind (arith, nat_tests)
 
-cut_one : (kinds : List Kind) (s : Source) (first t : ℕ) (border : Option ℕ) (lines : List Next) (old new : Inlet) → is_above border t ≡ true
-    → IsSettledAt s (Some t) old → old.goal ≡ None → DropsTo t old new
-    → IsHeldBehind kinds first s border lines (source_of old) → IsHeldBehind kinds first s (Some t) lines (source_of new)
-cut_one kinds s first t border lines old new up at caught d is = record {
+cut_one : (timing : Timing) (fits : IsTiming timing) (kinds : List Kind) (s : Source) (first t : ℕ) (border : Option ℕ) (lines : List Next) (old new : Inlet)
+    → old.timing ≡ timing → is_above border t ≡ true → IsSettledAt s (Some t) old → old.goal ≡ None → DropsTo t old new
+    → IsHeldBehind timing kinds first s border lines (source_of old) → IsHeldBehind timing kinds first s (Some t) lines (source_of new)
+cut_one timing fits kinds s first t border lines old new timed up at caught d is = record {
   file = ap (λ place. place.file) d.rows ∙ is.file;
   sound = is.sound;
   low = Some t;
-  items = d.items ∙ left_items kinds s first border t (rows_of lines) old.items (exceeds border t up)
-      (items_caught kinds s first border lines (source_of old) is caught);
+  items = d.items ∙ ap (λ (own : Timing). filter (λ (item : Item). nat_lt (last_moment own t) (item_time item)) old.items) timed
+      ∙ left_items kinds s first (border_moment timing border) (last_moment timing t) (at_moments timing [] (rows_of lines)) old.items
+      (exceeds_moments timing fits t border (exceeds border t up)) (items_above timing fits kinds s first border lines (source_of old) is caught)
+      ∙ ap (λ rows. map (item_of kinds s first) (in_time_order rows)) (sym (between_moments timing fits (Some t) Closed (rows_of lines)));
   last = d.last ∙ is.last;
   ended = d.ended ∙ is.ended;
-  settled = λ goes v e. let k = at (sym d.closed ∙ goes) v e in (k.0, ap (settled s.slack) (sym is.last) ∙ k.1, k.2);
+  settled = λ goes v e.
+      let k = at (sym d.closed ∙ goes) v e in (
+        k.0,
+        ap (λ (own : Timing). settled (margin own s.slack) (greatest (times_of (rows_of lines)))) (sym timed)
+            ∙ ap (settled (margin old.timing s.slack)) (sym is.last) ∙ k.1,
+        k.2,
+      );
   up_to = λ l e. (l, e, omega arith);
   caught = λ none. refl;
   goal = λ v e. absurd (never v (sym caught ∙ sym d.goal ∙ e));
@@ -141,7 +168,8 @@ cuts_at p rows t border stage olds news well settles caught dropped =
       stage = refl;
       behind = λ lines is. behind_of p rows (Some t) Filling news lines count (λ i s at h f.
           let old = slice_get-there olds i (rw well.count (slice_get_within p.sources i s at)) in
-          cut_one p.kinds s (first_itag p i) t border (lines i) old.0 h settles.0 (settles.1 i s at old.0 old.1) (caught i old.0 old.1)
+          cut_one (timing_of p i) (timing_fits p i (slice_get_within p.sources i s at)) p.kinds s (first_itag p i) t border (lines i) old.0 h
+          (well.each i s at old.0 old.1).timing_is settles.0 (settles.1 i s at old.0 old.1) (caught i old.0 old.1)
           (dropped.each i old.0 h old.1 f)
           (behind_at p rows border stage olds lines is i s at old.0 old.1));
       still' = λ lines whole left all i source f.
@@ -194,11 +222,20 @@ dropped_well p rows t border olds news well settles caught dropped = record {
   each = λ i s at h f.
       let old = slice_get-there olds i (rw well.count (slice_get_within p.sources i s at)) in
       let d = dropped.each i old.0 h old.1 f in
+      let own = well.each i s at old.0 old.1 in
+      let later = λ (item : Item). nat_lt (last_moment old.0.timing t) (item_time item) in
       record {
-        file = ap (λ place. place.file) d.rows ∙ (well.each i s at old.0 old.1).file;
+        timing_is = d.timing ∙ own.timing_is;
+        file = ap (λ place. place.file) d.rows ∙ own.file;
         goal = λ v e. absurd (never v (sym (caught i old.0 old.1) ∙ sym d.goal ∙ e));
-        above = λ none. rw d.items (all_kept (λ (item : Item). nat_lt t (item_time item)) old.0.items);
-        settled = λ none goes v e. let k = settles.1 i s at old.0 old.1 (sym d.closed ∙ goes) v e in (k.0, ap (settled s.slack) d.last ∙ k.1, k.2);
+        above = λ none. ap (λ (timing : Timing). list_all (λ (item : Item). nat_lt (last_moment timing t) (item_time item)) h.items) (sym own.timing_is)
+            ∙ ap (list_all later) d.items ∙ all_kept later old.0.items;
+        settled = λ none goes v e.
+            let k = settles.1 i s at old.0 old.1 (sym d.closed ∙ goes) v e in (
+              k.0,
+              ap (λ (timing : Timing). settled (margin timing s.slack) h.last) d.timing ∙ ap (settled (margin old.0.timing s.slack)) d.last ∙ k.1,
+              k.2,
+            );
       };
 }
   where

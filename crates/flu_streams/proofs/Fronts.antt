@@ -9,7 +9,9 @@ use Rattle.flu_model.specs.declared.events.Item.{Item}
 use Rattle.flu_model.specs.declared.jobs.Kind.{Kind}
 use Rattle.flu_model.specs.declared.jobs.Source.{Source}
 use Rattle.flu_model.specs.declared.jobs.Program.{Program}
+use Rattle.flu_model.specs.declared.moments.Timing.{Timing}
 use Rattle.flu_model.specs.Merging.{all_events}
+use Rattle.flu_model.specs.Moments.{time_of_moment, timing_of}
 use Rattle.flu_outside.specs.Outside.{Contents as Files}
 use Rattle.flu_rows.specs.declared.rows.Next.{Next}
 use Rattle.flu_streams.specs.declared.border.Border.TheVariants.{At, Closed}
@@ -27,59 +29,62 @@ use Rattle.flu_streams.proofs.RoundEnds.{whole_lists}
 use Rattle.flu_streams.proofs.RoundLaws.{Exceeds, defect_in-append, nothing_later, between_cut, each_source, flat_same, round_exceeds, exceeds_start, no_events}
 
 -- the rows up to the border of a round are those that are up to it in all lines
-all_up_to : (kinds : List Kind) (s : Source) (rows b : ℕ) (start above : Option ℕ) (whole before mid : List Next) (turn : Turn) → defect_in kinds s whole ≡ None
-    → Reads kinds s rows above whole before mid turn → IsWithin b turn → rows_between start (At b) (rows_of whole) ≡ rows_between start (At b) (rows_of mid)
-all_up_to kinds s rows b start above whole before mid (Open u) sound reads within =
+all_up_to : (timing : Timing) (kinds : List Kind) (s : Source) (rows b : ℕ) (start above : Option ℕ) (whole before mid : List Next) (turn : Turn)
+    → defect_in timing kinds s whole ≡ None
+    → Reads timing kinds s rows above whole before mid turn → IsWithin b turn
+    → rows_between start (At b) (rows_of whole) ≡ rows_between start (At b) (rows_of mid)
+all_up_to timing kinds s rows b start above whole before mid (Open u) sound reads within =
     let is = reads.stops.0.1 in
     ap (λ l. rows_between start (At b) (rows_of l)) is
-    ∙ nothing_later kinds s start b mid reads.stops.0.0 u (ap (defect_in kinds s) (sym is) ∙ sound) reads.stops.2 within
-all_up_to kinds s rows b start above whole before mid Shut sound reads within = ap (λ l. rows_between start (At b) (rows_of l)) reads.stops.0
-all_up_to kinds s rows b start above whole before mid (Meets row why) sound reads within = absurd within
+    ∙ nothing_later timing kinds s start b mid reads.stops.0.0 u (ap (defect_in timing kinds s) (sym is) ∙ sound) reads.stops.2 within
+all_up_to timing kinds s rows b start above whole before mid Shut sound reads within = ap (λ l. rows_between start (At b) (rows_of l)) reads.stops.0
+all_up_to timing kinds s rows b start above whole before mid (Meets row why) sound reads within = absurd within
 
 lists_up_to : (p : Program) (rows b : ℕ) (start above : Option ℕ) (whole before mid : ℕ → List Next)
-    → AtEach (λ i s. defect_in p.kinds s (whole i) ≡ None) p.sources
+    → AtEach (λ i s. defect_in (timing_of p i) p.kinds s (whole i) ≡ None) p.sources
     → IsRoundAt p rows above whole before mid b → lists_between p start (At b) whole ≡ lists_between p start (At b) mid
 lists_up_to p rows b start above whole before mid sound was =
     flat_same _ _ (each_with_before p.sources)
     (all_map (λ (e : List Source × Source). rows_between start (At b) (rows_of (whole (length e.0))) ≡ rows_between start (At b) (rows_of (mid (length e.0)))) _
     (each_with_before p.sources)
-    (λ e same. ap (lists_of_rows p.kinds e.1 (sum_by width e.0)) same)
+    (λ e same. ap (lists_of_rows (timing_of p (length e.0)) p.kinds e.1 (sum_by width e.0)) same)
     (each_source (λ i s. rows_between start (At b) (rows_of (whole i)) ≡ rows_between start (At b) (rows_of (mid i))) p.sources
-    (λ i s e. let h = was.each i s e in all_up_to p.kinds s rows b start above (whole i) (before i) (mid i) h.0 (sound i s e) h.1 h.2)))
+    (λ i s e. let h = was.each i s e in all_up_to (timing_of p i) p.kinds s rows b start above (whole i) (before i) (mid i) h.0 (sound i s e) h.1 h.2)))
 
 -- all rows above the start of a run are cut at the border that it comes to
-module _ (p : Program) (rows : ℕ) (whole : ℕ → List Next) (start : Option ℕ) (sound : AtEach (λ i s. defect_in p.kinds s (whole i) ≡ None) p.sources)
+module _ (p : Program) (rows : ℕ) (whole : ℕ → List Next) (start : Option ℕ)
+    (sound : AtEach (λ i s. defect_in (timing_of p i) p.kinds s (whole i) ≡ None) p.sources)
     (exceeds : (done : List (List (List Item))) (above : Option ℕ) (before mid : ℕ → List Next) (b : ℕ) → ComesFrom p rows whole start done above before
     → IsRoundAt p rows above whole before mid b → Exceeds b start) where
   cut_at : (done : List (List (List Item))) (above : Option ℕ) (before : ℕ → List Next) → ComesFrom p rows whole start done above before → (t : ℕ)
       → above ≡ Some t
-      → AreCutAt t (lists_between p start Closed whole) (lists_between p start (At t) before) (lists_between p (Some t) Closed whole)
+      → AreCutAt p t (lists_between p start Closed whole) (lists_between p start (At t) before) (lists_between p (Some t) Closed whole)
   cut_at done above before (Starts reads none) t is =
-      subst (λ (o : Option ℕ). AreCutAt t (lists_between p o Closed whole) (lists_between p o (At t) reads) (lists_between p (Some t) Closed whole)) (sym is)
+      subst (λ (o : Option ℕ). AreCutAt p t (lists_between p o Closed whole) (lists_between p o (At t) reads) (lists_between p (Some t) Closed whole)) (sym is)
       (let cut = between_cut p t (Some t) Closed whole (λ n e. refl) (λ n e. e) in
       record { early = no_events p t reads ∙ sym (no_events p t whole) ∙ cut.early; late = cut.late })
   cut_at done above before (GoesOn done' above' before' mid b came was) t is =
       let same : b ≡ t = cc in
       let cut = between_cut p b start Closed whole (λ n e. refl) (exceeds done' above' before' mid b came was) in
-      let there = subst (λ l. AreCutAt b (lists_between p start Closed whole) l (lists_between p (Some b) Closed whole))
+      let there = subst (λ l. AreCutAt p b (lists_between p start Closed whole) l (lists_between p (Some b) Closed whole))
       (lists_up_to p rows b start above' whole before' mid sound was) cut in
-      subst (λ n. AreCutAt n (lists_between p start Closed whole) (lists_between p start (At n) mid) (lists_between p (Some n) Closed whole)) same there
+      subst (λ n. AreCutAt p n (lists_between p start Closed whole) (lists_between p start (At n) mid) (lists_between p (Some n) Closed whole)) same there
 
 pub law_of_fronts : LawOfFronts
 law_of_fronts p opening rows whole done t before left lines sound came =
     let all = whole_lists p whole left lines sound in
     folds_in_turn p opening t (lists_of p left) (lists_between p None (At t) before) (lists_between p (Some t) Closed whole)
-    (subst (λ l. AreCutAt t l (lists_between p None (At t) before) (lists_between p (Some t) Closed whole)) all
+    (subst (λ l. AreCutAt p t l (lists_between p None (At t) before) (lists_between p (Some t) Closed whole)) all
     (cut_at p rows whole None sound (λ done above before mid b comes round n e. refl) done (Some t) before came t refl))
 
 -- the events of the rows above a border are the later ones of all
 later_events : (p : Program) (start : ℕ) (whole : ℕ → List Next) (left : Files) → LinesIn p left whole
-    → AtEach (λ i s. defect_in p.kinds s (whole i) ≡ None) p.sources
-    → all_events (lists_between p (Some start) Closed whole) ≡ all_events (beyond start (lists_of p left))
+    → AtEach (λ i s. defect_in (timing_of p i) p.kinds s (whole i) ≡ None) p.sources
+    → all_events (lists_between p (Some start) Closed whole) ≡ all_events (beyond p start (lists_of p left))
 later_events p start whole left lines sound =
     (between_cut p start None Closed whole (λ n e. refl) (λ n e. refl)).late
-    ∙ ap (λ lists. filter (λ (x : EventOf). nat_lt start x.time) (all_events lists)) (whole_lists p whole left lines sound)
-    ∙ sym (items_are_cut start (lists_of p left)).late
+    ∙ ap (λ lists. filter (λ (x : EventOf). nat_lt start (time_of_moment p x.time)) (all_events lists)) (whole_lists p whole left lines sound)
+    ∙ sym (items_are_cut p start (lists_of p left)).late
 
 pub law_of_fronts_above : LawOfFrontsAbove
 law_of_fronts_above p opening rows whole start done t before left one lines sound came =
@@ -88,17 +93,17 @@ law_of_fronts_above p opening rows whole start done t before left one lines soun
     let cut = cut_at p rows whole (Some start) sound (λ done above before mid b comes round. exceeds_start p rows b whole
     (Some start) done above before one comes (round_exceeds p rows b above whole before mid one round)) done (Some t) before came t refl in
     let all = later_events p start whole left lines sound in
-    folds_in_turn p opening t (beyond start (lists_of p left)) first second (record {
-      early = cut.early ∙ ap (filter (λ (x : EventOf). nat_le x.time t)) all;
-      late = cut.late ∙ ap (filter (λ (x : EventOf). nat_lt t x.time)) all;
+    folds_in_turn p opening t (beyond p start (lists_of p left)) first second (record {
+      early = cut.early ∙ ap (filter (λ (x : EventOf). nat_le (time_of_moment p x.time) t)) all;
+      late = cut.late ∙ ap (filter (λ (x : EventOf). nat_lt t (time_of_moment p x.time))) all;
     })
 
 -- ---- a defect that is met
 pub law_of_meeting : LawOfMeeting
-law_of_meeting kinds s rows above whole before now row why reads =
+law_of_meeting timing kinds s rows above whole before now row why reads =
     let next = reads.stops.0.0 in
     let rest = reads.stops.0.1 in
-    let f = λ (e : List Next × Next). line_defect kinds s e.0 e.1 in
-    ap (defect_in kinds s) reads.stops.0.2 ∙ defect_in-append kinds s now (next ∷ rest)
+    let f = λ (e : List Next × Next). line_defect timing kinds s e.0 e.1 in
+    ap (defect_in timing kinds s) reads.stops.0.2 ∙ defect_in-append timing kinds s now (next ∷ rest)
     ∙ ap (λ (o : Option (ℕ × Why)). or_else o (first_some f (with_before now (next ∷ rest)))) reads.sound
     ∙ ap (λ (o : Option (ℕ × Why)). or_else o (first_some f (with_before (now ++ next ∷ []) rest))) reads.stops.0.3

@@ -16,6 +16,8 @@ use Rattle.flu_model.specs.declared.events.Item.{Item}
 use Rattle.flu_model.specs.declared.jobs.Kind.{Kind}
 use Rattle.flu_model.specs.declared.jobs.Source.{Source}
 use Rattle.flu_model.specs.declared.jobs.Program.{Program}
+use Rattle.flu_model.specs.declared.moments.Timing.{Timing}
+use Rattle.flu_model.specs.Moments.{timing_of}
 use Rattle.flu_model.specs.Listing.{tags_of_source, itags_of_sources}
 use Rattle.flu_model.specs.Rules.{is_same_text, are_distinct}
 use Rattle.flu_model.specs.Streaming.{are_streams}
@@ -142,66 +144,66 @@ read_at_first : (form : RowForm) (s : Source) (read behind : List Next) (earlier
     → (Contains (files_of earlier) s.file → ⊥) → WasRead form s read behind y → WasRead form s read behind x
 read_at_first form s read behind earlier x y others apart was = ap (λ (o : Option (List ℕ)). read_file form (unwrap_or o [])) (sym (others s.file apart)) ∙ was
 
-gathered_join : (form : RowForm) (kinds : List Kind) (earlier : List Source) (s : Source) (read : List Next) (old new : Gathered) (x y z : Contents)
-    → first_of kinds s old.held read ≡ None → lists_in new.lists ≡ lists_in old.lists ++ lists_of_rows kinds s (vec_len old.lists) (rows_of read)
+gathered_join : (timing : ℕ → Timing) (form : RowForm) (kinds : List Kind) (earlier : List Source) (s : Source) (read : List Next) (old new : Gathered) (x y z : Contents)
+    → first_of (timing (length earlier)) kinds s old.held read ≡ None → lists_in new.lists ≡ lists_in old.lists ++ lists_of_rows (timing (length earlier)) kinds s (vec_len old.lists) (rows_of read)
     → new.held ≡ old.held + items_of (width s) (rows_of read) → vec_len old.lists ≡ sum_by width earlier → (Contains (files_of earlier) s.file → ⊥)
-    → IsGathered form kinds earlier old x y → WasRead form s read [] y × TakesFrom s.file y z
-    → IsGathered form kinds (earlier ++ (s ∷ [])) new x z
-gathered_join form kinds earlier s read old new x y z passes lists held len apart p q =
+    → IsGathered timing form kinds earlier old x y → WasRead form s read [] y × TakesFrom s.file y z
+    → IsGathered timing form kinds (earlier ++ (s ∷ [])) new x z
+gathered_join timing form kinds earlier s read old new x y z passes lists held len apart p q =
     let was : read_file form (bytes_left x s.file) ≡ read = read_at_first form s read [] earlier x y p.others apart q.0 ∙ append-nil read in
-    let defect : first_defect form kinds s (items_held form x earlier) (bytes_left x s.file) ≡ None = rw (was, ← p.held) passes in
+    let defect : first_defect (timing (length earlier)) form kinds s (items_held form x earlier) (bytes_left x s.file) ≡ None = rw (was, ← p.held) passes in
     let rows : rows_in form x s ≡ rows_of read = ap rows_of was in
     let each : each_with_before (earlier ++ (s ∷ [])) ≡ each_with_before earlier ++ ((earlier, s) ∷ []) = with_before-append [] earlier (s ∷ []) in
-    let f = λ (e : List Source × Source). fault_of_source form kinds x e.0 e.1 in
-    let g = λ (e : List Source × Source). lists_of_rows kinds e.1 (sum_by width e.0) (rows_in form x e.1) in
+    let f = λ (e : List Source × Source). fault_of_source timing form kinds x e.0 e.1 in
+    let g = λ (e : List Source × Source). lists_of_rows (timing (length e.0)) kinds e.1 (sum_by width e.0) (rows_in form x e.1) in
     record {
       good = ap (first_some f) each ∙ first_some-append f (each_with_before earlier) ((earlier, s) ∷ []) ∙ rw (p.good, defect) refl;
       lists = lists ∙ rw (p.lists, len, ← rows) (sym (ap (flat_map g) each ∙ flat_map-append g (each_with_before earlier) ((earlier, s) ∷ []) ∙ ap
-          (λ (rest : List (List Item)). lists_of_sources form kinds x earlier ++ rest) (append-nil (lists_of_rows kinds s (sum_by width earlier) (rows_in form x s)))));
+          (λ (rest : List (List Item)). lists_of_sources timing form kinds x earlier ++ rest) (append-nil (lists_of_rows (timing (length earlier)) kinds s (sum_by width earlier) (rows_in form x s)))));
       held = held ∙ rw (p.held, ← rows) (sym (sum_by-append (λ (t : Source). items_of (width t) (rows_in form x t)) earlier (s ∷ []) ∙ omega arith));
       others = rw (files_more earlier s) (leaves_more (files_of earlier) s.file x y z p.others q.1);
     }
 
-pub gathered_more : (form : RowForm) (kinds : List Kind) (earlier : List Source) (s : Source) (old new : Gathered) (a b c : Option Contents)
-    → WhereTold a b (IsGathered form kinds earlier old) → AddsSource form kinds s b c old new → WhereTold b c (TakesFrom s.file)
-    → vec_len old.lists ≡ sum_by width earlier → (Contains (files_of earlier) s.file → ⊥) → WhereTold a c (IsGathered form kinds (earlier ++ (s ∷ [])) new)
-gathered_more form kinds earlier s old new a b c told adds taken len apart =
-    told_then (IsGathered form kinds earlier old) (λ x y. WasRead form s adds.read [] x × TakesFrom s.file x y) (IsGathered form kinds (earlier ++ (s ∷ [])) new) a b c
-    (λ x y z p q. gathered_join form kinds earlier s adds.read old new x y z adds.passes adds.lists adds.held len apart p q) told
+pub gathered_more : (timing : ℕ → Timing) (form : RowForm) (kinds : List Kind) (earlier : List Source) (s : Source) (old new : Gathered) (a b c : Option Contents)
+    → WhereTold a b (IsGathered timing form kinds earlier old) → AddsSource (timing (length earlier)) form kinds s b c old new → WhereTold b c (TakesFrom s.file)
+    → vec_len old.lists ≡ sum_by width earlier → (Contains (files_of earlier) s.file → ⊥) → WhereTold a c (IsGathered timing form kinds (earlier ++ (s ∷ [])) new)
+gathered_more timing form kinds earlier s old new a b c told adds taken len apart =
+    told_then (IsGathered timing form kinds earlier old) (λ x y. WasRead form s adds.read [] x × TakesFrom s.file x y) (IsGathered timing form kinds (earlier ++ (s ∷ [])) new) a b c
+    (λ x y z p q. gathered_join timing form kinds earlier s adds.read old new x y z adds.passes adds.lists adds.held len apart p q) told
     (told_both (λ was now. WasRead form s adds.read [] was) (TakesFrom s.file) b c adds.told taken)
 
-pub streams_more : (form : RowForm) (kinds : List Kind) (s : Source) (b c : Option Contents) (old new : Gathered) → AddsSource form kinds s b c old new
+pub streams_more : (timing : Timing) (form : RowForm) (kinds : List Kind) (s : Source) (b c : Option Contents) (old new : Gathered) → AddsSource timing form kinds s b c old new
     → are_streams 0 (lists_in old.lists) ≡ true → are_streams 0 (lists_in new.lists) ≡ true
-streams_more form kinds s b c old new adds streams =
+streams_more timing form kinds s b c old new adds streams =
     let size : vec_len old.lists ≡ 0 + length (lists_in old.lists) = simp length-map (omega (arith, old.lists.ok.0)) in
-    let first : are_streams (0 + length (lists_in old.lists)) (lists_of_rows kinds s (vec_len old.lists) (rows_of adds.read)) ≡ true =
+    let first : are_streams (0 + length (lists_in old.lists)) (lists_of_rows timing kinds s (vec_len old.lists) (rows_of adds.read)) ≡ true =
     rw (← size) adds.streams in
-    rw adds.lists (are_streams-append 0 (lists_in old.lists) (lists_of_rows kinds s (vec_len old.lists) (rows_of adds.read)) streams first)
+    rw adds.lists (are_streams-append 0 (lists_in old.lists) (lists_of_rows timing kinds s (vec_len old.lists) (rows_of adds.read)) streams first)
 
 -- ---- the fault of a source behind good ones
 fault_join : (p : Program) (earlier later : List Source) (s : Source) (gathered : Gathered) (f : SourceFault) (x y : Contents) → p.sources ≡ earlier
     ++ (s ∷ later) → f.source ≡ length earlier → (Contains (files_of earlier) s.file → ⊥)
-    → IsGathered (form_of (job_of p)) p.kinds earlier gathered x y
-    → first_defect (form_of (job_of p)) p.kinds s gathered.held (bytes_left y s.file) ≡ Some (f.row, f.why)
+    → IsGathered (timing_of p) (form_of (job_of p)) p.kinds earlier gathered x y
+    → first_defect (timing_of p (length earlier)) (form_of (job_of p)) p.kinds s gathered.held (bytes_left y s.file) ≡ Some (f.row, f.why)
     → first_fault p x ≡ Some f
 fault_join p earlier later s gathered f x y split number apart g defect =
     let same : bytes_left x s.file ≡ bytes_left y s.file = ap (λ (o : Option (List ℕ)). unwrap_or o []) (sym (g.others s.file apart)) in
-    let here : first_defect (form_of (job_of p)) p.kinds s (items_held (form_of (job_of p)) x earlier) (bytes_left x s.file) ≡ Some (f.row, f.why)
+    let here : first_defect (timing_of p (length earlier)) (form_of (job_of p)) p.kinds s (items_held (form_of (job_of p)) x earlier) (bytes_left x s.file) ≡ Some (f.row, f.why)
     = rw (same, ← g.held) defect in
-    let F = λ (e : List Source × Source). fault_of_source (form_of (job_of p)) p.kinds x e.0 e.1 in
-    let fault : fault_of_source (form_of (job_of p)) p.kinds x earlier s ≡ Some f = rw (here, ← number) refl in
+    let F = λ (e : List Source × Source). fault_of_source (timing_of p) (form_of (job_of p)) p.kinds x e.0 e.1 in
+    let fault : fault_of_source (timing_of p) (form_of (job_of p)) p.kinds x earlier s ≡ Some f = rw (here, ← number) refl in
     ap (λ sources. first_some F (each_with_before sources)) split ∙ ap (first_some F) (with_before-append [] earlier (s ∷ later))
     ∙ first_some-append F (each_with_before earlier) (with_before earlier (s ∷ later))
     ∙ rw (g.good, fault) refl
 
 pub gathered_fault : (p : Program) (earlier later : List Source) (s : Source) (gathered : Gathered) (number : ℕ) (fault : GatherFault) (a b c : Option Contents)
     → p.sources ≡ earlier ++ (s ∷ later) → number ≡ length earlier → (Contains (files_of earlier) s.file → ⊥)
-    → WhereTold a b (IsGathered (form_of (job_of p)) p.kinds earlier gathered)
-    → IsFaultOf (form_of (job_of p)) p.kinds s number gathered.held b c fault → IsFirstFault p a c fault
+    → WhereTold a b (IsGathered (timing_of p) (form_of (job_of p)) p.kinds earlier gathered)
+    → IsFaultOf (timing_of p (length earlier)) (form_of (job_of p)) p.kinds s number gathered.held b c fault → IsFirstFault p a c fault
 gathered_fault p earlier later s gathered number (SourceFaulty f) a b c split size apart told fault = (
   omega (arith, fault.0, size, ap length split, length-append earlier (s ∷ later)),
-  told_then (IsGathered (form_of (job_of p)) p.kinds earlier gathered)
-      (λ was now. first_defect (form_of (job_of p)) p.kinds s gathered.held (bytes_left was s.file) ≡ Some (f.row, f.why))
+  told_then (IsGathered (timing_of p) (form_of (job_of p)) p.kinds earlier gathered)
+      (λ was now. first_defect (timing_of p (length earlier)) (form_of (job_of p)) p.kinds s gathered.held (bytes_left was s.file) ≡ Some (f.row, f.why))
       (λ was now. first_fault p was ≡ Some f) a b c
       (λ x y z g defect. fault_join p earlier later s gathered f x y split (fault.0 ∙ size) apart g defect) told fault.1,
 )
@@ -209,12 +211,12 @@ gathered_fault p earlier later s gathered number ReadFault a b c split size apar
 gathered_fault p earlier later s gathered number NoMemory a b c split size apart told fault = tt
 
 -- ---- the files at the end of a call
-pub others_at : (form : RowForm) (kinds : List Kind) (earlier later : List Source) (s : Source) (gathered : Gathered) (a b c : Option Contents)
-    → WhereTold a b (IsGathered form kinds earlier gathered) → WhereTold b c (TakesFrom s.file) → WhereTold a c (LeavesOthers (files_of (earlier ++ (s ∷ later))))
-others_at form kinds earlier later s gathered a b c told taken =
+pub others_at : (timing : ℕ → Timing) (form : RowForm) (kinds : List Kind) (earlier later : List Source) (s : Source) (gathered : Gathered) (a b c : Option Contents)
+    → WhereTold a b (IsGathered timing form kinds earlier gathered) → WhereTold b c (TakesFrom s.file) → WhereTold a c (LeavesOthers (files_of (earlier ++ (s ∷ later))))
+others_at timing form kinds earlier later s gathered a b c told taken =
     let names : files_of (earlier ++ (s ∷ later)) ≡ (files_of earlier ++ (s.file ∷ [])) ++ files_of later =
     map-append (λ (x : Source). x.file) earlier (s ∷ later) ∙ sym (append_assoc (files_of earlier) (s.file ∷ []) (files_of later)) in
-    rw names (told_then (IsGathered form kinds earlier gathered) (TakesFrom s.file) (LeavesOthers ((files_of earlier ++ (s.file ∷ [])) ++ files_of later)) a b c
+    rw names (told_then (IsGathered timing form kinds earlier gathered) (TakesFrom s.file) (LeavesOthers ((files_of earlier ++ (s.file ∷ [])) ++ files_of later)) a b c
     (λ x y z p q. leaves_wider (files_of earlier ++ (s.file ∷ [])) (files_of later) x z (leaves_more (files_of earlier) s.file x y z p.others q)) told taken)
 
 pub counts_at : (earlier later : List Source) (s : Source) (a b : Option Contents) (f g h : List ℕ → ℕ) → ((m : List ℕ) → IsThere a m → IsThere b m)
@@ -230,10 +232,10 @@ among_sources earlier later s =
     (Contains-append_right (files_of earlier) (s.file ∷ files_of later) s.file (0, omega arith, refl))
 
 -- ---- a read fault behind good sources
-hides_join : (form : RowForm) (kinds : List Kind) (earlier : List Source) (s : Source) (gathered : Gathered) (read behind : List Next) (x y : Contents)
-    → first_of kinds s gathered.held read ≡ None → (Contains (files_of earlier) s.file → ⊥)
-    → IsGathered form kinds earlier gathered x y → WasRead form s read behind y → StopsWithout form kinds earlier s read behind x
-hides_join form kinds earlier s gathered read behind x y passes apart g was = record {
+hides_join : (timing : ℕ → Timing) (form : RowForm) (kinds : List Kind) (earlier : List Source) (s : Source) (gathered : Gathered) (read behind : List Next) (x y : Contents)
+    → first_of (timing (length earlier)) kinds s gathered.held read ≡ None → (Contains (files_of earlier) s.file → ⊥)
+    → IsGathered timing form kinds earlier gathered x y → WasRead form s read behind y → StopsWithout timing form kinds earlier s read behind x
+hides_join timing form kinds earlier s gathered read behind x y passes apart g was = record {
   good = g.good;
   passes = rw (← g.held) passes;
   was = read_at_first form s read behind earlier x y g.others apart was;
@@ -241,8 +243,8 @@ hides_join form kinds earlier s gathered read behind x y passes apart g was = re
 
 pub hides_behind : (p : Program) (earlier later : List Source) (s : Source) (gathered : Gathered) (a b c : Option Contents) (before now : List ℕ → ℕ)
     → p.sources ≡ earlier ++ (s ∷ later) → (Contains (files_of earlier) s.file → ⊥)
-    → WhereTold a b (IsGathered (form_of (job_of p)) p.kinds earlier gathered)
-    → Rose (before s.file) (now s.file) → HidesNoDefect (form_of (job_of p)) p.kinds s gathered.held b c → HidesNothing p a c before now
+    → WhereTold a b (IsGathered (timing_of p) (form_of (job_of p)) p.kinds earlier gathered)
+    → Rose (before s.file) (now s.file) → HidesNoDefect (timing_of p (length earlier)) (form_of (job_of p)) p.kinds s gathered.held b c → HidesNothing p a c before now
 hides_behind p earlier later s gathered a b c before now split apart told rose h = record {
   earlier = earlier;
   source = s;
@@ -254,10 +256,10 @@ hides_behind p earlier later s gathered a b c before now split apart told rose h
   form = h.form_is;
   file = h.file;
   undecided = h.undecided;
-  told = told_then (IsGathered (form_of (job_of p)) p.kinds earlier gathered)
+  told = told_then (IsGathered (timing_of p) (form_of (job_of p)) p.kinds earlier gathered)
       (λ was now. WasRead (form_of (job_of p)) s h.read (ahead h.place now) was)
-      (λ was now. StopsWithout (form_of (job_of p)) p.kinds earlier s h.read (ahead h.place now) was) a b c
-      (λ x y z g was. hides_join (form_of (job_of p)) p.kinds earlier s gathered h.read (ahead h.place z) x y h.passes apart g was) told h.told;
+      (λ was now. StopsWithout (timing_of p) (form_of (job_of p)) p.kinds earlier s h.read (ahead h.place now) was) a b c
+      (λ x y z g was. hides_join (timing_of p) (form_of (job_of p)) p.kinds earlier s gathered h.read (ahead h.place z) x y h.passes apart g was) told h.told;
 }
 
 -- ---- an answer

@@ -2,10 +2,14 @@ pub mod Places
 pub mod Growing
 pub mod Befores
 pub mod Taken
+pub mod Moments
+pub mod Ranges
 pub mod Gatherings
 pub mod Streamings
 pub mod Turns
 pub mod Placing
+pub mod Between
+pub mod Inlets
 pub mod Keyed
 pub mod Cutting
 pub mod BorderLaws
@@ -20,6 +24,7 @@ pub mod Whole
 pub mod Starts
 pub mod Rounding
 pub mod RoundOf
+pub mod Ranks
 pub mod Bounds
 pub mod RefillEnds
 pub mod Cuts

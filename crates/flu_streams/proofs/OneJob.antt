@@ -1,6 +1,6 @@
 -- Programs of one job read the same of the same files.
 use Rattle.std.proofs.Common.{◌≡◌, refl, sym, ap, ◌∙◌, ℕ, ◌+◌, ◌==◌, ℤ, List, [], ◌∷◌, ◌++◌, length, Bool, false, map, Option, Some, None}
-use Rattle.std.specs.Prelude.{option_map, option_and_then, unwrap_or, is_none, is_some, not, slice_get, sum_by, if◌then◌else◌}
+use Rattle.std.specs.Prelude.{option_map, option_and_then, unwrap_or, is_none, is_some, not, slice_get, sum_by, if◌then◌else◌, ◌*◌, max}
 use Rattle.std.specs.List.{position, filter_map, flat_map, range_with_len}
 use Rattle.std.proofs.Math.Path.{fun_ext}
 use Rattle.std.proofs.lemmas.Option.{slice_get-map}
@@ -10,7 +10,8 @@ use Rattle.flu_model.specs.declared.events.Tag.{Tag}
 use Rattle.flu_model.specs.declared.jobs.Kind.{Kind}
 use Rattle.flu_model.specs.declared.jobs.Program.{Program}
 use Rattle.flu_model.specs.declared.jobs.Source.{Source}
-use Rattle.flu_model.specs.Erasure.{PlainKind, plain_kind, IsSameJob}
+use Rattle.flu_model.specs.declared.moments.Timing.{Timing}
+use Rattle.flu_model.specs.Erasure.{PlainKind, plain_kind, Job, IsSameJob}
 use Rattle.flu_model.specs.Listing.{tag, tags_of_source}
 use Rattle.flu_model.specs.Rules.{is_same_text, is_same_tag}
 use Rattle.flu_outside.specs.Taking.{bytes_left}
@@ -25,11 +26,11 @@ use Rattle.flu_rows.specs.Reading.{read_file}
 use Rattle.flu_streams.specs.declared.faults.Why.{Why}
 use Rattle.flu_streams.specs.declared.faults.Why.TheVariants.{BadRow, UnknownTag, UnknownItem, AfterEnd}
 use Rattle.flu_streams.specs.Before.{each_with_before, first_some}
-use Rattle.flu_streams.specs.Good.{rows_in, items_held, event_of, item_in, in_time_order, lists_of_rows, lists_of, first_fault}
+use Rattle.flu_streams.specs.Good.{rows_in, items_held, event_of, item_in, at_moments, in_time_order, lists_of_rows, lists_of, first_fault}
 use Rattle.flu_streams.specs.OneJob.{ReadRowsAlike, ReadTheSame}
 use Rattle.flu_streams.specs.Rounds.{row_fault, line_defect, defect_in}
 use Rattle.flu_streams.specs.Tags.{kind_named, key_named, tag_named, place_named, given, given_by, given_to, is_known, width}
-use Rattle.flu_streams.specs.Tests.{where_true, test_time, test_items, tests, defect_of, first_defect, has_ended, times_of, items_of}
+use Rattle.flu_streams.specs.Tests.{where_true, test_range, test_time, test_items, tests, defect_of, first_defect, has_ended, times_of, items_of}
 use Rattle.flu_streams.specs.Tests.{rows_of}
 
 -- ---- what a row's tag and fields are tested by depends on the kinds without their actions
@@ -97,45 +98,49 @@ module _ (kinds others : List Kind) (alike : map plain_kind kinds ≡ map plain_
       ∙ sym (given_plain others name fields))
 
   -- ---- so do the tests, and the first defect
-  same_tests : (s : Source) (ended : Bool) (earlier : List ℕ) (held : ℕ) (row : Row)
-      → tests kinds s ended earlier held row ≡ tests others s ended earlier held row
-  same_tests s ended earlier held (Event time name key fields) = λ j.
-      where_true ended AfterEnd ∷ where_true (is_none (same_place s name key j)) UnknownTag
+  same_tests : (timing : Timing) (s : Source) (ended : Bool) (earlier : List ℕ) (held : ℕ) (row : Row)
+      → tests timing kinds s ended earlier held row ≡ tests timing others s ended earlier held row
+  same_tests timing s ended earlier held (Event time name key fields) = λ j.
+      where_true ended AfterEnd ∷ test_range timing (Event time name key fields) ∷ where_true (is_none (same_place s name key j)) UnknownTag
       ∷ where_true (not (is_some (same_given name fields j))) BadRow ∷ where_true (not (is_known fields)) UnknownItem
-      ∷ test_time s.slack earlier (Event time name key fields) ∷ test_items (width s) held (Event time name key fields) ∷ []
-  same_tests s ended earlier held (Beat time) = refl
-  same_tests s ended earlier held End = refl
+      ∷ test_time timing s.slack earlier (Event time name key fields) ∷ test_items (width s) held (Event time name key fields) ∷ []
+  same_tests timing s ended earlier held (Beat time) = refl
+  same_tests timing s ended earlier held End = refl
 
-  same_defect : (s : Source) (held : ℕ) (read : List Next) (next : Next) → defect_of kinds s held read next ≡ defect_of others s held read next
-  same_defect s held read (RowNext line row) =
+  same_defect : (timing : Timing) (s : Source) (held : ℕ) (read : List Next) (next : Next)
+      → defect_of timing kinds s held read next ≡ defect_of timing others s held read next
+  same_defect timing s held read (RowNext line row) =
       ap (λ ts. option_map (λ why. (line, why)) (first_some (λ (test : Option Why). test) ts))
-      (same_tests s (has_ended (rows_of read)) (times_of (rows_of read)) (held + items_of (width s) (rows_of read)) row)
-  same_defect s held read (Bad line) = refl
-  same_defect s held read TooManyLines = refl
-  same_defect s held read (Done lines) = refl
+      (same_tests timing s (has_ended (rows_of read)) (times_of (rows_of read)) (held + items_of (width s) (rows_of read)) row)
+  same_defect timing s held read (Bad line) = refl
+  same_defect timing s held read TooManyLines = refl
+  same_defect timing s held read (Done lines) = refl
 
-  same_first_defect : (form : RowForm) → first_defect form kinds ≡ first_defect form others
-  same_first_defect form = λ j s held bytes.
-      first_some (λ (e : List Next × Next). same_defect s held e.0 e.1 j) (each_with_before (read_file form bytes))
+  same_first_defect : (timing : Timing) (form : RowForm) → first_defect timing form kinds ≡ first_defect timing form others
+  same_first_defect timing form = λ j s held bytes.
+      first_some (λ (e : List Next × Next). same_defect timing s held e.0 e.1 j) (each_with_before (read_file form bytes))
 
   -- ---- and the defects of lines
-  same_row_fault : (s : Source) (ended : Bool) (earlier : List ℕ) (row : Row) → row_fault kinds s ended earlier row ≡ row_fault others s ended earlier row
-  same_row_fault s ended earlier (Event time name key fields) = λ j.
-      first_some (λ (test : Option Why). test) (where_true ended AfterEnd ∷ where_true (is_none (same_place s name key j)) UnknownTag
+  same_row_fault : (timing : Timing) (s : Source) (ended : Bool) (earlier : List ℕ) (row : Row)
+      → row_fault timing kinds s ended earlier row ≡ row_fault timing others s ended earlier row
+  same_row_fault timing s ended earlier (Event time name key fields) = λ j.
+      first_some (λ (test : Option Why). test) (where_true ended AfterEnd ∷ test_range timing (Event time name key fields)
+      ∷ where_true (is_none (same_place s name key j)) UnknownTag
       ∷ where_true (not (is_some (same_given name fields j))) BadRow ∷ where_true (not (is_known fields)) UnknownItem
-      ∷ test_time s.slack earlier (Event time name key fields) ∷ [])
-  same_row_fault s ended earlier (Beat time) = refl
-  same_row_fault s ended earlier End = refl
+      ∷ test_time timing s.slack earlier (Event time name key fields) ∷ [])
+  same_row_fault timing s ended earlier (Beat time) = refl
+  same_row_fault timing s ended earlier End = refl
 
-  same_line_defect : (s : Source) (read : List Next) (next : Next) → line_defect kinds s read next ≡ line_defect others s read next
-  same_line_defect s read (RowNext line row) =
-      ap (option_map (λ (why : Why). (line, why))) (same_row_fault s (has_ended (rows_of read)) (times_of (rows_of read)) row)
-  same_line_defect s read (Bad line) = refl
-  same_line_defect s read TooManyLines = refl
-  same_line_defect s read (Done lines) = refl
+  same_line_defect : (timing : Timing) (s : Source) (read : List Next) (next : Next)
+      → line_defect timing kinds s read next ≡ line_defect timing others s read next
+  same_line_defect timing s read (RowNext line row) =
+      ap (option_map (λ (why : Why). (line, why))) (same_row_fault timing s (has_ended (rows_of read)) (times_of (rows_of read)) row)
+  same_line_defect timing s read (Bad line) = refl
+  same_line_defect timing s read TooManyLines = refl
+  same_line_defect timing s read (Done lines) = refl
 
-  same_in_lines : defect_in kinds ≡ defect_in others
-  same_in_lines = λ j s lines. first_some (λ (e : List Next × Next). same_line_defect s e.0 e.1 j) (each_with_before lines)
+  same_in_lines : (timing : Timing) → defect_in timing kinds ≡ defect_in timing others
+  same_in_lines timing = λ j s lines. first_some (λ (e : List Next × Next). same_line_defect timing s e.0 e.1 j) (each_with_before lines)
 
   -- ---- the lists of items
   same_item : (s : Source) (first place : ℕ) (row : Row) → item_in kinds s first place row ≡ item_in others s first place row
@@ -146,14 +151,23 @@ module _ (kinds others : List Kind) (alike : map plain_kind kinds ≡ map plain_
   same_item s first place (Beat time) = refl
   same_item s first place End = refl
 
-  same_row_lists : lists_of_rows kinds ≡ lists_of_rows others
-  same_row_lists = λ j s first rows.
-      map (λ place. filter_map (λ row. same_item s first place row j) (in_time_order rows) ++ EndItem ∷ []) (range_with_len 0 (width s))
+  same_row_lists : (timing : Timing) → lists_of_rows timing kinds ≡ lists_of_rows timing others
+  same_row_lists timing = λ j s first rows.
+      map (λ place. filter_map (λ row. same_item s first place row j) (in_time_order (at_moments timing [] rows)) ++ EndItem ∷ []) (range_with_len 0 (width s))
 
   rows_alike : ReadRowsAlike kinds others
   rows_alike = record { defects = same_first_defect; in_lines = same_in_lines; lists = same_row_lists }
 
 -- ---- the sources of a job
+-- how the rows of a source are numbered depends on the job alone
+abbrev pub timing_in : Job → ℕ → Timing
+timing_in j number = record {
+  several = j.version == 3;
+  scale = if j.version == 3 then max 1 (length j.sources) * j.ties else 1;
+  offset = if j.version == 3 then number * j.ties else 0;
+  ties = j.ties;
+}
+
 module _ (p q : Program) (same : IsSameJob p q) where
   alike_rows : ReadRowsAlike p.kinds q.kinds
   alike_rows = rows_alike p.kinds q.kinds (ap (λ j. j.kinds) same)
@@ -161,10 +175,11 @@ module _ (p q : Program) (same : IsSameJob p q) where
   same_faults : first_fault p ≡ first_fault q
   same_faults = λ i left. first_some (λ (e : List Source × Source).
       option_map (λ (d : ℕ × Why). record { source = length e.0; row = d.0; why = d.1 })
-      (alike_rows.defects (form_of (same i)) i e.1 (items_held (form_of (same i)) left e.0) (bytes_left left e.1.file))) (each_with_before (same i).sources)
+      (alike_rows.defects (timing_in (same i) (length e.0)) (form_of (same i)) i e.1 (items_held (form_of (same i)) left e.0) (bytes_left left e.1.file)))
+      (each_with_before (same i).sources)
 
   same_lists : lists_of p ≡ lists_of q
-  same_lists = λ i left. flat_map (λ (e : List Source × Source). alike_rows.lists i e.1 (sum_by width e.0)
+  same_lists = λ i left. flat_map (λ (e : List Source × Source). alike_rows.lists (timing_in (same i) (length e.0)) i e.1 (sum_by width e.0)
       (rows_in (form_of (same i)) left e.1)) (each_with_before (same i).sources)
 
 pub jobs_read_the_same : (p q : Program) → IsSameJob p q → ReadTheSame p q

@@ -10,6 +10,8 @@ use Rattle.flu_lemmas.proofs.Places.{slice_get-there}
 use Rattle.flu_lemmas.proofs.Tests.{not_both}
 use Rattle.flu_model.specs.declared.jobs.Source.{Source}
 use Rattle.flu_model.specs.declared.jobs.Program.{Program}
+use Rattle.flu_model.specs.declared.moments.Timing.{Timing}
+use Rattle.flu_model.specs.Moments.{timing_of}
 use Rattle.flu_outside.specs.Outside.{Contents, WhereTold, Rose}
 use Rattle.flu_outside.specs.Taking.{IsReadOut}
 use Rattle.flu_rows.specs.declared.rows.Next.{Next}
@@ -25,11 +27,12 @@ use Rattle.flu_streams.specs.declared.held.Stage.TheVariants.{Filled}
 use Rattle.flu_streams.specs.declared.inlet.Inlet.{Inlet}
 use Rattle.flu_streams.specs.declared.stop.Stop.{Stop}
 use Rattle.flu_streams.specs.declared.stop.Stop.TheVariants.{Defect, ReadFault, NoMemory}
-use Rattle.flu_streams.specs.Holding.{HeldSource, AreHeldBehind, AreClosed, ClosedAreReadOut, IsNewBorder, IsRefillFault, HidesNoRoundFault, first_itag}
+use Rattle.flu_streams.specs.Holding.{HeldSource, IsHeldBehind, AreHeldBehind, AreClosed, ClosedAreReadOut, IsNewBorder, IsRefillFault, HidesNoRoundFault, first_itag}
 use Rattle.flu_streams.specs.Holding.{unread_source, still}
 use Rattle.flu_streams.specs.Lists.{item_time}
 use Rattle.flu_streams.specs.LoopStop.{fault_of_stop}
-use Rattle.flu_streams.specs.LoopHeld.{source_of, IsRefilled, MeetsDefect, IsStopOf, HasRefilled, StopsAtSource, IsSettledAt, IsSettledBy, IsTurnOf, IsWellAt}
+use Rattle.flu_streams.specs.LoopHeld.{source_of, IsRefilled, MeetsDefect, IsStopOf, HasRefilled, StopsAtSource, IsSettledAt, IsSettledBy, IsTurnOf, IsWellAt, StopsBehind, AreTimed}
+use Rattle.flu_streams.specs.LoopMoments.{border_moment}
 use Rattle.flu_streams.specs.LoopHeld.{AreWell, AreCaughtUp, AreUncounted, IsWell, IsFew, count_above}
 use Rattle.flu_streams.specs.Before.{or_else}
 use Rattle.flu_streams.specs.Rounds.{Reads, Meets, IsWithin, line_defect, defect_in, is_above, is_enough}
@@ -60,6 +63,10 @@ one_of p rows olds news a b end count has i s at =
     let new = slice_get-there news i (rw (has.all.size, count) lt) in
     record { end = e.0; old = old.0; new = new.0; at_end = e.1; was = old.1; is = new.1; done = has.all.each i s at e.0 old.0 new.0 e.1 old.1 new.1 }
 
+-- what is well by how the job numbers the rows of a source is so by how its inlet does
+own_well : (p : Program) (i : ℕ) (s : Source) (border : Option ℕ) (h : Inlet) → IsWellAt (timing_of p i) s border h → IsWellAt h.timing s border h
+own_well p i s border h well = subst (λ (timing : Timing). IsWellAt timing s border h) (sym well.timing_is) well
+
 pub refill_border : (p : Program) (rows : ℕ) (border : Option ℕ) (olds news : List Inlet) (a b : Option Contents) (end : Border)
     → AreWell p rows border olds → HasRefilled p rows olds news a b end → IsNewBorder border end
 refill_border p rows border olds news a b Closed well has = tt
@@ -68,7 +75,7 @@ refill_border p rows border olds news a b (At t) well has =
     let s = slice_get-there p.sources low.0 (rw (← has.count) (slice_get_within has.ends low.0 (At t) low.1)) in
     let one = one_of p rows olds news a b (At t) well.count has low.0 s.0 s.1 in
     let same : one.end ≡ At t = one_there has.ends low.0 one.end (At t) one.at_end low.1 in
-    subst (IsNewBorder border) same (one.done.border border (well.each low.0 s.0 s.1 one.old one.was))
+    subst (IsNewBorder border) same (one.done.border border (own_well p low.0 s.0 border one.old (well.each low.0 s.0 s.1 one.old one.was)))
 
 refill_keeps : (p : Program) (rows : ℕ) (border : Option ℕ) (olds news : List Inlet) (a b : Option Contents) (end : Border)
     → AreWell p rows border olds → HasRefilled p rows olds news a b end → AreWell p rows border news
@@ -85,7 +92,9 @@ refill_keeps p rows border olds news a b end well has = record {
       subst (IsFew (Some rows) s) (one_there news i one.new h one.is f) (one.done.few (well.few i s at one.old one.was));
   each = λ i s at h f.
       let one = one_of p rows olds news a b end well.count has i s at in
-      subst (IsWellAt s border) (one_there news i one.new h one.is f) (one.done.keeps border (well.each i s at one.old one.was));
+      let was = well.each i s at one.old one.was in
+      subst (IsWellAt (timing_of p i) s border) (one_there news i one.new h one.is f)
+      (subst (λ (timing : Timing). IsWellAt timing s border one.new) was.timing_is (one.done.keeps border (own_well p i s border one.old was)));
 }
 
 settled_turn : (s : Source) (h : Inlet) (end : Border) (t : ℕ) → IsTurnOf s h end → IsWithin t (turn_of end) → IsSettledAt s (Some t) h
@@ -148,36 +157,53 @@ refill_closed p rows border stage olds news a b end well has shut i source f =
     ap (λ (h : HeldSource). h.closed) k.2 ∙ ap (λ (h : Inlet). h.closed) (sym (one_there news i one.new k.0 one.is k.1)) ∙ turn
 
 -- ---- where it stops
-few_last : (s : Source) (rows : ℕ) (border : Option ℕ) (before more : List Next)
-    → ((k : ℕ) → k ≤ length more → is_enough rows border s (before ++ take k more) ≡ false)
-    → is_enough rows border s (before ++ more) ≡ false
-few_last s rows border before more few =
-    ap (λ (l : List Next). is_enough rows border s (before ++ l)) (sym (take_all (length more) more (omega arith))) ∙ few (length more) (omega arith)
+few_last : (timing : Timing) (s : Source) (rows : ℕ) (border : Option ℕ) (before more : List Next)
+    → ((k : ℕ) → k ≤ length more → is_enough timing rows border s (before ++ take k more) ≡ false)
+    → is_enough timing rows border s (before ++ more) ≡ false
+few_last timing s rows border before more few =
+    ap (λ (l : List Next). is_enough timing rows border s (before ++ l)) (sym (take_all (length more) more (omega arith))) ∙ few (length more) (omega arith)
 
-meets_reads : (p : Program) (s : Source) (rows : ℕ) (border : Option ℕ) (before whole now : List Next) (old : Inlet) (a b : Option Contents)
+meets_reads : (timing : Timing) (p : Program) (s : Source) (rows : ℕ) (border : Option ℕ) (before whole now : List Next) (old : Inlet) (a b : Option Contents)
     (x y : Contents) (row : ℕ) (why : Why)
-    → (m : MeetsDefect p.kinds s (Some rows) border before old a b row why) → is_some old.held ≡ false → a ≡ Some x → b ≡ Some y
+    → (m : MeetsDefect timing p.kinds s (Some rows) border before old a b row why) → is_some old.held ≡ false → a ≡ Some x → b ≡ Some y
     → whole ≡ before ++ still (source_of old) x → now ≡ before ++ m.more
-    → Reads p.kinds s rows border whole before now (Meets row why)
-meets_reads p s rows border before whole now old a b x y row why m free e f all is =
+    → Reads timing p.kinds s rows border whole before now (Meets row why)
+meets_reads timing p s rows border before whole now old a b x y row why m free e f all is =
     let told = at_told (λ was at. (rest : List Next) × (still (source_of old) was ≡ m.more ++ (m.next ∷ rest))) a b x y e f m.told in
-    let line_is = line_defect p.kinds s (before ++ m.more) m.next in
+    let line_is = line_defect timing p.kinds s (before ++ m.more) m.next in
     let defect : line_is ≡ Some (row, why) =
     sym (ap (or_else line_is) (never_many old.held s m.more m.next free) ∙ or_none line_is) ∙ m.defect in
     let line : whole ≡ (before ++ m.more) ++ (m.next ∷ told.0) = all ∙ ap (λ (rest : List Next). before ++ rest) told.1
     ∙ sym (append_assoc before m.more (m.next ∷ told.0)) in
-    subst (λ l. Reads p.kinds s rows border whole before l (Meets row why)) (sym is) (record {
+    subst (λ l. Reads timing p.kinds s rows border whole before l (Meets row why)) (sym is) (record {
       more = m.more;
       further = refl;
       sound = m.sound;
       shortest = λ k lt. m.few k (omega (arith, lt));
-      stops = ((m.next, told.0, line, defect), few_last s rows border before m.more m.few);
+      stops = ((m.next, told.0, line, defect), few_last timing s rows border before m.more m.few);
     })
+
+-- where the inlet of a source stops, by how the job numbers the rows of the source
+meets_at : (p : Program) (i : ℕ) (s : Source) (rows : ℕ) (border : Option ℕ) (before : List Next) (old : Inlet) (a b : Option Contents) (row : ℕ) (why : Why)
+    → old.timing ≡ timing_of p i → IsStopOf p.kinds s (first_itag p i) (Some rows) old a b (Defect row why)
+    → IsHeldBehind (timing_of p i) p.kinds (first_itag p i) s border before (source_of old)
+    → MeetsDefect (timing_of p i) p.kinds s (Some rows) border before old a b row why
+meets_at p i s rows border before old a b row why timed own behind =
+    subst (λ (timing : Timing). IsHeldBehind timing p.kinds (first_itag p i) s border before (source_of old)
+    → MeetsDefect timing p.kinds s (Some rows) border before old a b row why) timed (own border before) behind
+
+stops_behind_at : (p : Program) (i : ℕ) (s : Source) (rows : ℕ) (border : Option ℕ) (before : List Next) (old : Inlet) (a b : Option Contents)
+    → old.timing ≡ timing_of p i → IsStopOf p.kinds s (first_itag p i) (Some rows) old a b ReadFault
+    → IsHeldBehind (timing_of p i) p.kinds (first_itag p i) s border before (source_of old)
+    → StopsBehind (timing_of p i) p.kinds s (Some rows) border before old a b
+stops_behind_at p i s rows border before old a b timed own behind =
+    subst (λ (timing : Timing). IsHeldBehind timing p.kinds (first_itag p i) s border before (source_of old)
+    → StopsBehind timing p.kinds s (Some rows) border before old a b) timed (own border before) behind
 
 pub refill_fault : (p : Program) (rows : ℕ) (border : Option ℕ) (stage : Stage) (olds : List Inlet) (a b : Option Contents)
     (Q : Contents → Contents → Type 0) (fault : GatherFault) (faults faults' : List ℕ → ℕ) → length olds ≡ length p.sources
-    → AreUncounted olds → WhereTold a b Q → StopsAtSource p rows olds a b faults faults' fault → IsRefillFault (holding p rows border stage olds) a b fault
-refill_fault p rows border stage olds a b Q fault faults faults' count free told st =
+    → AreTimed p olds → AreUncounted olds → WhereTold a b Q → StopsAtSource p rows olds a b faults faults' fault → IsRefillFault (holding p rows border stage olds) a b fault
+refill_fault p rows border stage olds a b Q fault faults faults' count timed free told st =
     subst (IsRefillFault (holding p rows border stage olds) a b) (sym st.cause) (by_stop st.stop st.own)
   where
     by_stop : (stop : Stop) → ((old : Inlet) → slice_get olds (length st.ends) ≡ Some old
@@ -188,8 +214,9 @@ refill_fault p rows border stage olds a b Q fault faults faults' count free told
       λ before behind.
           let own_behind = behind_at p rows border stage olds before behind in
           let old = slice_get-there olds (length st.ends) (rw count (slice_get_within p.sources (length st.ends) st.source st.is)) in
-          let m = own old.0 old.1 border (before (length st.ends)) (own_behind (length st.ends) st.source st.is old.0 old.1) in
-          let picked = choose p rows border before olds st.news a b st.ends m.more count own_behind st.all in
+          let m = meets_at p (length st.ends) st.source rows border (before (length st.ends)) old.0 a b row why
+          (timed (length st.ends) old.0 old.1) (own old.0 old.1) (own_behind (length st.ends) st.source st.is old.0 old.1) in
+          let picked = choose p rows border before olds st.news a b st.ends m.more count timed own_behind st.all in
           told_from Q _ a b told (λ x y e f whole all. record {
             now = picked.0;
             earlier = λ i s at lt.
@@ -202,7 +229,7 @@ refill_fault p rows border stage olds a b Q fault faults faults' count free told
             source = (
               st.source,
               st.is,
-              meets_reads p st.source rows border (before (length st.ends)) (whole (length st.ends)) (picked.0 (length st.ends))
+              meets_reads (timing_of p (length st.ends)) p st.source rows border (before (length st.ends)) (whole (length st.ends)) (picked.0 (length st.ends))
                   old.0 a b x y row why m (free (length st.ends) old.0 old.1) e f
                   (all (length st.ends) (source_of old.0) (to_mapped source_of olds (length st.ends) old.0 old.1))
                   ((picked.1 (length st.ends) st.source st.is).1 refl),
@@ -217,11 +244,11 @@ front_more before more rest now is = sym (append_assoc before more rest) ∙ ap 
 
 pub refill_hides : (p : Program) (rows : ℕ) (border : Option ℕ) (stage : Stage) (olds : List Inlet) (a b : Option Contents)
     (Q : Contents → Contents → Type 0) (fault : GatherFault) (faults faults' : List ℕ → ℕ) → length olds ≡ length p.sources
-    → AtEach (λ i h. h.rows.form ≡ form_of (job_of p)) olds
+    → AreTimed p olds → AtEach (λ i h. h.rows.form ≡ form_of (job_of p)) olds
     → WhereTold a b Q → StopsAtSource p rows olds a b faults faults' fault → fault ≡ ReadFaulty → (before : ℕ → List Next)
     → AreHeldBehind (holding p rows border stage olds) before
     → HidesNoRoundFault (holding p rows border stage olds) a b faults faults' before
-refill_hides p rows border stage olds a b Q fault faults faults' count forms told st is before behind = by_stop st.stop st.own st.rose (sym st.cause ∙ is)
+refill_hides p rows border stage olds a b Q fault faults faults' count timed forms told st is before behind = by_stop st.stop st.own st.rose (sym st.cause ∙ is)
   where
     by_stop : (stop : Stop) → ((old : Inlet) → slice_get olds (length st.ends) ≡ Some old
         → IsStopOf p.kinds st.source (first_itag p (length st.ends)) (Some rows) old a b stop)
@@ -232,8 +259,9 @@ refill_hides p rows border stage olds a b Q fault faults faults' count forms tol
     by_stop ReadFault own rose e =
         let own_behind = behind_at p rows border stage olds before behind in
         let old = slice_get-there olds (length st.ends) (rw count (slice_get_within p.sources (length st.ends) st.source st.is)) in
-        let m = own old.0 old.1 border (before (length st.ends)) (own_behind (length st.ends) st.source st.is old.0 old.1) in
-        let picked = choose p rows border before olds st.news a b st.ends m.more count own_behind st.all in
+        let m = stops_behind_at p (length st.ends) st.source rows border (before (length st.ends)) old.0 a b
+        (timed (length st.ends) old.0 old.1) (own old.0 old.1) (own_behind (length st.ends) st.source st.is old.0 old.1) in
+        let picked = choose p rows border before olds st.news a b st.ends m.more count timed own_behind st.all in
         let now_is : picked.0 (length st.ends) ≡ before (length st.ends) ++ m.more = (picked.1 (length st.ends) st.source st.is).1 refl in
         record {
           at = length st.ends;
@@ -243,7 +271,7 @@ refill_hides p rows border stage olds a b Q fault faults faults' count forms tol
           now = picked.0;
           more = m.more;
           further = now_is;
-          sound = ap (defect_in p.kinds st.source) now_is ∙ m.sound;
+          sound = ap (defect_in (timing_of p (length st.ends)) p.kinds st.source) now_is ∙ m.sound;
           few = m.few;
           place = m.place;
           form = m.form ∙ forms (length st.ends) old.0 old.1;
@@ -266,8 +294,8 @@ refill_hides p rows border stage olds a b Q fault faults faults' count forms tol
 
 -- ---- before the first round
 pub fresh_well : (p : Program) (rows : ℕ) (border : Option ℕ) (inlets : List Inlet) → 1 ≤ rows → rows ≤ 4096
-    → map source_of inlets ≡ map (unread_source (form_of (job_of p)) border) p.sources → AreWell p rows border inlets
-fresh_well p rows border inlets some most is = record {
+    → map source_of inlets ≡ map (unread_source (form_of (job_of p)) border) p.sources → AreTimed p inlets → AreWell p rows border inlets
+fresh_well p rows border inlets some most is timed = record {
   some = some;
   most = most;
   count = sym (length-map inlets source_of) ∙ ap length is ∙ length-map p.sources (unread_source (form_of (job_of p)) border);
@@ -278,15 +306,16 @@ fresh_well p rows border inlets some most is = record {
   few = λ i s at h f.
       let same : source_of h ≡ unread_source (form_of (job_of p)) border s = fresh_at p border i s (source_of h) at
       (ap (λ (l : List HeldSource). slice_get l i) (sym is) ∙ to_mapped source_of inlets i h f) in
-      let e : count_above h.goal h.items ≡ 0 = ap (λ (k : HeldSource). count_above k.goal k.items) same in
+      let e : count_above h.timing h.goal h.items ≡ 0 = ap (λ (k : HeldSource). count_above h.timing k.goal k.items) same in
       omega (arith, e);
   each = λ i s at h f.
       let same : source_of h ≡ unread_source (form_of (job_of p)) border s = fresh_at p border i s (source_of h) at
       (ap (λ (l : List HeldSource). slice_get l i) (sym is) ∙ to_mapped source_of inlets i h f) in
       record {
+        timing_is = timed i h f;
         file = ap (λ (k : HeldSource). k.place.file) same;
         goal = λ t e. ap (λ (k : HeldSource). k.goal) (sym same) ∙ e;
-        above = λ none. ap (λ (k : HeldSource). list_all (λ item. is_above border (item_time item)) k.items) same;
+        above = λ none. ap (λ (k : HeldSource). list_all (λ item. is_above (border_moment (timing_of p i) border) (item_time item)) k.items) same;
         settled = λ none goes t e. absurd (no_border t (sym (ap (λ (k : HeldSource). k.goal) (sym same) ∙ none) ∙ e));
       };
 }

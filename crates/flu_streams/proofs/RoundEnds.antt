@@ -16,6 +16,8 @@ use Rattle.flu_model.specs.Merging.{is_before, all_events}
 use Rattle.flu_model.specs.declared.jobs.Kind.{Kind}
 use Rattle.flu_model.specs.declared.jobs.Source.{Source}
 use Rattle.flu_model.specs.declared.jobs.Program.{Program}
+use Rattle.flu_model.specs.declared.moments.Timing.{Timing}
+use Rattle.flu_model.specs.Moments.{time_of_moment, timing_of}
 use Rattle.flu_outside.specs.Outside.{Contents}
 use Rattle.flu_rows.specs.declared.row.Row.{Row}
 use Rattle.flu_rows.specs.declared.row.Row.TheVariants.{Event, Beat, End}
@@ -26,23 +28,25 @@ use Rattle.flu_streams.specs.declared.border.Border.TheVariants.{Closed}
 use Rattle.flu_streams.specs.declared.faults.Why.{Why}
 use Rattle.flu_streams.specs.declared.faults.Why.TheVariants.{AfterEnd}
 use Rattle.flu_streams.specs.Before.{each_with_before}
-use Rattle.flu_streams.specs.Good.{lists_of_rows, lists_of, rows_in}
+use Rattle.flu_streams.specs.Good.{at_moments, items_at, lists_of_rows, lists_of, rows_in}
 use Rattle.flu_streams.specs.Rounds.{line_defect, defect_in, is_between, rows_between, lists_between, IsRound, LinesIn, LawOfLastRound, LawOfLastAbove}
 use Rattle.flu_streams.specs.Tags.{width}
 use Rattle.flu_streams.specs.Tests.{row_in, rows_of, is_end, has_ended}
 use Rattle.flu_streams.proofs.BorderLaws.{items_are_cut}
+use Rattle.flu_streams.proofs.Moments.{at_moments-end}
 use Rattle.flu_streams.proofs.RoundLaws.{between_cut, no_option, sound_front, defect_in-more, each_source, flat_same}
 use Rattle.flu_streams.proofs.Taken.{rows_more, ended_more, items_at-end, goes_on}
 
 -- ---- the end comes last
 -- a line behind the end has a defect
-none_behind : (kinds : List Kind) (s : Source) (read : List Next) (next : Next) → has_ended (rows_of read) ≡ true → line_defect kinds s read next ≡ None
+none_behind : (timing : Timing) (kinds : List Kind) (s : Source) (read : List Next) (next : Next) → has_ended (rows_of read) ≡ true
+    → line_defect timing kinds s read next ≡ None
     → rows_of (next ∷ []) ≡ []
-none_behind kinds s read (RowNext line row) ended e =
+none_behind timing kinds s read (RowNext line row) ended e =
     absurd (false≢true (sym (goes_on (has_ended (rows_of read)) AfterEnd _ (no_option (λ (why : Why). (line, why)) _ e)) ∙ ended))
-none_behind kinds s read (Bad line) ended e = refl
-none_behind kinds s read TooManyLines ended e = refl
-none_behind kinds s read (Done lines) ended e = refl
+none_behind timing kinds s read (Bad line) ended e = refl
+none_behind timing kinds s read TooManyLines ended e = refl
+none_behind timing kinds s read (Done lines) ended e = refl
 
 still_ended : (read : List Next) (next : Next) → has_ended (rows_of read) ≡ true → rows_of (next ∷ []) ≡ [] → has_ended (rows_of (read ++ next ∷ [])) ≡ true
 still_ended read next ended none =
@@ -51,19 +55,22 @@ still_ended read next ended none =
 regroup : (read : List Next) (next : Next) (more : List Next) → read ++ (next ∷ more) ≡ (read ++ next ∷ []) ++ more
 regroup read next more = sym (append_assoc read (next ∷ []) more)
 
-line_sound : (kinds : List Kind) (s : Source) (read : List Next) (next : Next) (more : List Next) → defect_in kinds s (read ++ (next ∷ more)) ≡ None
-    → line_defect kinds s read next ≡ None
-line_sound kinds s read next more sound =
-    let all : defect_in kinds s ((read ++ next ∷ []) ++ more) ≡ None = ap (defect_in kinds s) (sym (regroup read next more)) ∙ sound in
-    let front = sound_front kinds s (read ++ next ∷ []) more all in
-    sym (defect_in-more kinds s read next (sound_front kinds s read (next ∷ []) front)) ∙ front
+line_sound : (timing : Timing) (kinds : List Kind) (s : Source) (read : List Next) (next : Next) (more : List Next)
+    → defect_in timing kinds s (read ++ (next ∷ more)) ≡ None
+    → line_defect timing kinds s read next ≡ None
+line_sound timing kinds s read next more sound =
+    let all : defect_in timing kinds s ((read ++ next ∷ []) ++ more) ≡ None = ap (defect_in timing kinds s) (sym (regroup read next more)) ∙ sound in
+    let front = sound_front timing kinds s (read ++ next ∷ []) more all in
+    sym (defect_in-more timing kinds s read next (sound_front timing kinds s read (next ∷ []) front)) ∙ front
 
-nothing_behind : (kinds : List Kind) (s : Source) (read more : List Next) → has_ended (rows_of read) ≡ true → defect_in kinds s (read ++ more) ≡ None
+nothing_behind : (timing : Timing) (kinds : List Kind) (s : Source) (read more : List Next) → has_ended (rows_of read) ≡ true
+    → defect_in timing kinds s (read ++ more) ≡ None
     → rows_of more ≡ []
-nothing_behind kinds s read [] ended sound = refl
-nothing_behind kinds s read (next ∷ more) ended sound =
-    let none = none_behind kinds s read next ended (line_sound kinds s read next more sound) in
-    let rest = nothing_behind kinds s (read ++ next ∷ []) more (still_ended read next ended none) (ap (defect_in kinds s) (sym (regroup read next more))
+nothing_behind timing kinds s read [] ended sound = refl
+nothing_behind timing kinds s read (next ∷ more) ended sound =
+    let none = none_behind timing kinds s read next ended (line_sound timing kinds s read next more sound) in
+    let rest = nothing_behind timing kinds s (read ++ next ∷ []) more (still_ended read next ended none)
+    (ap (defect_in timing kinds s) (sym (regroup read next more))
     ∙ sound) in
     filter_map-append row_in (next ∷ []) more ∙ ap (λ l. l ++ rows_of more) none ∙ rest
 
@@ -78,38 +85,39 @@ goes_still read next goes more =
     ap has_ended (filter_map-append row_in read (next ∷ [])) ∙ list_any-append is_end (rows_of read) (rows_of (next ∷ []))
     ∙ ap (λ b. b || has_ended (rows_of (next ∷ []))) goes ∙ more
 
-ends_last : (kinds : List Kind) (s : Source) (read more : List Next) → has_ended (rows_of read) ≡ false → defect_in kinds s (read ++ more) ≡ None
+ends_last : (timing : Timing) (kinds : List Kind) (s : Source) (read more : List Next) → has_ended (rows_of read) ≡ false
+    → defect_in timing kinds s (read ++ more) ≡ None
     → EndsLast (rows_of (read ++ more))
-ends_last kinds s read [] goes sound = inl (ap (λ l. has_ended (rows_of l)) (append-nil read) ∙ goes)
-ends_last kinds s read (RowNext line End ∷ more) goes sound =
+ends_last timing kinds s read [] goes sound = inl (ap (λ l. has_ended (rows_of l)) (append-nil read) ∙ goes)
+ends_last timing kinds s read (RowNext line End ∷ more) goes sound =
     let next = RowNext line End in
-    let all : defect_in kinds s ((read ++ next ∷ []) ++ more) ≡ None = ap (defect_in kinds s) (sym (regroup read next more)) ∙ sound in
+    let all : defect_in timing kinds s ((read ++ next ∷ []) ++ more) ≡ None = ap (defect_in timing kinds s) (sym (regroup read next more)) ∙ sound in
     let ended : has_ended (rows_of (read ++ next ∷ [])) ≡ true = ap has_ended (rows_more read line End) ∙ ended_more (rows_of read) End
     ∙ or_true (has_ended (rows_of read)) in
-    let none = nothing_behind kinds s (read ++ next ∷ []) more ended all in
+    let none = nothing_behind timing kinds s (read ++ next ∷ []) more ended all in
     inr (
       rows_of read,
       ap rows_of (regroup read next more) ∙ filter_map-append row_in (read ++ next ∷ []) more
           ∙ ap (λ l. rows_of (read ++ next ∷ []) ++ l) none ∙ append-nil (rows_of (read ++ next ∷ [])) ∙ rows_more read line End,
       goes,
     )
-ends_last kinds s read (RowNext line (Event time name key fields) ∷ more) goes sound =
+ends_last timing kinds s read (RowNext line (Event time name key fields) ∷ more) goes sound =
     let next = RowNext line (Event time name key fields) in
     subst (λ l. EndsLast (rows_of l)) (sym (regroup read next more))
-    (ends_last kinds s (read ++ next ∷ []) more (goes_still read next goes refl) (ap (defect_in kinds s) (sym (regroup read next more)) ∙ sound))
-ends_last kinds s read (RowNext line (Beat time) ∷ more) goes sound =
+    (ends_last timing kinds s (read ++ next ∷ []) more (goes_still read next goes refl) (ap (defect_in timing kinds s) (sym (regroup read next more)) ∙ sound))
+ends_last timing kinds s read (RowNext line (Beat time) ∷ more) goes sound =
     let next = RowNext line (Beat time) in
     subst (λ l. EndsLast (rows_of l)) (sym (regroup read next more))
-    (ends_last kinds s (read ++ next ∷ []) more (goes_still read next goes refl) (ap (defect_in kinds s) (sym (regroup read next more)) ∙ sound))
-ends_last kinds s read (Bad line ∷ more) goes sound =
-    subst (λ l. EndsLast (rows_of l)) (sym (regroup read (Bad line) more)) (ends_last kinds s (read ++ Bad line ∷ []) more
-    (goes_still read (Bad line) goes refl) (ap (defect_in kinds s) (sym (regroup read (Bad line) more)) ∙ sound))
-ends_last kinds s read (TooManyLines ∷ more) goes sound =
-    subst (λ l. EndsLast (rows_of l)) (sym (regroup read TooManyLines more)) (ends_last kinds s (read ++ TooManyLines ∷ []) more
-    (goes_still read TooManyLines goes refl) (ap (defect_in kinds s) (sym (regroup read TooManyLines more)) ∙ sound))
-ends_last kinds s read (Done lines ∷ more) goes sound =
-    subst (λ l. EndsLast (rows_of l)) (sym (regroup read (Done lines) more)) (ends_last kinds s (read ++ Done lines ∷ []) more
-    (goes_still read (Done lines) goes refl) (ap (defect_in kinds s) (sym (regroup read (Done lines) more)) ∙ sound))
+    (ends_last timing kinds s (read ++ next ∷ []) more (goes_still read next goes refl) (ap (defect_in timing kinds s) (sym (regroup read next more)) ∙ sound))
+ends_last timing kinds s read (Bad line ∷ more) goes sound =
+    subst (λ l. EndsLast (rows_of l)) (sym (regroup read (Bad line) more)) (ends_last timing kinds s (read ++ Bad line ∷ []) more
+    (goes_still read (Bad line) goes refl) (ap (defect_in timing kinds s) (sym (regroup read (Bad line) more)) ∙ sound))
+ends_last timing kinds s read (TooManyLines ∷ more) goes sound =
+    subst (λ l. EndsLast (rows_of l)) (sym (regroup read TooManyLines more)) (ends_last timing kinds s (read ++ TooManyLines ∷ []) more
+    (goes_still read TooManyLines goes refl) (ap (defect_in timing kinds s) (sym (regroup read TooManyLines more)) ∙ sound))
+ends_last timing kinds s read (Done lines ∷ more) goes sound =
+    subst (λ l. EndsLast (rows_of l)) (sym (regroup read (Done lines) more)) (ends_last timing kinds s (read ++ Done lines ∷ []) more
+    (goes_still read (Done lines) goes refl) (ap (defect_in timing kinds s) (sym (regroup read (Done lines) more)) ∙ sound))
 
 -- ---- all rows that have a time
 all_timed : (rows : List Row) → has_ended rows ≡ false → rows_between None Closed rows ≡ rows
@@ -118,25 +126,28 @@ all_timed (Event time name key fields ∷ rows) goes = ap (λ l. Event time name
 all_timed (Beat time ∷ rows) goes = ap (λ l. Beat time ∷ l) (all_timed rows goes)
 all_timed (End ∷ rows) goes = absurd (false≢true (sym goes))
 
-timed_lists : (kinds : List Kind) (s : Source) (first : ℕ) (rows : List Row) → EndsLast rows
-    → lists_of_rows kinds s first (rows_between None Closed rows) ≡ lists_of_rows kinds s first rows
-timed_lists kinds s first rows (inl goes) = ap (lists_of_rows kinds s first) (all_timed rows goes)
-timed_lists kinds s first rows (inr (front, is, goes)) =
+timed_lists : (timing : Timing) (kinds : List Kind) (s : Source) (first : ℕ) (rows : List Row) → EndsLast rows
+    → lists_of_rows timing kinds s first (rows_between None Closed rows) ≡ lists_of_rows timing kinds s first rows
+timed_lists timing kinds s first rows (inl goes) = ap (lists_of_rows timing kinds s first) (all_timed rows goes)
+timed_lists timing kinds s first rows (inr (front, is, goes)) =
     let timed : rows_between None Closed rows ≡ front =
     ap (rows_between None Closed) is ∙ filter-append (is_between None Closed) front (End ∷ []) ∙ append-nil (rows_between None Closed front)
     ∙ all_timed front goes in
-    ap (lists_of_rows kinds s first) timed ∙ (λ i. map (λ place. sym (items_at-end kinds s first place front) i) (range_with_len 0 (width s)))
-    ∙ ap (lists_of_rows kinds s first) (sym is)
+    ap (lists_of_rows timing kinds s first) timed
+    ∙ (λ i. map (λ place. sym (items_at-end kinds s first place (at_moments timing [] front)) i) (range_with_len 0 (width s)))
+    ∙ ap (λ own. map (items_at kinds s first own) (range_with_len 0 (width s))) (sym (at_moments-end timing [] front))
+    ∙ ap (lists_of_rows timing kinds s first) (sym is)
 
 -- the lists of lines without a defect are those of their rows with a time
-pub whole_rows : (kinds : List Kind) (s : Source) (first : ℕ) (lines : List Next) → defect_in kinds s lines ≡ None
-    → lists_of_rows kinds s first (rows_between None Closed (rows_of lines)) ≡ lists_of_rows kinds s first (rows_of lines)
-whole_rows kinds s first lines sound = timed_lists kinds s first (rows_of lines) (ends_last kinds s [] lines refl sound)
+pub whole_rows : (timing : Timing) (kinds : List Kind) (s : Source) (first : ℕ) (lines : List Next) → defect_in timing kinds s lines ≡ None
+    → lists_of_rows timing kinds s first (rows_between None Closed (rows_of lines)) ≡ lists_of_rows timing kinds s first (rows_of lines)
+whole_rows timing kinds s first lines sound = timed_lists timing kinds s first (rows_of lines) (ends_last timing kinds s [] lines refl sound)
 
 -- ---- all lines of the sources
-sound_rows : (p : Program) (whole : ℕ → List Next) (left : Contents) → LinesIn p left whole → AtEach (λ i s. defect_in p.kinds s (whole i) ≡ None) p.sources
+sound_rows : (p : Program) (whole : ℕ → List Next) (left : Contents) → LinesIn p left whole
+    → AtEach (λ i s. defect_in (timing_of p i) p.kinds s (whole i) ≡ None) p.sources
     → AtEach (λ i s. (rows_of (whole i) ≡ rows_in (form_of (job_of p)) left s) × EndsLast (rows_of (whole i))) p.sources
-sound_rows p whole left lines sound = λ i s e. (ap rows_of (lines i s e), ends_last p.kinds s [] (whole i) refl (sound i s e))
+sound_rows p whole left lines sound = λ i s e. (ap rows_of (lines i s e), ends_last (timing_of p i) p.kinds s [] (whole i) refl (sound i s e))
 
 lists_are : (p : Program) (now : ℕ → List Next) (left : Contents)
     → AtEach (λ i s. (rows_of (now i) ≡ rows_in (form_of (job_of p)) left s) × EndsLast (rows_of (now i))) p.sources
@@ -145,11 +156,12 @@ lists_are p now left rows =
     flat_same _ _ (each_with_before p.sources)
     (all_map (λ (e : List Source × Source). (rows_of (now (length e.0)) ≡ rows_in (form_of (job_of p)) left e.1)
     × EndsLast (rows_of (now (length e.0)))) _ (each_with_before p.sources)
-    (λ e h. timed_lists p.kinds e.1 (sum_by width e.0) (rows_of (now (length e.0))) h.1 ∙ ap (lists_of_rows p.kinds e.1 (sum_by width e.0)) h.0)
+    (λ e h. timed_lists (timing_of p (length e.0)) p.kinds e.1 (sum_by width e.0) (rows_of (now (length e.0))) h.1
+    ∙ ap (lists_of_rows (timing_of p (length e.0)) p.kinds e.1 (sum_by width e.0)) h.0)
     (each_source (λ i s. (rows_of (now i) ≡ rows_in (form_of (job_of p)) left s) × EndsLast (rows_of (now i))) p.sources rows))
 
 pub whole_lists : (p : Program) (whole : ℕ → List Next) (left : Contents) → LinesIn p left whole
-    → AtEach (λ i s. defect_in p.kinds s (whole i) ≡ None) p.sources
+    → AtEach (λ i s. defect_in (timing_of p i) p.kinds s (whole i) ≡ None) p.sources
     → lists_between p None Closed whole ≡ lists_of p left
 whole_lists p whole left lines sound = lists_are p whole left (sound_rows p whole left lines sound)
 
@@ -159,7 +171,7 @@ last_rows : (p : Program) (rows : ℕ) (above : Option ℕ) (whole before now : 
     → AtEach (λ i s. (rows_of (now i) ≡ rows_in (form_of (job_of p)) left s) × EndsLast (rows_of (now i))) p.sources
 last_rows p rows above whole before now left lines round = λ i s e.
     let reads = round i s e in
-    (ap rows_of (sym reads.stops.0 ∙ lines i s e), ends_last p.kinds s [] (now i) refl reads.sound)
+    (ap rows_of (sym reads.stops.0 ∙ lines i s e), ends_last (timing_of p i) p.kinds s [] (now i) refl reads.sound)
 
 pub law_of_last_round : LawOfLastRound
 law_of_last_round p rows above whole before now left lines round = lists_are p now left (last_rows p rows above whole before now left lines round)
@@ -169,4 +181,5 @@ law_of_last_above p rows above whole before now left t lines round =
     let all = law_of_last_round p rows above whole before now left lines round in
     let cut = between_cut p t None Closed now (λ n e. refl) (λ n e. refl) in
     ap (in_order is_before)
-    (cut.late ∙ ap (λ lists. filter (λ (x : EventOf). nat_lt t x.time) (all_events lists)) all ∙ sym (items_are_cut t (lists_of p left)).late)
+    (cut.late ∙ ap (λ lists. filter (λ (x : EventOf). nat_lt t (time_of_moment p x.time)) (all_events lists)) all
+    ∙ sym (items_are_cut p t (lists_of p left)).late)

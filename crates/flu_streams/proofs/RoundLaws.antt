@@ -1,7 +1,7 @@
 -- What rounds take: the rows up to a border come all before the later ones, and none of them is read later.
 use Rattle.std.proofs.Common.{◌≡◌, inl, inr, ◌⊎◌, ◌<◌, ◌≤◌, ◌+◌, ◌-◌, ℕ, suc, max, Bool, true, false, cond, List, [], ◌∷◌, ◌++◌, map, length, Option, Some}
-use Rattle.std.proofs.Common.{None, refl, sym, ap, ◌∙◌, append_assoc, length-append, arith, subst}
-use Rattle.std.specs.Prelude.{not, nat_lt, nat_le, ◌==◌, ◌&&◌, ◌||◌, option_map, unwrap_or, slice_get, sum_by, if◌then◌else◌}
+use Rattle.std.proofs.Common.{None, ◌/◌, refl, sym, ap, ◌∙◌, append_assoc, length-append, arith, subst}
+use Rattle.std.specs.Prelude.{not, nat_lt, nat_le, ◌==◌, ◌&&◌, option_map, unwrap_or, slice_get, sum_by, if◌then◌else◌}
 use Rattle.std.specs.List.{filter, filter_map, flat_map, list_all, cons_option, range_with_len, AllByRecursion}
 use Rattle.std.specs.Option.{option_to_list, option_map_or}
 use Rattle.std.proofs.lemmas.Bool.{cases_lt}
@@ -9,6 +9,7 @@ use Rattle.std.proofs.lemmas.Bool.Decides.{nat_tests}
 use Rattle.std.proofs.lemmas.List.{append-nil}
 use Rattle.std.proofs.lemmas.List.Elements.{filter-append, filter_map-append}
 use Rattle.std.proofs.lemmas.Grind.{flat_map-append}
+use Rattle.std.proofs.lemmas.Option.{slice_get_within}
 use Rattle.flu_lemmas.specs.Elements.{AtEach}
 use Rattle.flu_lemmas.specs.Late.{is_less}
 use Rattle.flu_lemmas.proofs.Booleans.{and_false}
@@ -20,10 +21,12 @@ use Rattle.flu_model.specs.declared.events.Item.TheVariants.{Event as EventItem,
 use Rattle.flu_model.specs.declared.jobs.Kind.{Kind}
 use Rattle.flu_model.specs.declared.jobs.Source.{Source}
 use Rattle.flu_model.specs.declared.jobs.Program.{Program}
+use Rattle.flu_model.specs.declared.moments.Timing.{Timing}
 use Rattle.flu_model.specs.Contents.{Contents}
 use Rattle.flu_lemmas.specs.Sorting.{in_order}
 use Rattle.flu_model.specs.Folding.{final_state, final_outputs, state_after, outputs_of}
 use Rattle.flu_model.specs.Merging.{events_of, all_events, is_before}
+use Rattle.flu_model.specs.Moments.{time_of_moment, timing_of, last_moment, IsTiming}
 use Rattle.flu_model.specs.Reports.{report}
 use Rattle.flu_rows.specs.declared.row.Row.{Row}
 use Rattle.flu_rows.specs.declared.row.Row.TheVariants.{Event as EventRow, Beat as BeatRow, End as EndRow}
@@ -34,16 +37,18 @@ use Rattle.flu_streams.specs.declared.border.Border.TheVariants.{At, Closed}
 use Rattle.flu_streams.specs.declared.faults.Why.{Why}
 use Rattle.flu_streams.specs.Before.{with_before, each_with_before, first_some, or_else}
 use Rattle.flu_streams.specs.Borders.{AreCutAt, FoldsInTurn}
-use Rattle.flu_streams.specs.Good.{event_of, time_at, item_in, in_time_order, items_at, lists_of_rows}
+use Rattle.flu_streams.specs.Good.{event_of, time_at, item_in, at_moments, in_time_order, items_at, lists_of_rows}
+use Rattle.flu_streams.specs.LoopMoments.{border_moment, end_moment}
 use Rattle.flu_streams.specs.Rounds.{row_fault, line_defect, defect_in, settled, settled_time, is_above, is_up_to, is_between, rows_between, is_enough, Turn}
 use Rattle.flu_streams.specs.Rounds.{Open, Shut, Meets, StopsAt, Reads, IsWithin, IsRoundAt, IsRound, lists_between, ComesFrom, Starts, GoesOn, state_in_turn}
 use Rattle.flu_streams.specs.Rounds.{outputs_in_turn, reports_in_turn, GiveTheFold, LawOfRounds, LawOfNoRows}
 use Rattle.flu_streams.specs.Tags.{place_named, given_to, width}
-use Rattle.flu_streams.specs.Tests.{row_in, rows_of, time_in, times_of, greatest, where_true, test_behind, test_times, test_time, test_tag, test_fields}
-use Rattle.flu_streams.specs.Tests.{test_item}
+use Rattle.flu_streams.specs.Tests.{row_in, rows_of, time_in, times_of, greatest, where_true, margin, test_behind, test_times, test_time, test_range}
+use Rattle.flu_streams.specs.Tests.{test_tag, test_fields, test_item}
 use Rattle.flu_streams.proofs.Befores.{with_before-append, first_some-append}
 use Rattle.flu_streams.proofs.BorderLaws.{folds_in_turn}
 use Rattle.flu_streams.proofs.Cutting.{in_order-cut, all_early, all_late, all_kept, kept_all, kept_none, later_is}
+use Rattle.flu_streams.proofs.Moments.{border_test, above_test, is_above-moment, is_up_to-moment, between_moments, timing_fits}
 use Rattle.flu_streams.proofs.Taken.{filter_more, times_more, greatest-push, rows_more}
 
 -- ---- lines without a defect
@@ -51,47 +56,53 @@ pub or_else-none : {X : Type 0} (a b : Option X) → or_else a b ≡ None → (a
 or_else-none None b e = (refl, e)
 or_else-none (Some x) b e = absurd cc
 
-pub defect_in-append : (kinds : List Kind) (s : Source) (read more : List Next)
-    → defect_in kinds s (read ++ more) ≡ or_else (defect_in kinds s read)
-    (first_some (λ (e : List Next × Next). line_defect kinds s e.0 e.1) (with_before read more))
-defect_in-append kinds s read more =
-    let f = λ (e : List Next × Next). line_defect kinds s e.0 e.1 in
+pub defect_in-append : (timing : Timing) (kinds : List Kind) (s : Source) (read more : List Next)
+    → defect_in timing kinds s (read ++ more) ≡ or_else (defect_in timing kinds s read)
+    (first_some (λ (e : List Next × Next). line_defect timing kinds s e.0 e.1) (with_before read more))
+defect_in-append timing kinds s read more =
+    let f = λ (e : List Next × Next). line_defect timing kinds s e.0 e.1 in
     ap (first_some f) (with_before-append [] read more) ∙ first_some-append f (with_before [] read) (with_before read more)
 
-pub sound_front : (kinds : List Kind) (s : Source) (read more : List Next) → defect_in kinds s (read ++ more) ≡ None → defect_in kinds s read ≡ None
-sound_front kinds s read more e = (or_else-none (defect_in kinds s read) _ (sym (defect_in-append kinds s read more) ∙ e)).0
+pub sound_front : (timing : Timing) (kinds : List Kind) (s : Source) (read more : List Next) → defect_in timing kinds s (read ++ more) ≡ None
+    → defect_in timing kinds s read ≡ None
+sound_front timing kinds s read more e = (or_else-none (defect_in timing kinds s read) _ (sym (defect_in-append timing kinds s read more) ∙ e)).0
 
 pub or_none : {X : Type 0} (a : Option X) → or_else a None ≡ a
 or_none None = refl
 or_none (Some x) = refl
 
 -- one line more
-pub defect_in-more : (kinds : List Kind) (s : Source) (read : List Next) (next : Next) → defect_in kinds s read ≡ None
-    → defect_in kinds s (read ++ next ∷ []) ≡ line_defect kinds s read next
-defect_in-more kinds s read next e =
-    defect_in-append kinds s read (next ∷ []) ∙ ap (λ o. or_else o (or_else (line_defect kinds s read next) None)) e ∙ or_none (line_defect kinds s read next)
+pub defect_in-more : (timing : Timing) (kinds : List Kind) (s : Source) (read : List Next) (next : Next) → defect_in timing kinds s read ≡ None
+    → defect_in timing kinds s (read ++ next ∷ []) ≡ line_defect timing kinds s read next
+defect_in-more timing kinds s read next e =
+    defect_in-append timing kinds s read (next ∷ []) ∙ ap (λ o. or_else o (or_else (line_defect timing kinds s read next) None)) e
+    ∙ or_none (line_defect timing kinds s read next)
 
 -- ---- a row that passes is later than what was settled
 pub no_option : {X Y : Type 0} (f : X → Y) (o : Option X) → option_map f o ≡ None → o ≡ None
 no_option f None e = refl
 no_option f (Some x) e = absurd cc
 
-pub passes_time : (kinds : List Kind) (s : Source) (ended : Bool) (earlier : List ℕ) (row : Row) → row_fault kinds s ended earlier row ≡ None
-    → test_time s.slack earlier row ≡ None
-passes_time kinds s ended earlier row e =
+pub passes_time : (timing : Timing) (kinds : List Kind) (s : Source) (ended : Bool) (earlier : List ℕ) (row : Row)
+    → row_fault timing kinds s ended earlier row ≡ None
+    → test_time timing s.slack earlier row ≡ None
+passes_time timing kinds s ended earlier row e =
     let one = (or_else-none (where_true ended _) _ e).1 in
-    let two = (or_else-none (test_tag kinds s row) _ one).1 in
-    let three = (or_else-none (test_fields kinds row) _ two).1 in
-    let four = (or_else-none (test_item row) _ three).1 in
-    (or_else-none (test_time s.slack earlier row) None four).0
+    let two = (or_else-none (test_range timing row) _ one).1 in
+    let three = (or_else-none (test_tag kinds s row) _ two).1 in
+    let four = (or_else-none (test_fields kinds row) _ three).1 in
+    let five = (or_else-none (test_item row) _ four).1 in
+    (or_else-none (test_time timing s.slack earlier row) None five).0
 
-pub not_late : (slack time last : ℕ) (b : Bool) (why : Why) → where_true (b || nat_le (time + slack) last) why ≡ None → last < time + slack
-not_late slack time last true why e = absurd cc
-not_late slack time last false why e = by_test (nat_le (time + slack) last) refl e
+pub not_late : (timing : Timing) (slack : ℕ) (earlier : List ℕ) (time last : ℕ) → test_behind timing slack earlier (Some last) time ≡ None
+    → last < time + margin timing slack
+not_late timing slack earlier time last e =
+    by_test (margin timing slack) _ (nat_le (time + margin timing slack) last) refl
+    (or_else-none (where_true (nat_le (time + margin timing slack) last) _) _ e).0
   where
-    by_test : (c : Bool) → nat_le (time + slack) last ≡ c → where_true c why ≡ None → last < time + slack
-    by_test true le e = absurd cc
-    by_test false gt e = grind (arith, nat_tests)
+    by_test : (behind : ℕ) (why : Why) (c : Bool) → nat_le (time + behind) last ≡ c → where_true c why ≡ None → last < time + behind
+    by_test behind why true le e = absurd cc
+    by_test behind why false gt e = grind (arith, nat_tests)
 
 -- the settled time of a greatest time
 pub settled_is : (slack last u : ℕ) → settled slack (Some last) ≡ Some u → (slack ≤ last) × (u ≡ last - slack)
@@ -105,21 +116,22 @@ pub settled_some : (slack last : ℕ) → slack ≤ last → settled slack (Some
 settled_some slack last le = let e : nat_le slack last ≡ true = grind (arith, nat_tests) in rw e refl
 
 -- a time that passes is later than what was settled, and what is settled behind it is not earlier
-pub time_settles : (slack u time : ℕ) (earlier : List ℕ) → settled slack (greatest earlier) ≡ Some u → test_times slack earlier (Some time) ≡ None
-    → (u < time) × ((v : ℕ) × (settled slack (greatest (earlier ++ time ∷ [])) ≡ Some v) × (u ≤ v))
-time_settles slack u time earlier was passes = by_top (greatest earlier) refl was passes
+pub time_settles : (timing : Timing) (slack u time : ℕ) (earlier : List ℕ) → settled (margin timing slack) (greatest earlier) ≡ Some u
+    → test_times timing slack earlier (Some time) ≡ None
+    → (u < time) × ((v : ℕ) × (settled (margin timing slack) (greatest (earlier ++ time ∷ [])) ≡ Some v) × (u ≤ v))
+time_settles timing slack u time earlier was passes = by_top (greatest earlier) refl was passes
   where
-    by_top : (top : Option ℕ) → greatest earlier ≡ top → settled slack top ≡ Some u → test_behind slack earlier top time ≡ None
-        → (u < time) × ((v : ℕ) × (settled slack (greatest (earlier ++ time ∷ [])) ≡ Some v) × (u ≤ v))
+    by_top : (top : Option ℕ) → greatest earlier ≡ top → settled (margin timing slack) top ≡ Some u → test_behind timing slack earlier top time ≡ None
+        → (u < time) × ((v : ℕ) × (settled (margin timing slack) (greatest (earlier ++ time ∷ [])) ≡ Some v) × (u ≤ v))
     by_top None top was passes = absurd cc
     by_top (Some last) top was passes =
-        let is = settled_is slack last u was in
-        let late = not_late slack time last _ _ passes in
+        let is = settled_is (margin timing slack) last u was in
+        let late = not_late timing slack earlier time last passes in
         let more : greatest (earlier ++ time ∷ []) ≡ Some (max last time) = greatest-push earlier time ∙ ap (λ o. Some (max (unwrap_or o 0) time)) top in (
           omega (arith, late, is.0, is.1),
           (
-            max last time - slack,
-            rw more (settled_some slack (max last time) (omega (arith, is.0))),
+            max last time - margin timing slack,
+            rw more (settled_some (margin timing slack) (max last time) (omega (arith, is.0))),
             omega (arith, is.0, is.1),
           ),
         )
@@ -139,42 +151,43 @@ times_without read next none = ap times_of (filter_more row_in read next) ∙ by
         ∙ append-nil (times_of (rows_of read))
 
 -- a line that passes: its row is later than what was settled, and what is settled behind it is not earlier
-abbrev Settles : Source → List Next → Next → ℕ → Type 0
-Settles s read next u = ((row : Row) (time : ℕ) → row_in next ≡ Some row → time_in row ≡ Some time → u < time)
-    × ((v : ℕ) × (settled_time s (read ++ next ∷ []) ≡ Some v) × (u ≤ v))
+abbrev Settles : Timing → Source → List Next → Next → ℕ → Type 0
+Settles timing s read next u = ((row : Row) (time : ℕ) → row_in next ≡ Some row → time_in row ≡ Some time → u < time)
+    × ((v : ℕ) × (settled_time timing s (read ++ next ∷ []) ≡ Some v) × (u ≤ v))
 
-settles_still : (s : Source) (read : List Next) (next : Next) (u : ℕ) → settled_time s read ≡ Some u
-    → ((row : Row) → row_in next ≡ Some row → time_in row ≡ None) → Settles s read next u
-settles_still s read next u was none = (
+settles_still : (timing : Timing) (s : Source) (read : List Next) (next : Next) (u : ℕ) → settled_time timing s read ≡ Some u
+    → ((row : Row) → row_in next ≡ Some row → time_in row ≡ None) → Settles timing s read next u
+settles_still timing s read next u was none = (
   λ row time is at. absurd (some_none time (sym at ∙ none row is)),
-  (u, ap (λ ts. settled s.slack (greatest ts)) (times_without read next none) ∙ was, omega arith),
+  (u, ap (λ ts. settled (margin timing s.slack) (greatest ts)) (times_without read next none) ∙ was, omega arith),
 )
   where
     some_none : (time : ℕ) → Some time ≡ None → ⊥
     some_none time e = cc
 
-settles_row : (s : Source) (read : List Next) (line : ℕ) (row : Row) (time u : ℕ) → settled_time s read ≡ Some u → time_in row ≡ Some time
-    → test_times s.slack (times_of (rows_of read)) (Some time) ≡ None
-    → Settles s read (RowNext line row) u
-settles_row s read line row time u was at passes =
-    let h = time_settles s.slack u time (times_of (rows_of read)) was passes in (
+settles_row : (timing : Timing) (s : Source) (read : List Next) (line : ℕ) (row : Row) (time u : ℕ) → settled_time timing s read ≡ Some u
+    → time_in row ≡ Some time
+    → test_times timing s.slack (times_of (rows_of read)) (Some time) ≡ None
+    → Settles timing s read (RowNext line row) u
+settles_row timing s read line row time u was at passes =
+    let h = time_settles timing s.slack u time (times_of (rows_of read)) was passes in (
       λ r t is here. let same : row ≡ r = cc in let when : Some time ≡ Some t = sym at ∙ ap time_in same ∙ here in
           let eq : time ≡ t = cc in omega (arith, eq, h.0),
-      (h.1.0, ap (λ ts. settled s.slack (greatest ts)) (times_with read line row time at) ∙ h.1.1, h.1.2),
+      (h.1.0, ap (λ ts. settled (margin timing s.slack) (greatest ts)) (times_with read line row time at) ∙ h.1.1, h.1.2),
     )
 
-pub line_settles : (kinds : List Kind) (s : Source) (read : List Next) (next : Next) (u : ℕ) → settled_time s read ≡ Some u
-    → line_defect kinds s read next ≡ None → Settles s read next u
-line_settles kinds s read (RowNext line (EventRow time name key fields)) u was e =
-    settles_row s read line (EventRow time name key fields) time u was refl
-    (passes_time kinds s _ _ (EventRow time name key fields) (no_option (λ (why : Why). (line, why)) _ e))
-line_settles kinds s read (RowNext line (BeatRow time)) u was e =
-    settles_row s read line (BeatRow time) time u was refl (passes_time kinds s _ _ (BeatRow time) (no_option (λ (why : Why). (line, why)) _ e))
-line_settles kinds s read (RowNext line EndRow) u was e =
-    settles_still s read (RowNext line EndRow) u was (λ row is. let same : EndRow ≡ row = cc in ap time_in (sym same))
-line_settles kinds s read (Bad line) u was e = absurd cc
-line_settles kinds s read TooManyLines u was e = absurd cc
-line_settles kinds s read (Done lines) u was e = settles_still s read (Done lines) u was (λ row is. absurd cc)
+pub line_settles : (timing : Timing) (kinds : List Kind) (s : Source) (read : List Next) (next : Next) (u : ℕ) → settled_time timing s read ≡ Some u
+    → line_defect timing kinds s read next ≡ None → Settles timing s read next u
+line_settles timing kinds s read (RowNext line (EventRow time name key fields)) u was e =
+    settles_row timing s read line (EventRow time name key fields) time u was refl
+    (passes_time timing kinds s _ _ (EventRow time name key fields) (no_option (λ (why : Why). (line, why)) _ e))
+line_settles timing kinds s read (RowNext line (BeatRow time)) u was e =
+    settles_row timing s read line (BeatRow time) time u was refl (passes_time timing kinds s _ _ (BeatRow time) (no_option (λ (why : Why). (line, why)) _ e))
+line_settles timing kinds s read (RowNext line EndRow) u was e =
+    settles_still timing s read (RowNext line EndRow) u was (λ row is. let same : EndRow ≡ row = cc in ap time_in (sym same))
+line_settles timing kinds s read (Bad line) u was e = absurd cc
+line_settles timing kinds s read TooManyLines u was e = absurd cc
+line_settles timing kinds s read (Done lines) u was e = settles_still timing s read (Done lines) u was (λ row is. absurd cc)
 
 -- ---- none of the rows up to a border is read later
 later_none : (above : Option ℕ) (t time : ℕ) → t < time → (is_above above time && nat_le time t) ≡ false
@@ -189,18 +202,20 @@ one_none above t (Bad line) later = refl
 one_none above t TooManyLines later = refl
 one_none above t (Done lines) later = refl
 
-pub nothing_later : (kinds : List Kind) (s : Source) (above : Option ℕ) (t : ℕ) (read more : List Next) (u : ℕ) → defect_in kinds s (read ++ more) ≡ None
-    → settled_time s read ≡ Some u → t ≤ u
+pub nothing_later : (timing : Timing) (kinds : List Kind) (s : Source) (above : Option ℕ) (t : ℕ) (read more : List Next) (u : ℕ)
+    → defect_in timing kinds s (read ++ more) ≡ None
+    → settled_time timing s read ≡ Some u → t ≤ u
     → rows_between above (At t) (rows_of (read ++ more)) ≡ rows_between above (At t) (rows_of read)
-nothing_later kinds s above t read [] u sound was le = ap (λ l. rows_between above (At t) (rows_of l)) (append-nil read)
-nothing_later kinds s above t read (next ∷ more) u sound was le =
+nothing_later timing kinds s above t read [] u sound was le = ap (λ l. rows_between above (At t) (rows_of l)) (append-nil read)
+nothing_later timing kinds s above t read (next ∷ more) u sound was le =
     let regroup : read ++ (next ∷ more) ≡ (read ++ next ∷ []) ++ more = sym (append_assoc read (next ∷ []) more) in
-    let sound' : defect_in kinds s ((read ++ next ∷ []) ++ more) ≡ None = ap (defect_in kinds s) (sym regroup) ∙ sound in
-    let front = sound_front kinds s (read ++ next ∷ []) more sound' in
-    let here : line_defect kinds s read next ≡ None = sym (defect_in-more kinds s read next (sound_front kinds s read (next ∷ []) front)) ∙ front in
-    let h = line_settles kinds s read next u was here in
+    let sound' : defect_in timing kinds s ((read ++ next ∷ []) ++ more) ≡ None = ap (defect_in timing kinds s) (sym regroup) ∙ sound in
+    let front = sound_front timing kinds s (read ++ next ∷ []) more sound' in
+    let here : line_defect timing kinds s read next ≡ None =
+    sym (defect_in-more timing kinds s read next (sound_front timing kinds s read (next ∷ []) front)) ∙ front in
+    let h = line_settles timing kinds s read next u was here in
     ap (λ l. rows_between above (At t) (rows_of l)) regroup
-    ∙ nothing_later kinds s above t (read ++ next ∷ []) more h.1.0 sound' h.1.1 (omega (arith, le, h.1.2))
+    ∙ nothing_later timing kinds s above t (read ++ next ∷ []) more h.1.0 sound' h.1.1 (omega (arith, le, h.1.2))
     ∙ ap (rows_between above (At t)) (filter_map-append row_in read (next ∷ []))
     ∙ filter-append (is_between above (At t)) (rows_of read) (rows_of (next ∷ []))
     ∙ ap (λ l. rows_between above (At t) (rows_of read) ++ l) (one_none above t next (λ row time is at. let k = h.0 row time is at in omega (arith, k, le)))
@@ -213,24 +228,24 @@ nothing_more xs (x ∷ more) rest e =
     let len : length xs ≡ length ((xs ++ (x ∷ more)) ++ rest) = ap length e in
     absurd (omega (arith, len, length-append (xs ++ (x ∷ more)) rest, length-append xs (x ∷ more)))
 
-front_of_whole : (kinds : List Kind) (s : Source) (rows : ℕ) (above : Option ℕ) (whole now : List Next) (turn : Turn)
-    → StopsAt kinds s rows above whole now turn → (rest : List Next) × (whole ≡ now ++ rest)
-front_of_whole kinds s rows above whole now (Open u) h = h.0
-front_of_whole kinds s rows above whole now Shut h = ([], h.0 ∙ sym (append-nil now))
-front_of_whole kinds s rows above whole now (Meets row why) h = (h.0.0 ∷ h.0.1, h.0.2)
+front_of_whole : (timing : Timing) (kinds : List Kind) (s : Source) (rows : ℕ) (above : Option ℕ) (whole now : List Next) (turn : Turn)
+    → StopsAt timing kinds s rows above whole now turn → (rest : List Next) × (whole ≡ now ++ rest)
+front_of_whole timing kinds s rows above whole now (Open u) h = h.0
+front_of_whole timing kinds s rows above whole now Shut h = ([], h.0 ∙ sym (append-nil now))
+front_of_whole timing kinds s rows above whole now (Meets row why) h = (h.0.0 ∷ h.0.1, h.0.2)
 
 -- the rows up to the border of one round are those that are read up to it in the next
-round_keeps : (kinds : List Kind) (s : Source) (rows b : ℕ) (start above : Option ℕ) (whole before mid now : List Next) (turn next : Turn)
-    → Reads kinds s rows above whole before mid turn → IsWithin b turn
-    → Reads kinds s rows (Some b) whole mid now next → rows_between start (At b) (rows_of now) ≡ rows_between start (At b) (rows_of mid)
-round_keeps kinds s rows b start above whole before mid now (Open u) next was within reads =
+round_keeps : (timing : Timing) (kinds : List Kind) (s : Source) (rows b : ℕ) (start above : Option ℕ) (whole before mid now : List Next) (turn next : Turn)
+    → Reads timing kinds s rows above whole before mid turn → IsWithin b turn
+    → Reads timing kinds s rows (Some b) whole mid now next → rows_between start (At b) (rows_of now) ≡ rows_between start (At b) (rows_of mid)
+round_keeps timing kinds s rows b start above whole before mid now (Open u) next was within reads =
     ap (λ l. rows_between start (At b) (rows_of l)) reads.further
-    ∙ nothing_later kinds s start b mid reads.more u (ap (defect_in kinds s) (sym reads.further) ∙ reads.sound) was.stops.2 within
-round_keeps kinds s rows b start above whole before mid now Shut next was within reads =
-    let front = front_of_whole kinds s rows (Some b) whole now next reads.stops in
+    ∙ nothing_later timing kinds s start b mid reads.more u (ap (defect_in timing kinds s) (sym reads.further) ∙ reads.sound) was.stops.2 within
+round_keeps timing kinds s rows b start above whole before mid now Shut next was within reads =
+    let front = front_of_whole timing kinds s rows (Some b) whole now next reads.stops in
     let none = nothing_more mid reads.more front.0 (sym was.stops.0 ∙ front.1 ∙ ap (λ l. l ++ front.0) reads.further) in
     ap (λ l. rows_between start (At b) (rows_of l)) (reads.further ∙ ap (λ l. mid ++ l) none ∙ append-nil mid)
-round_keeps kinds s rows b start above whole before mid now (Meets row why) next was within reads = absurd within
+round_keeps timing kinds s rows b start above whole before mid now (Meets row why) next was within reads = absurd within
 
 -- ---- each source, behind those before it
 each_before : (P : ℕ → Source → Type 0) (pre xs : List Source) → ((j : ℕ) (x : Source) → slice_get xs j ≡ Some x → P (length pre + j) x)
@@ -416,40 +431,85 @@ maps_cut g these those same (i ∷ range) =
     ap (λ l. l ++ all_events (map these range)) (same i) ∙ ap (λ l. filter g (events_of (those i)) ++ l) (maps_cut g these those same range)
     ∙ sym (filter-append g (events_of (those i)) (all_events (map those range)))
 
-sources_cut : (g : Event → Bool) (these those : List Source × Source → List (List Item))
-    → ((e : List Source × Source) → all_events (these e) ≡ filter g (all_events (those e))) → (es : List (List Source × Source))
+sources_cut : (g : Event → Bool) (these those : List Source × Source → List (List Item)) (es : List (List Source × Source))
+    → AllByRecursion (λ (e : List Source × Source). all_events (these e) ≡ filter g (all_events (those e))) es
     → all_events (flat_map these es) ≡ filter g (all_events (flat_map those es))
-sources_cut g these those same [] = refl
-sources_cut g these those same (e ∷ es) =
-    flat_map-append events_of (these e) (flat_map these es) ∙ ap (λ l. l ++ all_events (flat_map these es)) (same e)
-    ∙ ap (λ l. filter g (all_events (those e)) ++ l) (sources_cut g these those same es)
+sources_cut g these those [] all = refl
+sources_cut g these those (e ∷ es) all =
+    flat_map-append events_of (these e) (flat_map these es) ∙ ap (λ l. l ++ all_events (flat_map these es)) all.0
+    ∙ ap (λ l. filter g (all_events (those e)) ++ l) (sources_cut g these those es all.1)
     ∙ sym (ap (filter g) (flat_map-append events_of (those e) (flat_map those es)) ∙ filter-append g (all_events (those e)) (all_events (flat_map those es)))
 
--- the items of an itag, and the lists of a source, by the sources before it
-abbrev items_in_round : Program → (ℕ → List Next) → Option ℕ → Border → List Source × Source → ℕ → List Item
-items_in_round p reads above end e = items_at p.kinds e.1 (sum_by width e.0) (rows_between above end (rows_of (reads (length e.0))))
+-- ---- the same with times: the borders are times, and the events are at their moments
+pub covers_moments : (timing : Timing) (fits : IsTiming timing) (b : ℕ) (end : Border) → Covers b end → Covers (last_moment timing b) (end_moment timing end)
+covers_moments timing fits b end covers m e = is_up_to-moment timing fits end m ∙ covers (m / timing.scale) (sym (border_test timing fits m b) ∙ e)
 
-abbrev lists_in_round : Program → (ℕ → List Next) → Option ℕ → Border → List Source × Source → List (List Item)
-lists_in_round p reads above end e = lists_of_rows p.kinds e.1 (sum_by width e.0) (rows_between above end (rows_of (reads (length e.0))))
+pub exceeds_moments : (timing : Timing) (fits : IsTiming timing) (b : ℕ) (above : Option ℕ) → Exceeds b above
+    → Exceeds (last_moment timing b) (border_moment timing above)
+exceeds_moments timing fits b above exceeds m e = is_above-moment timing fits above m ∙ exceeds (m / timing.scale) (sym (above_test timing fits m b) ∙ e)
+
+pub record MomentsCut (timing : Timing) (b : ℕ) (whole first second : List Item) : Type 0 where
+  pub early : events_of first ≡ filter (λ (x : Event). nat_le (x.time / timing.scale) b) (events_of whole)
+  pub late : events_of second ≡ filter (λ (x : Event). nat_lt b (x.time / timing.scale)) (events_of whole)
+
+moments_cut : (timing : Timing) (fits : IsTiming timing) (kinds : List Kind) (s : Source) (first : ℕ) (b : ℕ) (start : Option ℕ) (end : Border)
+    (rows : List Row) (place : ℕ) → Covers b end → Exceeds b start
+    → MomentsCut timing b (items_at kinds s first (at_moments timing [] (rows_between start end rows)) place)
+    (items_at kinds s first (at_moments timing [] (rows_between start (At b) rows)) place)
+    (items_at kinds s first (at_moments timing [] (rows_between (Some b) end rows)) place)
+moments_cut timing fits kinds s first b start end rows place covers exceeds =
+    let events = λ (own : List Row). events_of (items_at kinds s first own place) in
+    let cut = place_cut kinds s first (last_moment timing b) (border_moment timing start) (end_moment timing end) (at_moments timing [] rows) place
+    (covers_moments timing fits b end covers) (exceeds_moments timing fits b start exceeds) in
+    let whole = ap events (sym (between_moments timing fits start end rows)) in
+    record {
+      early = ap events (between_moments timing fits start (At b) rows) ∙ cut.early ∙ ap (filter (λ (x : Event). nat_le x.time (last_moment timing b))) whole
+          ∙ filter_alike _ _ (λ (x : Event). border_test timing fits x.time b) (events (at_moments timing [] (rows_between start end rows)));
+      late = ap events (between_moments timing fits (Some b) end rows) ∙ cut.late ∙ ap (filter (λ (x : Event). nat_lt (last_moment timing b) x.time)) whole
+          ∙ filter_alike _ _ (λ (x : Event). above_test timing fits x.time b) (events (at_moments timing [] (rows_between start end rows)));
+    }
+
+-- the timing of each source
+pub fits_each : (p : Program) → AllByRecursion (λ (e : List Source × Source). IsTiming (timing_of p (length e.0))) (each_with_before p.sources)
+fits_each p = each_source (λ i s. IsTiming (timing_of p i)) p.sources (λ i s e. timing_fits p i (slice_get_within p.sources i s e))
+
+-- the items of an itag, and the lists of a source, by the sources before it
+abbrev pub items_in_round : Program → (ℕ → List Next) → Option ℕ → Border → List Source × Source → ℕ → List Item
+items_in_round p reads above end e =
+    items_at p.kinds e.1 (sum_by width e.0) (at_moments (timing_of p (length e.0)) [] (rows_between above end (rows_of (reads (length e.0)))))
+
+abbrev pub lists_in_round : Program → (ℕ → List Next) → Option ℕ → Border → List Source × Source → List (List Item)
+lists_in_round p reads above end e =
+    lists_of_rows (timing_of p (length e.0)) p.kinds e.1 (sum_by width e.0) (rows_between above end (rows_of (reads (length e.0))))
 
 place_cut_of : (p : Program) (b : ℕ) (start : Option ℕ) (end : Border) (reads : ℕ → List Next) → Covers b end → Exceeds b start
-    → (e : List Source × Source) (i : ℕ)
-    → PlaceCut b (items_in_round p reads start end e i) (items_in_round p reads start (At b) e i) (items_in_round p reads (Some b) end e i)
-place_cut_of p b start end reads covers exceeds e i = place_cut p.kinds e.1 (sum_by width e.0) b start end (rows_of (reads (length e.0))) i covers exceeds
+    → (e : List Source × Source) → IsTiming (timing_of p (length e.0)) → (i : ℕ)
+    → MomentsCut (timing_of p (length e.0)) b (items_in_round p reads start end e i) (items_in_round p reads start (At b) e i)
+    (items_in_round p reads (Some b) end e i)
+place_cut_of p b start end reads covers exceeds e fits i =
+    moments_cut (timing_of p (length e.0)) fits p.kinds e.1 (sum_by width e.0) b start end (rows_of (reads (length e.0))) i covers exceeds
 
 -- the rows that are read, cut at a border
 pub between_cut : (p : Program) (b : ℕ) (start : Option ℕ) (end : Border) (reads : ℕ → List Next) → Covers b end → Exceeds b start
-    → AreCutAt b (lists_between p start end reads) (lists_between p start (At b) reads) (lists_between p (Some b) end reads)
+    → AreCutAt p b (lists_between p start end reads) (lists_between p start (At b) reads) (lists_between p (Some b) end reads)
 between_cut p b start end reads covers exceeds = record {
-  early = sources_cut (λ (x : Event). nat_le x.time b) (lists_in_round p reads start (At b)) (lists_in_round p reads start end)
-      (λ e. maps_cut (λ (x : Event). nat_le x.time b) (items_in_round p reads start (At b) e) (items_in_round p reads start end e)
-      (λ i. (place_cut_of p b start end reads covers exceeds e i).early) (range_with_len 0 (width e.1)))
-      (each_with_before p.sources);
-  late = sources_cut (λ (x : Event). nat_lt b x.time) (lists_in_round p reads (Some b) end) (lists_in_round p reads start end)
-      (λ e. maps_cut (λ (x : Event). nat_lt b x.time) (items_in_round p reads (Some b) end e) (items_in_round p reads start end e)
-      (λ i. (place_cut_of p b start end reads covers exceeds e i).late) (range_with_len 0 (width e.1)))
-      (each_with_before p.sources);
+  early = sources_cut is_early (lists_in_round p reads start (At b)) (lists_in_round p reads start end) (each_with_before p.sources)
+      (all_map (λ (e : List Source × Source). IsTiming (timing_of p (length e.0))) _ (each_with_before p.sources)
+      (λ e fits. maps_cut is_early (items_in_round p reads start (At b) e) (items_in_round p reads start end e)
+      (λ i. (place_cut_of p b start end reads covers exceeds e fits i).early) (range_with_len 0 (width e.1)))
+      (fits_each p));
+  late = sources_cut is_late (lists_in_round p reads (Some b) end) (lists_in_round p reads start end) (each_with_before p.sources)
+      (all_map (λ (e : List Source × Source). IsTiming (timing_of p (length e.0))) _ (each_with_before p.sources)
+      (λ e fits. maps_cut is_late (items_in_round p reads (Some b) end e) (items_in_round p reads start end e)
+      (λ i. (place_cut_of p b start end reads covers exceeds e fits i).late) (range_with_len 0 (width e.1)))
+      (fits_each p));
 }
+  where
+    is_early : Event → Bool
+    is_early x = nat_le (time_of_moment p x.time) b
+
+    is_late : Event → Bool
+    is_late x = nat_lt b (time_of_moment p x.time)
 
 -- ---- the border of a round is later than the one before it
 pub list_all_true : {X : Type 0} (p : X → Bool) → ((x : X) → p x ≡ true) → (xs : List X) → list_all p xs ≡ true
@@ -471,8 +531,9 @@ none_between b t rows le = kept_none (is_between (Some b) (At t)) rows (list_all
     apart (BeatRow time) = apart_at time
     apart EndRow = refl
 
-pub later_border : (s : Source) (rows b t : ℕ) (lines : List Next) → 1 ≤ rows → is_enough rows (Some b) s lines ≡ true → settled_time s lines ≡ Some t → b < t
-later_border s rows b t lines one enough at = by_order (cases_lt b t)
+pub later_border : (timing : Timing) (s : Source) (rows b t : ℕ) (lines : List Next) → 1 ≤ rows → is_enough timing rows (Some b) s lines ≡ true
+    → settled_time timing s lines ≡ Some t → b < t
+later_border timing s rows b t lines one enough at = by_order (cases_lt b t)
   where
     few : nat_le rows (length (rows_between (Some b) (At t) (rows_of lines))) ≡ true
     few = sym (ap (λ o. nat_le rows (option_map_or (λ u. length (rows_between (Some b) (At u) (rows_of lines))) o 0)) at) ∙ enough
@@ -487,12 +548,12 @@ covers_end : (p : Program) (rows b : ℕ) (whole before now : ℕ → List Next)
 covers_end p rows b whole before now Closed one round = λ t e. refl
 covers_end p rows b whole before now (At t) one round = λ n e.
     let reads = round.least.3 in
-    let later = later_border round.least.1 rows b t (now round.least.0) one reads.stops.1 reads.stops.2 in
+    let later = later_border (timing_of p round.least.0) round.least.1 rows b t (now round.least.0) one reads.stops.1 reads.stops.2 in
     grind (arith, nat_tests)
 
 -- ---- what was read up to the border of a round is what is read up to it in the next
 some_reads : (p : Program) (rows : ℕ) (above : Option ℕ) (whole before now : ℕ → List Next) (end : Border) → IsRound p rows above whole before now end
-    → AtEach (λ i s. (turn : Turn) × Reads p.kinds s rows above (whole i) (before i) (now i) turn) p.sources
+    → AtEach (λ i s. (turn : Turn) × Reads (timing_of p i) p.kinds s rows above (whole i) (before i) (now i) turn) p.sources
 some_reads p rows above whole before now Closed round = λ i s e. (Shut, round i s e)
 some_reads p rows above whole before now (At t) round = λ i s e. let h = round.each i s e in (h.0, h.1)
 
@@ -503,10 +564,10 @@ lists_keep p rows b start above whole before mid now end was round =
     flat_same _ _ (each_with_before p.sources)
     (all_map (λ (e : List Source × Source). rows_between start (At b) (rows_of (now (length e.0))) ≡ rows_between start (At b) (rows_of (mid (length e.0)))) _
     (each_with_before p.sources)
-    (λ e same. ap (lists_of_rows p.kinds e.1 (sum_by width e.0)) same)
+    (λ e same. ap (lists_of_rows (timing_of p (length e.0)) p.kinds e.1 (sum_by width e.0)) same)
     (each_source (λ i s. rows_between start (At b) (rows_of (now i)) ≡ rows_between start (At b) (rows_of (mid i))) p.sources
     (λ i s e. let h = was.each i s e in let k = some_reads p rows (Some b) whole mid now end round i s e in
-    round_keeps p.kinds s rows b start above (whole i) (before i) (mid i) (now i) h.0 k.0 h.1 h.2 k.1)))
+    round_keeps (timing_of p i) p.kinds s rows b start above (whole i) (before i) (mid i) (now i) h.0 k.0 h.1 h.2 k.1)))
 
 -- ---- rounds in turn
 state_push : (p : Program) (s : Contents) (done : List (List (List Item))) (lists : List (List Item))
@@ -545,7 +606,7 @@ pub round_exceeds : (p : Program) (rows b : ℕ) (above : Option ℕ) (whole bef
 round_exceeds p rows b None whole before now one round = λ t e. refl
 round_exceeds p rows b (Some a) whole before now one round = λ t e.
     let reads = round.least.3 in
-    let later = later_border round.least.1 rows a b (now round.least.0) one reads.stops.1 reads.stops.2 in
+    let later = later_border (timing_of p round.least.0) round.least.1 rows a b (now round.least.0) one reads.stops.1 reads.stops.2 in
     grind (arith, nat_tests)
 
 pub exceeds_start : (p : Program) (rows t : ℕ) (whole : ℕ → List Next) (start : Option ℕ) (done : List (List (List Item))) (above : Option ℕ)
@@ -561,11 +622,11 @@ pub cut_of_rounds : (p : Program) (rows : ℕ) (whole : ℕ → List Next) (star
     (before mid now : ℕ → List Next)
     (b : ℕ) (end : Border) → 1 ≤ rows → ComesFrom p rows whole start done above before → IsRoundAt p rows above whole before mid b
     → IsRound p rows (Some b) whole mid now end
-    → AreCutAt b (lists_between p start end now) (lists_between p start (At b) mid) (lists_between p (Some b) end now)
+    → AreCutAt p b (lists_between p start end now) (lists_between p start (At b) mid) (lists_between p (Some b) end now)
 cut_of_rounds p rows whole start done above before mid now b end one came was round =
     let same = lists_keep p rows b start above whole before mid now end was round in
     let exceeds = exceeds_start p rows b whole start done above before one came (round_exceeds p rows b above whole before mid one was) in
-    subst (λ l. AreCutAt b (lists_between p start end now) l (lists_between p (Some b) end now)) same
+    subst (λ l. AreCutAt p b (lists_between p start end now) l (lists_between p (Some b) end now)) same
     (between_cut p b start end now (covers_end p rows b whole mid now end one round) exceeds)
 
 pub law_of_rounds : LawOfRounds
@@ -585,10 +646,11 @@ pub no_events : (p : Program) (t : ℕ) (reads : ℕ → List Next) → all_even
 no_events p t reads =
     let cut = between_cut p t None (At t) reads (λ u e. e) (λ u e. refl) in
     let all = all_events (lists_between p None (At t) reads) in
-    let early = filter (λ (x : Event). nat_le x.time t) all in
-    let none : list_all (λ (x : Event). not (nat_lt t x.time)) early ≡ true =
-    list_all_alike _ _ (λ (x : Event). not_after t x.time) early ∙ all_kept (λ (x : Event). nat_le x.time t) all in
-    cut.late ∙ ap (filter (λ (x : Event). nat_lt t x.time)) cut.early ∙ kept_none (λ (x : Event). nat_lt t x.time) early none
+    let early = filter (λ (x : Event). nat_le (time_of_moment p x.time) t) all in
+    let none : list_all (λ (x : Event). not (nat_lt t (time_of_moment p x.time))) early ≡ true =
+    list_all_alike _ _ (λ (x : Event). not_after t (time_of_moment p x.time)) early ∙ all_kept (λ (x : Event). nat_le (time_of_moment p x.time) t) all in
+    cut.late ∙ ap (filter (λ (x : Event). nat_lt t (time_of_moment p x.time))) cut.early
+    ∙ kept_none (λ (x : Event). nat_lt t (time_of_moment p x.time)) early none
   where
     not_after : (b n : ℕ) → not (nat_lt b n) ≡ nat_le n b
     not_after b n = grind (arith, nat_tests)

@@ -10,6 +10,8 @@ use Rattle.flu_lemmas.proofs.Places.{slice_get-there}
 use Rattle.flu_model.specs.declared.jobs.Kind.{Kind}
 use Rattle.flu_model.specs.declared.jobs.Source.{Source}
 use Rattle.flu_model.specs.declared.jobs.Program.{Program}
+use Rattle.flu_model.specs.declared.moments.Timing.{Timing}
+use Rattle.flu_model.specs.Moments.{timing_of}
 use Rattle.flu_outside.specs.Outside.{Contents, WhereTold}
 use Rattle.flu_rows.specs.declared.rows.Next.{Next}
 use Rattle.flu_streams.specs.declared.border.Border.{Border}
@@ -17,7 +19,7 @@ use Rattle.flu_streams.specs.declared.border.Border.TheVariants.{At, Closed}
 use Rattle.flu_streams.specs.declared.held.Stage.{Stage}
 use Rattle.flu_streams.specs.declared.inlet.Inlet.{Inlet}
 use Rattle.flu_streams.specs.Holding.{HeldSource, Holding, IsHeldBehind, AreHeldBehind, Fills, first_itag, still}
-use Rattle.flu_streams.specs.LoopHeld.{source_of, earlier_of, earliest, Refills, EndsAt, AreRefilled, HasRefilled, AreBehind}
+use Rattle.flu_streams.specs.LoopHeld.{source_of, earlier_of, earliest, Refills, EndsAt, AreRefilled, HasRefilled, AreBehind, AreTimed}
 use Rattle.flu_streams.specs.Rounds.{Turn, Open, Shut, Meets, StopsAt, Reads, IsWithin, IsPassed, IsRound}
 use Rattle.flu_lemmas.proofs.Mapped.{from_mapped}
 use Rattle.flu_streams.proofs.Starts.{to_mapped, one_there}
@@ -108,12 +110,12 @@ earliest_among (b ∷ ends) t e = elim (earliest_cases b (earliest ends) t e) [
 ]
 
 -- ---- one source
-reads_of : (kinds : List Kind) (s : Source) (first rows : ℕ) (above : Option ℕ) (whole before : List Next) (old new : Inlet)
+reads_of : (timing : Timing) (kinds : List Kind) (s : Source) (first rows : ℕ) (above : Option ℕ) (whole before : List Next) (old new : Inlet)
     (a b : Option Contents) (x y : Contents) (end : Border)
-    → (r : Refills kinds s first (Some rows) above before old new a b end) → a ≡ Some x → b ≡ Some y
+    → (r : Refills timing kinds s first (Some rows) above before old new a b end) → a ≡ Some x → b ≡ Some y
     → whole ≡ before ++ still (source_of old) x
-    → Reads kinds s rows above whole before (before ++ r.so_far.more) (turn_of end)
-reads_of kinds s first rows above whole before old new a b x y end r e f all =
+    → Reads timing kinds s rows above whole before (before ++ r.so_far.more) (turn_of end)
+reads_of timing kinds s first rows above whole before old new a b x y end r e f all =
     let more = r.so_far.more in
     let rest = still (source_of new) y in
     let told : still (source_of old) x ≡ more ++ rest =
@@ -121,8 +123,9 @@ reads_of kinds s first rows above whole before old new a b x y end r e f all =
     let line : whole ≡ (before ++ more) ++ rest = all ∙ ap (λ (l : List Next). before ++ l) told ∙ sym (append_assoc before more rest) in
     record { more = more; further = refl; sound = r.so_far.behind.sound; shortest = r.so_far.shortest; stops = stops_of end line r.ends }
   where
-    stops_of : (end : Border) → whole ≡ (before ++ r.so_far.more) ++ still (source_of new) y → EndsAt s (Some rows) above (before ++ r.so_far.more) new end
-        → StopsAt kinds s rows above whole (before ++ r.so_far.more) (turn_of end)
+    stops_of : (end : Border) → whole ≡ (before ++ r.so_far.more) ++ still (source_of new) y
+        → EndsAt timing s (Some rows) above (before ++ r.so_far.more) new end
+        → StopsAt timing kinds s rows above whole (before ++ r.so_far.more) (turn_of end)
     stops_of (At u) line ends = ((still (source_of new) y, line), ends.0, ends.1)
     stops_of Closed line ends =
         (line ∙ ap (λ (rest : List Next). (before ++ r.so_far.more) ++ rest) (rw ends.0 refl) ∙ append-nil (before ++ r.so_far.more), ends.1)
@@ -140,7 +143,7 @@ pub record IsReadAt (p : Program) (rows : ℕ) (border : Option ℕ) (before : �
   pub at_end : slice_get ends i ≡ Some end
   pub was : slice_get olds i ≡ Some old
   pub is : slice_get news i ≡ Some new
-  pub reads : Refills p.kinds s (first_itag p i) (Some rows) border (before i) old new a b end
+  pub reads : Refills (timing_of p i) p.kinds s (first_itag p i) (Some rows) border (before i) old new a b end
   pub now_is : now ≡ before i ++ reads.so_far.more
 
 abbrev pub IsChosen : Program → ℕ → Option ℕ → (ℕ → List Next) → List Inlet → List Inlet → Option Contents → Option Contents → List Border
@@ -149,16 +152,19 @@ IsChosen p rows border before olds news a b ends more i s now =
     (i < length ends → IsReadAt p rows border before olds news a b ends i s now) × (i ≡ length ends → now ≡ before i ++ more)
 
 pub choose : (p : Program) (rows : ℕ) (border : Option ℕ) (before : ℕ → List Next) (olds news : List Inlet) (a b : Option Contents)
-    (ends : List Border) (more : List Next) → length olds ≡ length p.sources
+    (ends : List Border) (more : List Next) → length olds ≡ length p.sources → AreTimed p olds
     → AreBehind p border before olds → AreRefilled p rows olds news a b ends
     → (now : ℕ → List Next) × AtEach (λ i s. IsChosen p rows border before olds news a b ends more i s (now i)) p.sources
-choose p rows border before olds news a b ends more count behind all =
+choose p rows border before olds news a b ends more count timed behind all =
     chosen (IsChosen p rows border before olds news a b ends more) before p.sources (λ i s e. elim (cases_lt i (length ends)) [
       | inl lt ↦
           let end = slice_get-there ends i lt in
           let old = slice_get-there olds i (rw count (slice_get_within p.sources i s e)) in
           let new = slice_get-there news i (rw (all.size, count) (slice_get_within p.sources i s e)) in
-          let r = (all.each i s e end.0 old.0 new.0 end.1 old.1 new.1).reads border (before i) (behind i s e old.0 old.1) in (
+          let refills = (all.each i s e end.0 old.0 new.0 end.1 old.1 new.1).reads border (before i) in
+          let r = subst (λ timing. IsHeldBehind timing p.kinds (first_itag p i) s border (before i) (source_of old.0)
+          → Refills timing p.kinds s (first_itag p i) (Some rows) border (before i) old.0 new.0 a b end.0) (timed i old.0 old.1) refills
+          (behind i s e old.0 old.1) in (
             before i ++ r.so_far.more,
             (
               λ _. record { end = end.0; old = old.0; new = new.0; at_end = end.1; was = old.1; is = new.1; reads = r; now_is = refl },
@@ -171,10 +177,10 @@ choose p rows border before olds news a b ends more count behind all =
 pub reads_at : (p : Program) (rows : ℕ) (border : Option ℕ) (before : ℕ → List Next) (olds news : List Inlet) (a b : Option Contents)
     (ends : List Border) (i : ℕ) (s : Source) (now whole : List Next) (x y : Contents)
     → (r : IsReadAt p rows border before olds news a b ends i s now) → a ≡ Some x → b ≡ Some y → whole ≡ before i ++ still (source_of r.old) x
-    → Reads p.kinds s rows border whole (before i) now (turn_of r.end)
+    → Reads (timing_of p i) p.kinds s rows border whole (before i) now (turn_of r.end)
 reads_at p rows border before olds news a b ends i s now whole x y r e f all =
-    subst (λ l. Reads p.kinds s rows border whole (before i) l (turn_of r.end)) (sym r.now_is)
-    (reads_of p.kinds s (first_itag p i) rows border whole (before i) r.old r.new a b x y r.end r.reads e f all)
+    subst (λ l. Reads (timing_of p i) p.kinds s rows border whole (before i) l (turn_of r.end)) (sym r.now_is)
+    (reads_of (timing_of p i) p.kinds s (first_itag p i) rows border whole (before i) r.old r.new a b x y r.end r.reads e f all)
 
 -- ---- all sources
 abbrev pub holding : Program → ℕ → Option ℕ → Stage → List Inlet → Holding
@@ -191,7 +197,7 @@ behind_of p rows border stage inlets lines count is = record {
   count = length-map inlets source_of ∙ count;
   each = λ i s source e f.
       let k = from_mapped source_of inlets i source f in
-      subst (λ h. IsHeldBehind p.kinds (first_itag p i) s border (lines i) h) (sym k.2) (is i s e k.0 k.1);
+      subst (λ h. IsHeldBehind (timing_of p i) p.kinds (first_itag p i) s border (lines i) h) (sym k.2) (is i s e k.0 k.1);
 }
 
 abbrev Whole : (ℕ → List Next) → List Inlet → Contents → (ℕ → List Next) → Type 0
@@ -207,14 +213,15 @@ round_of p rows border before now whole olds news a b x y ends end count least e
     read : (i : ℕ) (s : Source) → slice_get p.sources i ≡ Some s → IsReadAt p rows border before olds news a b ends i s (now i)
     read i s at = (picks i s at).0 (rw count (slice_get_within p.sources i s at))
 
-    reads : (i : ℕ) (s : Source) (at : slice_get p.sources i ≡ Some s) → Reads p.kinds s rows border (whole i) (before i) (now i) (turn_of (read i s at).end)
+    reads : (i : ℕ) (s : Source) (at : slice_get p.sources i ≡ Some s)
+        → Reads (timing_of p i) p.kinds s rows border (whole i) (before i) (now i) (turn_of (read i s at).end)
     reads i s at =
         let r = read i s at in reads_at p rows border before olds news a b ends i s (now i) (whole i) x y r e f
         (all i (source_of r.old) (to_mapped source_of olds i r.old r.was))
 
     by_end : (end : Border) → end ≡ earliest ends → IsRound p rows border whole before now end
     by_end Closed is = λ i s at.
-        subst (λ o. Reads p.kinds s rows border (whole i) (before i) (now i) (turn_of o))
+        subst (λ o. Reads (timing_of p i) p.kinds s rows border (whole i) (before i) (now i) (turn_of o))
         (all_closed ends i (read i s at).end (sym is) (read i s at).at_end) (reads i s at)
     by_end (At t) is =
         let low = earliest_among ends t (sym is) in
@@ -227,7 +234,7 @@ round_of p rows border before now whole olds news a b x y ends end count least e
             low.0,
             source.0,
             source.1,
-            subst (λ o. Reads p.kinds source.0 rows border (whole low.0) (before low.0) (now low.0) (turn_of o)) same
+            subst (λ o. Reads (timing_of p low.0) p.kinds source.0 rows border (whole low.0) (before low.0) (now low.0) (turn_of o)) same
                 (reads low.0 source.0 source.1),
           );
         }
@@ -250,19 +257,19 @@ in_all_now p rows border before now whole olds news a b x y ends count size e f 
     ∙ ap (λ (h : HeldSource). now i ++ still h y) same
 
 pub fills : (p : Program) (rows : ℕ) (border : Option ℕ) (stage stage' : Stage) (olds news : List Inlet) (a b : Option Contents)
-    (Q : Contents → Contents → Type 0) (end : Border) → length olds ≡ length p.sources
+    (Q : Contents → Contents → Type 0) (end : Border) → length olds ≡ length p.sources → AreTimed p olds
     → WhereTold a b Q → HasRefilled p rows olds news a b end → (before : ℕ → List Next) → AreHeldBehind (holding p rows border stage olds) before
     → Fills (holding p rows border stage olds) (holding p rows border stage' news) a b end before
-fills p rows border stage stage' olds news a b Q end count told has before behind =
+fills p rows border stage stage' olds news a b Q end count timed told has before behind =
     let own = behind_at p rows border stage olds before behind in
-    let picked = choose p rows border before olds news a b has.ends [] count own has.all in
+    let picked = choose p rows border before olds news a b has.ends [] count timed own has.all in
     let now = picked.0 in
     record {
       now = now;
       behind = behind_of p rows border stage' news now (has.all.size ∙ count) (λ i s e h f.
           let r = (picked.1 i s e).0 (rw has.count (slice_get_within p.sources i s e)) in
-          subst (λ l. IsHeldBehind p.kinds (first_itag p i) s border l (source_of h)) (sym r.now_is)
-          (subst (λ (g : Inlet). IsHeldBehind p.kinds (first_itag p i) s border (before i ++ r.reads.so_far.more) (source_of g))
+          subst (λ l. IsHeldBehind (timing_of p i) p.kinds (first_itag p i) s border l (source_of h)) (sym r.now_is)
+          (subst (λ (g : Inlet). IsHeldBehind (timing_of p i) p.kinds (first_itag p i) s border (before i ++ r.reads.so_far.more) (source_of g))
           (one_there news i r.new h r.is f) r.reads.so_far.behind));
       round = told_from Q _ a b told (λ x y e f whole all. (
         round_of p rows border before now whole olds news a b x y has.ends end has.count has.earliest e f all picked.1,

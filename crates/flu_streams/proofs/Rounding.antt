@@ -11,6 +11,7 @@ use Rattle.flu_lemmas.proofs.Told.{told_then}
 use Rattle.flu_model.specs.declared.jobs.Kind.{Kind}
 use Rattle.flu_model.specs.declared.jobs.Source.{Source}
 use Rattle.flu_model.specs.declared.jobs.Program.{Program}
+use Rattle.flu_model.specs.declared.moments.Timing.{Timing}
 use Rattle.flu_outside.specs.Outside.{Contents, WhereTold, Rose}
 use Rattle.flu_outside.specs.Taking.{TakesFrom, IsReadOut}
 use Rattle.flu_rows.specs.declared.rows.Next.{Next}
@@ -44,10 +45,11 @@ read_out_before names name None (Some y) others apart out = absurd others
 read_out_before names name (Some x) None others apart out = absurd others
 read_out_before names name (Some x) (Some y) others apart out = others name apart ∙ out
 
-refills_later : (kinds : List Kind) (s : Source) (first : ℕ) (rows above : Option ℕ) (before : List Next) (old new : Inlet) (name : List ℕ)
+refills_later : (timing : Timing) (kinds : List Kind) (s : Source) (first : ℕ) (rows above : Option ℕ) (before : List Next) (old new : Inlet) (name : List ℕ)
     (a b c : Option Contents) (end : Border) → s.file ≢ name
-    → WhereTold b c (TakesFrom name) → Refills kinds s first rows above before old new a b end → Refills kinds s first rows above before old new a c end
-refills_later kinds s first rows above before old new name a b c end ne taken r =
+    → WhereTold b c (TakesFrom name) → Refills timing kinds s first rows above before old new a b end
+    → Refills timing kinds s first rows above before old new a c end
+refills_later timing kinds s first rows above before old new name a b c end ne taken r =
     let f = r.so_far in
     record {
       so_far = record {
@@ -66,6 +68,7 @@ refills_later kinds s first rows above before old new name a b c end ne taken r 
 refilled_later : (kinds : List Kind) (s : Source) (first : ℕ) (rows : Option ℕ) (old new : Inlet) (name : List ℕ) (a b c : Option Contents) (end : Border)
     → s.file ≢ name → WhereTold b c (TakesFrom name) → IsRefilled kinds s first rows old new a b end → IsRefilled kinds s first rows old new a c end
 refilled_later kinds s first rows old new name a b c end ne taken r = record {
+  timing = r.timing;
   form = r.form;
   keeps = r.keeps;
   few = r.few;
@@ -73,7 +76,7 @@ refilled_later kinds s first rows old new name a b c end ne taken r = record {
   border = r.border;
   turn = r.turn;
   out = λ was closed. still_out name s.file b c taken ne (r.out was closed);
-  reads = λ above before is. refills_later kinds s first rows above before old new name a b c end ne taken (r.reads above before is);
+  reads = λ above before is. refills_later old.timing kinds s first rows above before old new name a b c end ne taken (r.reads above before is);
 }
 
 told_before : (old : HeldSource) (names : List (List ℕ)) (P : List Next → Contents → Type 0) (a b c : Option Contents)
@@ -87,6 +90,7 @@ pub refilled_earlier : (kinds : List Kind) (s : Source) (first : ℕ) (rows : Op
     (end : Border) → (Contains names s.file → ⊥)
     → WhereTold a b (LeavesOthers names) → IsRefilled kinds s first rows old new b c end → IsRefilled kinds s first rows old new a c end
 refilled_earlier kinds s first rows old new names a b c end apart others r = record {
+  timing = r.timing;
   form = r.form;
   keeps = r.keeps;
   few = r.few;

@@ -11,6 +11,8 @@ use Rattle.flu_lemmas.proofs.Places.{slice_get-there}
 use Rattle.flu_model.specs.declared.jobs.Kind.{Kind}
 use Rattle.flu_model.specs.declared.jobs.Source.{Source}
 use Rattle.flu_model.specs.declared.jobs.Program.{Program}
+use Rattle.flu_model.specs.declared.moments.Timing.{Timing}
+use Rattle.flu_model.specs.Moments.{timing_of}
 use Rattle.flu_outside.specs.Taking.{IsReadOut}
 use Rattle.flu_rows.specs.declared.row.RowForm.{RowForm}
 use Rattle.flu_rows.specs.Row.{form_of}
@@ -30,9 +32,9 @@ among (y ∷ xs) x (zero, lt, e) = (zero, ap Some e)
 among (y ∷ xs) x (suc k, lt, e) = let rest = among xs x (k, omega (arith, lt), e) in (suc rest.0, rest.1)
 
 -- ---- the start
-pub fresh_behind : (form : RowForm) (kinds : List Kind) (first : ℕ) (border : Option ℕ) (s : Source) (source : HeldSource)
-    → source ≡ unread_source form border s → IsHeldBehind kinds first s border [] source
-fresh_behind form kinds first border s source is = subst (λ h. IsHeldBehind kinds first s border [] h) (sym is) (record {
+pub fresh_behind : (timing : Timing) (form : RowForm) (kinds : List Kind) (first : ℕ) (border : Option ℕ) (s : Source) (source : HeldSource)
+    → source ≡ unread_source form border s → IsHeldBehind timing kinds first s border [] source
+fresh_behind timing form kinds first border s source is = subst (λ h. IsHeldBehind timing kinds first s border [] h) (sym is) (record {
   file = refl;
   sound = refl;
   low = None;
@@ -58,7 +60,7 @@ pub law_of_start : LawOfStart
 law_of_start p rows border = record {
   behind = record {
     count = length-map p.sources (unread_source (form_of (job_of p)) border);
-    each = λ i s source e f. fresh_behind (form_of (job_of p)) p.kinds (first_itag p i) border s source (fresh_at p border i s source e f);
+    each = λ i s source e f. fresh_behind (timing_of p i) (form_of (job_of p)) p.kinds (first_itag p i) border s source (fresh_at p border i s source e f);
   };
   all = λ left whole lines i source f.
       let k = from_mapped (unread_source (form_of (job_of p)) border) p.sources i source f in

@@ -6,21 +6,26 @@ use Rattle.flu_model.specs.declared.jobs.Program.{Program}
 use Rattle.flu_model.specs.Contents.{Contents}
 use Rattle.flu_model.specs.Folding.{final_state, final_outputs}
 use Rattle.flu_model.specs.Merging.{all_events}
+use Rattle.flu_model.specs.Moments.{time_of_moment}
 use Rattle.flu_model.specs.Reports.{report}
 use Rattle.flu_streams.specs.Lists.{item_time}
 
+-- the time of an item, which is at its moment
+abbrev pub own_time : Program → Item → ℕ
+own_time p item = time_of_moment p (item_time item)
+
 -- the items of each itag up to a time
-abbrev pub up_to : ℕ → List (List Item) → List (List Item)
-up_to t lists = map (filter (λ item. nat_le (item_time item) t)) lists
+abbrev pub up_to : Program → ℕ → List (List Item) → List (List Item)
+up_to p t lists = map (filter (λ item. nat_le (own_time p item) t)) lists
 
 -- the later items of each itag
-abbrev pub beyond : ℕ → List (List Item) → List (List Item)
-beyond t lists = map (filter (λ item. nat_lt t (item_time item))) lists
+abbrev pub beyond : Program → ℕ → List (List Item) → List (List Item)
+beyond p t lists = map (filter (λ item. nat_lt t (own_time p item))) lists
 
 -- THE EVENTS ARE CUT AT A TIME: the first lists have those up to it, and the second ones the later ones
-pub record AreCutAt (t : ℕ) (whole first second : List (List Item)) : Type 0 where
-  pub early : all_events first ≡ filter (λ x. nat_le x.time t) (all_events whole)
-  pub late : all_events second ≡ filter (λ x. nat_lt t x.time) (all_events whole)
+pub record AreCutAt (p : Program) (t : ℕ) (whole first second : List (List Item)) : Type 0 where
+  pub early : all_events first ≡ filter (λ x. nat_le (time_of_moment p x.time) t) (all_events whole)
+  pub late : all_events second ≡ filter (λ x. nat_lt t (time_of_moment p x.time)) (all_events whole)
 
 -- what the fold gives is what the fold of the first lists gives, and then, from its state, the fold of the second ones
 pub record FoldsInTurn (p : Program) (opening : Contents) (whole first second : List (List Item)) : Type 0 where
@@ -33,8 +38,8 @@ pub record FoldsInTurn (p : Program) (opening : Contents) (whole first second : 
 abbrev pub LawOfBorders : Type 0
 LawOfBorders =
     (p : Program) (opening : Contents) (t : ℕ) (whole first second : List (List Item))
-    → AreCutAt t whole first second → FoldsInTurn p opening whole first second
+    → AreCutAt p t whole first second → FoldsInTurn p opening whole first second
 
 -- the items up to a time and the later ones are cut at it
 abbrev pub ItemsAreCut : Type 0
-ItemsAreCut = (t : ℕ) (lists : List (List Item)) → AreCutAt t lists (up_to t lists) (beyond t lists)
+ItemsAreCut = (p : Program) (t : ℕ) (lists : List (List Item)) → AreCutAt p t lists (up_to p t lists) (beyond p t lists)

@@ -4,6 +4,8 @@ use Rattle.flu_model.specs.Erasure.{job_of}
 use Rattle.flu_model.specs.declared.jobs.Kind.{Kind}
 use Rattle.flu_model.specs.declared.jobs.Source.{Source}
 use Rattle.flu_model.specs.declared.jobs.Program.{Program}
+use Rattle.flu_model.specs.declared.moments.Timing.{Timing}
+use Rattle.flu_model.specs.Moments.{timing_of}
 use Rattle.flu_outside.specs.Outside.{Contents, WhereTold, Rose}
 use Rattle.flu_outside.specs.Taking.{bytes_left}
 use Rattle.flu_rows.specs.declared.row.RowForm.{RowForm}
@@ -22,9 +24,9 @@ abbrev pub WasRead : RowForm → Source → List Next → List Next → Contents
 WasRead form s read behind old = read_file form (bytes_left old s.file) ≡ read ++ behind
 
 -- some sources have no defect, nor do the rows that were read of the next one, before what is still to be read
-pub record StopsWithout (form : RowForm) (kinds : List Kind) (earlier : List Source) (s : Source) (read behind : List Next) (left : Contents) : Type 0 where
-  pub good : first_some (λ e. fault_of_source form kinds left e.0 e.1) (each_with_before earlier) ≡ None
-  pub passes : first_of kinds s (items_held form left earlier) read ≡ None
+pub record StopsWithout (timing : ℕ → Timing) (form : RowForm) (kinds : List Kind) (earlier : List Source) (s : Source) (read behind : List Next) (left : Contents) : Type 0 where
+  pub good : first_some (λ e. fault_of_source timing form kinds left e.0 e.1) (each_with_before earlier) ≡ None
+  pub passes : first_of (timing (length earlier)) kinds s (items_held form left earlier) read ≡ None
   pub was : WasRead form s read behind left
 
 -- A read fault hides nothing that was taken: the sources before the one whose file failed are good, and the reading of that one
@@ -40,7 +42,7 @@ pub record HidesNothing (p : Program) (old new : Option Contents) (before now : 
   pub form : place.form ≡ form_of (job_of p)
   pub file : place.file ≡ source.file
   pub undecided : IsUndecided place.taken
-  pub told : WhereTold old new (λ was now. StopsWithout (form_of (job_of p)) p.kinds earlier source read (ahead place now) was)
+  pub told : WhereTold old new (λ was now. StopsWithout (timing_of p) (form_of (job_of p)) p.kinds earlier source read (ahead place now) was)
 
 -- a fault of a source is the first of all, and names a declared source
 abbrev pub IsFirstFault : Program → Option Contents → Option Contents → GatherFault → Type 0

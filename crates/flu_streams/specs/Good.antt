@@ -2,6 +2,7 @@
 use Rattle.std.specs.Prelude.{◌≡◌, ℕ, ℤ, ◌+◌, ◌==◌, pos, false, Option, Some, None, option_map, unwrap_or, List, [], ◌∷◌, ◌++◌, length, map, if◌then◌else◌, sum_by}
 use Rattle.std.specs.List.{flat_map, filter_map, range_with_len}
 use Rattle.flu_model.specs.Erasure.{job_of}
+use Rattle.flu_lemmas.specs.Counting.{times}
 use Rattle.flu_lemmas.specs.Late.{is_less}
 use Rattle.flu_lemmas.specs.Sorting.{in_order}
 use Rattle.flu_model.specs.declared.events.Event.{Event as EventOf}
@@ -10,6 +11,8 @@ use Rattle.flu_model.specs.declared.events.Item.TheVariants.{Event as EventItem,
 use Rattle.flu_model.specs.declared.jobs.Kind.{Kind}
 use Rattle.flu_model.specs.declared.jobs.Source.{Source}
 use Rattle.flu_model.specs.declared.jobs.Program.{Program}
+use Rattle.flu_model.specs.declared.moments.Timing.{Timing}
+use Rattle.flu_model.specs.Moments.{timing_of, moment_at}
 use Rattle.flu_outside.specs.Outside.{Contents}
 use Rattle.flu_rows.specs.declared.row.RowForm.{RowForm}
 use Rattle.flu_rows.specs.declared.row.Row.{Row}
@@ -20,7 +23,7 @@ use Rattle.flu_outside.specs.Taking.{bytes_left}
 use Rattle.flu_streams.specs.declared.faults.SourceFault.{SourceFault}
 use Rattle.flu_streams.specs.Before.{each_with_before, first_some}
 use Rattle.flu_streams.specs.Tags.{place_named, given_to, width}
-use Rattle.flu_streams.specs.Tests.{rows_of, time_in, items_of, first_defect}
+use Rattle.flu_streams.specs.Tests.{rows_of, time_in, times_of, items_of, first_defect}
 
 -- ---- the first fault of all sources
 abbrev pub rows_in : RowForm → Contents → Source → List Row
@@ -31,13 +34,14 @@ abbrev pub items_held : RowForm → Contents → List Source → ℕ
 items_held form left sources = sum_by (λ (s : Source). items_of (width s) (rows_in form left s)) sources
 
 -- the fault of a source that comes after others: its first defect, given that the items of those are held
-abbrev pub fault_of_source : RowForm → List Kind → Contents → List Source → Source → Option SourceFault
-fault_of_source form kinds left earlier s =
-    option_map (λ d. record { source = length earlier; row = d.0; why = d.1 }) (first_defect form kinds s (items_held form left earlier) (bytes_left left s.file))
+abbrev pub fault_of_source : (ℕ → Timing) → RowForm → List Kind → Contents → List Source → Source → Option SourceFault
+fault_of_source timing form kinds left earlier s =
+    option_map (λ d. record { source = length earlier; row = d.0; why = d.1 })
+    (first_defect (timing (length earlier)) form kinds s (items_held form left earlier) (bytes_left left s.file))
 
 -- THE FIRST FAULT: the fault of the first source, as declared, that has a defect
 abbrev pub first_fault : Program → Contents → Option SourceFault
-first_fault p left = first_some (λ e. fault_of_source (form_of (job_of p)) p.kinds left e.0 e.1) (each_with_before p.sources)
+first_fault p left = first_some (λ e. fault_of_source (timing_of p) (form_of (job_of p)) p.kinds left e.0 e.1) (each_with_before p.sources)
 
 -- GOOD SOURCES: none has a defect
 abbrev pub AreGood : Program → Contents → Type 0
@@ -63,20 +67,34 @@ item_in kinds s first place End = None
 abbrev pub time_at : Row → ℕ
 time_at row = unwrap_or (time_in row) 0
 
+-- a row at another time
+abbrev pub with_time : ℕ → Row → Row
+with_time time (Event t name key fields) = Event time name key fields
+with_time time (Beat t) = Beat time
+with_time time End = End
+
+-- THE ROWS OF A SOURCE AT THEIR MOMENTS, after rows of these times, in the file's order: each by its time and by how many rows before it have this
+-- time
+abbrev pub at_moments : Timing → List ℕ → List Row → List Row
+at_moments timing earlier [] = []
+at_moments timing earlier (row ∷ rows) =
+    with_time (moment_at timing (time_at row) (times (time_at row) earlier)) row ∷ at_moments timing (earlier ++ times_of (row ∷ [])) rows
+
 -- the rows sorted by time
 abbrev pub in_time_order : List Row → List Row
 in_time_order rows = in_order (is_less time_at) rows
 
--- the items of an itag: its events and all heartbeats, sorted by time, and the end
+-- the items of an itag among rows at their moments: its events and all heartbeats, sorted by moment, and the end
 abbrev pub items_at : List Kind → Source → ℕ → List Row → ℕ → List Item
 items_at kinds s first rows place = filter_map (item_in kinds s first place) (in_time_order rows) ++ EndItem ∷ []
 
 -- a list for each itag of a source
-abbrev pub lists_of_rows : List Kind → Source → ℕ → List Row → List (List Item)
-lists_of_rows kinds s first rows = map (items_at kinds s first rows) (range_with_len 0 (width s))
+abbrev pub lists_of_rows : Timing → List Kind → Source → ℕ → List Row → List (List Item)
+lists_of_rows timing kinds s first rows = map (items_at kinds s first (at_moments timing [] rows)) (range_with_len 0 (width s))
 
--- THE LISTS OF GOOD SOURCES: for each itag, by its number, its events and all heartbeats of its source, sorted by time, and the
--- end
+-- THE LISTS OF GOOD SOURCES: for each itag, by its number, its events and all heartbeats of its source at their moments, sorted by these, and
+-- the end
 abbrev pub lists_of : Program → Contents → List (List Item)
 lists_of p left =
-    flat_map (λ e. lists_of_rows p.kinds e.1 (sum_by width e.0) (rows_in (form_of (job_of p)) left e.1)) (each_with_before p.sources)
+    flat_map (λ e. lists_of_rows (timing_of p (length e.0)) p.kinds e.1 (sum_by width e.0) (rows_in (form_of (job_of p)) left e.1))
+    (each_with_before p.sources)

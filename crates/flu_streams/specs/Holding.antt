@@ -1,5 +1,5 @@
 -- What is held of the sources between rounds, and after which lines it is held (`docs/MODEL.md`, "Rounds").
-use Rattle.std.specs.Prelude.{◌≡◌, ℕ, ◌+◌, ◌<◌, ◌≤◌, ◌^◌, Bool, true, false, Result, Ok, Option, Some, None, List, [], ◌++◌, length, map, take, slice_get, sum_by}
+use Rattle.std.specs.Prelude.{◌≡◌, ◌≢◌, ℕ, ◌+◌, ◌*◌, ◌<◌, ◌≤◌, ◌^◌, Bool, true, false, Result, Ok, Option, Some, None, List, [], ◌++◌, length, map, take, slice_get, sum_by}
 use Rattle.std.specs.Prelude.{if◌then◌else◌, unwrap_or, ⊤}
 use Rattle.std.specs.List.{All}
 use Rattle.flu_model.specs.Erasure.{job_of}
@@ -9,6 +9,8 @@ use Rattle.flu_model.specs.declared.events.Item.TheVariants.{Event as EventItem,
 use Rattle.flu_model.specs.declared.jobs.Kind.{Kind}
 use Rattle.flu_model.specs.declared.jobs.Source.{Source}
 use Rattle.flu_model.specs.declared.jobs.Program.{Program}
+use Rattle.flu_model.specs.declared.moments.Timing.{Timing}
+use Rattle.flu_model.specs.Moments.{timing_of}
 use Rattle.flu_model.specs.Itags.{count_of_itags}
 use Rattle.flu_outside.specs.Outside.{Contents, WhereTold, Rose}
 use Rattle.flu_outside.specs.Taking.{IsReadOut}
@@ -26,10 +28,10 @@ use Rattle.flu_streams.specs.declared.faults.GatherFault.TheVariants.{Source as 
 use Rattle.flu_streams.specs.declared.held.Stage.{Stage}
 use Rattle.flu_streams.specs.declared.held.Stage.TheVariants.{Filling, Filled, Over}
 use Rattle.flu_streams.specs.Files.{files_of, AreReadOut}
-use Rattle.flu_streams.specs.Good.{event_of, in_time_order}
+use Rattle.flu_streams.specs.Good.{event_of, at_moments, in_time_order}
 use Rattle.flu_streams.specs.Rounds.{Turn, Reads, IsPassed, IsRound, IsRoundFault, LinesIn, defect_in, is_above, is_enough, rows_between, settled_time}
 use Rattle.flu_streams.specs.Tags.{place_named, given_to, width}
-use Rattle.flu_streams.specs.Tests.{rows_of, times_of, greatest, has_ended}
+use Rattle.flu_streams.specs.Tests.{rows_of, times_of, greatest, has_ended, margin}
 
 -- ---- what is held
 -- of a source: the items with a time above the last border, in order of time; where its rows are read; the greatest time that was
@@ -79,17 +81,17 @@ item_of kinds s first End = EndItem
 abbrev pub IsUpTo : Option ℕ → Option ℕ → Type 0
 IsUpTo low border = (l : ℕ) → low ≡ Some l → (b : ℕ) × (border ≡ Some b) × (l ≤ b)
 
--- this is held of a source, whose first itag has this number, after these lines and with this border: the items above a lower one,
+-- this is held of a source, whose first itag has this number, after these lines and with this border: the items above a lower one, at their moments,
 -- which is the border itself except in a resumed run that has not reached it. The lower one is settled if more is to be read: so what
 -- is still to come is above it.
-pub record IsHeldBehind (kinds : List Kind) (first : ℕ) (s : Source) (border : Option ℕ) (lines : List Next) (h : HeldSource) : Type 0 where
+pub record IsHeldBehind (timing : Timing) (kinds : List Kind) (first : ℕ) (s : Source) (border : Option ℕ) (lines : List Next) (h : HeldSource) : Type 0 where
   pub file : h.place.file ≡ s.file
-  pub sound : defect_in kinds s lines ≡ None
+  pub sound : defect_in timing kinds s lines ≡ None
   pub low : Option ℕ
-  pub items : h.items ≡ map (item_of kinds s first) (in_time_order (rows_between low Closed (rows_of lines)))
+  pub items : h.items ≡ map (item_of kinds s first) (in_time_order (at_moments timing [] (rows_between low Closed (rows_of lines))))
   pub last : h.last ≡ greatest (times_of (rows_of lines))
   pub ended : h.ended ≡ has_ended (rows_of lines)
-  pub settled : h.closed ≡ false → (t : ℕ) → low ≡ Some t → (u : ℕ) × (settled_time s lines ≡ Some u) × (t ≤ u)
+  pub settled : h.closed ≡ false → (t : ℕ) → low ≡ Some t → (u : ℕ) × (settled_time timing s lines ≡ Some u) × (t ≤ u)
   pub up_to : IsUpTo low border
   pub caught : h.goal ≡ None → low ≡ border
   pub goal : (t : ℕ) → h.goal ≡ Some t → border ≡ Some t
@@ -98,7 +100,7 @@ pub record IsHeldBehind (kinds : List Kind) (first : ℕ) (s : Source) (border :
 pub record AreHeldBehind (h : Holding) (lines : ℕ → List Next) : Type 0 where
   pub count : length h.sources ≡ length h.program.sources
   pub each : (i : ℕ) (s : Source) (source : HeldSource) → slice_get h.program.sources i ≡ Some s → slice_get h.sources i ≡ Some source
-      → IsHeldBehind h.program.kinds (first_itag h.program i) s h.border (lines i) source
+      → IsHeldBehind (timing_of h.program i) h.program.kinds (first_itag h.program i) s h.border (lines i) source
 
 -- what is still to be read of a source
 abbrev pub still : HeldSource → Contents → List Next
@@ -117,9 +119,11 @@ abbrev pub AreClosed : Holding → Type 0
 AreClosed h = AtEach (λ i source. source.closed ≡ true) h.sources
 
 -- ---- how much is held
--- of each source at most as many rows are held as a round needs of it, and one for each time within its slack
+-- of each source at most as many rows are held as a round needs of it, and as many as it may have at each time within its margin
 abbrev pub HoldsFew : Holding → Type 0
-HoldsFew h = AtEach (λ i s. (source : HeldSource) → slice_get h.sources i ≡ Some source → length source.items ≤ h.rows + s.slack) h.program.sources
+HoldsFew h =
+    AtEach (λ i s. (source : HeldSource) → slice_get h.sources i ≡ Some source
+    → length source.items ≤ h.rows + margin (timing_of h.program i) s.slack * h.program.ties) h.program.sources
 
 -- of each source at most this many
 abbrev pub HoldsAtMost : ℕ → Holding → Type 0
@@ -129,12 +133,20 @@ HoldsAtMost most h = AtEach (λ i source. length source.items ≤ most) h.source
 abbrev pub HaveAtMost : ℕ → List (List Item) → Type 0
 HaveAtMost most lists = All (λ items. length items ≤ most + 1) lists
 
--- LAW OF WHAT IS HELD: rounds of at most 4,096 rows hold at most 64,096 rows of a source, and the lists of a round have at most 16,408,576
--- events and heartbeats, and the ends of 256 lists
+-- how many rows a round needs of a source at most, and as many as the source may have at each time within the margin of the greatest slack
+abbrev pub most_of : Timing → ℕ
+most_of timing = 4096 + margin timing 60000 * timing.ties
+
+abbrev pub most_held : Program → ℕ
+most_held p = most_of (timing_of p 0)
+
+-- LAW OF WHAT IS HELD: rounds of at most 4,096 rows hold at most so many rows of a source, before version 3 at most 64,096, and the lists of a round
+-- have at most 256 times as many events and heartbeats, before version 3 at most 16,408,576, and the ends of 256 lists
 pub record LawOfBounds : Type 0 where
-  pub rows : (h : Holding) → h.rows ≤ 4096 → length h.sources ≡ length h.program.sources → HoldsFew h → HoldsAtMost 64096 h
-  pub items : (p : Program) (lists : List (List Item)) → length lists ≡ count_of_itags p → HaveAtMost 64096 lists
-      → sum_by (λ (items : List Item). length items) lists ≤ 16408576 + 256
+  pub rows : (h : Holding) → h.rows ≤ 4096 → length h.sources ≡ length h.program.sources → HoldsFew h → HoldsAtMost (most_held h.program) h
+  pub items : (p : Program) (lists : List (List Item)) → length lists ≡ count_of_itags p → HaveAtMost (most_held p) lists
+      → sum_by (λ (items : List Item). length items) lists ≤ 256 * most_held p + 256
+  pub older : (p : Program) → p.version ≢ 3 → p.ties ≡ 1 → (most_held p ≡ 64096) × (256 * most_held p ≡ 16408576)
 
 -- ---- a refill
 -- after a refill a cut at its answer may be called
@@ -177,14 +189,14 @@ pub record HidesNoRoundFault (old : Holding) (left left' : Option Contents) (fau
   pub now : ℕ → List Next
   pub more : List Next
   pub further : now at ≡ before at ++ more
-  pub sound : defect_in old.program.kinds source (now at) ≡ None
-  pub few : (k : ℕ) → k ≤ length more → is_enough old.rows old.border source (before at ++ take k more) ≡ false
+  pub sound : defect_in (timing_of old.program at) old.program.kinds source (now at) ≡ None
+  pub few : (k : ℕ) → k ≤ length more → is_enough (timing_of old.program at) old.rows old.border source (before at ++ take k more) ≡ false
   pub place : Place
   pub form : place.form ≡ form_of (job_of old.program)
   pub file : place.file ≡ source.file
   pub undecided : IsUndecided place.taken
   pub told : WhereTold left left' (λ was is. (whole : ℕ → List Next) → AreInAll old before was whole
-      → AtEach (λ i s. i < at → (turn : Turn) × Reads old.program.kinds s old.rows old.border (whole i) (before i) (now i) turn × IsPassed turn)
+      → AtEach (λ i s. i < at → (turn : Turn) × Reads (timing_of old.program i) old.program.kinds s old.rows old.border (whole i) (before i) (now i) turn × IsPassed turn)
       old.program.sources
       × (whole at ≡ now at ++ ahead place is))
 

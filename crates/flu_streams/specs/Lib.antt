@@ -10,6 +10,7 @@ pub mod LoopGathering
 pub mod Borders
 pub mod Rounds
 pub mod Holding
+pub mod LoopMoments
 pub mod LoopHeld
 pub mod Fronts
 pub mod Counts

@@ -2,6 +2,7 @@
 use Rattle.std.specs.Prelude.{◌≡◌, List}
 use Rattle.flu_model.specs.declared.jobs.Kind.{Kind}
 use Rattle.flu_model.specs.declared.jobs.Program.{Program}
+use Rattle.flu_model.specs.declared.moments.Timing.{Timing}
 use Rattle.flu_model.specs.Erasure.{IsSameJob}
 use Rattle.flu_rows.specs.declared.row.RowForm.{RowForm}
 use Rattle.flu_streams.specs.Good.{lists_of_rows, first_fault, lists_of}
@@ -10,9 +11,9 @@ use Rattle.flu_streams.specs.Tests.{first_defect}
 
 -- the first defect of a file is the same, so is that of some lines, and so are the lists of items of rows
 pub record ReadRowsAlike (kinds others : List Kind) : Type 0 where
-  pub defects : (form : RowForm) → first_defect form kinds ≡ first_defect form others
-  pub in_lines : defect_in kinds ≡ defect_in others
-  pub lists : lists_of_rows kinds ≡ lists_of_rows others
+  pub defects : (timing : Timing) (form : RowForm) → first_defect timing form kinds ≡ first_defect timing form others
+  pub in_lines : (timing : Timing) → defect_in timing kinds ≡ defect_in timing others
+  pub lists : (timing : Timing) → lists_of_rows timing kinds ≡ lists_of_rows timing others
 
 -- and so are the first fault of all sources and the lists of items of all itags
 pub record ReadTheSame (p q : Program) : Type 0 where

@@ -10,6 +10,8 @@ use Rattle.flu_model.specs.declared.events.Out.{Out}
 use Rattle.flu_model.specs.declared.jobs.Kind.{Kind}
 use Rattle.flu_model.specs.declared.jobs.Source.{Source}
 use Rattle.flu_model.specs.declared.jobs.Program.{Program}
+use Rattle.flu_model.specs.declared.moments.Timing.{Timing}
+use Rattle.flu_model.specs.Moments.{timing_of}
 use Rattle.flu_model.specs.Contents.{Contents}
 use Rattle.flu_model.specs.Folding.{final_state, final_outputs}
 use Rattle.flu_model.specs.Merging.{merged}
@@ -30,37 +32,38 @@ use Rattle.flu_streams.specs.Before.{each_with_before, first_some}
 use Rattle.flu_streams.specs.Borders.{beyond}
 use Rattle.flu_streams.specs.Good.{lists_of_rows, lists_of}
 use Rattle.flu_streams.specs.Tags.{width}
-use Rattle.flu_streams.specs.Tests.{rows_of, time_in, times_of, greatest, has_ended, where_true, test_tag, test_fields, test_item, test_time, defect_of}
+use Rattle.flu_streams.specs.Tests.{rows_of, time_in, times_of, greatest, has_ended, where_true, margin, test_range, test_tag, test_fields, test_item, test_time, defect_of}
 
 -- ---- defects
 -- the tests of a row except the one on how many items are held: a round holds few
-abbrev pub row_tests : List Kind → Source → Bool → List ℕ → Row → List (Option Why)
-row_tests kinds s ended earlier row =
-    where_true ended AfterEnd ∷ test_tag kinds s row ∷ test_fields kinds row ∷ test_item row ∷ test_time s.slack earlier row ∷ []
+abbrev pub row_tests : Timing → List Kind → Source → Bool → List ℕ → Row → List (Option Why)
+row_tests timing kinds s ended earlier row =
+    where_true ended AfterEnd ∷ test_range timing row ∷ test_tag kinds s row ∷ test_fields kinds row ∷ test_item row
+    ∷ test_time timing s.slack earlier row ∷ []
 
 -- which rule a row breaks, by whether the source has ended and by its times so far
-abbrev pub row_fault : List Kind → Source → Bool → List ℕ → Row → Option Why
-row_fault kinds s ended earlier row = first_some (λ test. test) (row_tests kinds s ended earlier row)
+abbrev pub row_fault : Timing → List Kind → Source → Bool → List ℕ → Row → Option Why
+row_fault timing kinds s ended earlier row = first_some (λ test. test) (row_tests timing kinds s ended earlier row)
 
 -- the defect of a line, or of the file's end, after these lines
-abbrev pub line_defect : List Kind → Source → List Next → Next → Option (ℕ × Why)
-line_defect kinds s read (RowNext line row) = option_map (λ why. (line, why)) (row_fault kinds s (has_ended (rows_of read)) (times_of (rows_of read)) row)
-line_defect kinds s read (Bad line) = defect_of kinds s 0 read (Bad line)
-line_defect kinds s read TooManyLines = defect_of kinds s 0 read TooManyLines
-line_defect kinds s read (Done lines) = defect_of kinds s 0 read (Done lines)
+abbrev pub line_defect : Timing → List Kind → Source → List Next → Next → Option (ℕ × Why)
+line_defect timing kinds s read (RowNext line row) = option_map (λ why. (line, why)) (row_fault timing kinds s (has_ended (rows_of read)) (times_of (rows_of read)) row)
+line_defect timing kinds s read (Bad line) = defect_of timing kinds s 0 read (Bad line)
+line_defect timing kinds s read TooManyLines = defect_of timing kinds s 0 read TooManyLines
+line_defect timing kinds s read (Done lines) = defect_of timing kinds s 0 read (Done lines)
 
 -- the first defect of some lines
-abbrev pub defect_in : List Kind → Source → List Next → Option (ℕ × Why)
-defect_in kinds s lines = first_some (λ e. line_defect kinds s e.0 e.1) (each_with_before lines)
+abbrev pub defect_in : Timing → List Kind → Source → List Next → Option (ℕ × Why)
+defect_in timing kinds s lines = first_some (λ e. line_defect timing kinds s e.0 e.1) (each_with_before lines)
 
 -- ---- times
--- THE SETTLED TIME: the greatest time less the slack; none if that is below 0 or there is no time
+-- THE SETTLED TIME: the greatest time less the margin; none if that is below 0 or there is no time. No row may come at it any more, nor before it.
 abbrev pub settled : ℕ → Option ℕ → Option ℕ
-settled slack None = None
-settled slack (Some last) = if nat_le slack last then Some (last - slack) else None
+settled behind None = None
+settled behind (Some last) = if nat_le behind last then Some (last - behind) else None
 
-abbrev pub settled_time : Source → List Next → Option ℕ
-settled_time s lines = settled s.slack (greatest (times_of (rows_of lines)))
+abbrev pub settled_time : Timing → Source → List Next → Option ℕ
+settled_time timing s lines = settled (margin timing s.slack) (greatest (times_of (rows_of lines)))
 
 -- a time above a border, which may be none
 abbrev pub is_above : Option ℕ → ℕ → Bool
@@ -80,12 +83,12 @@ abbrev pub rows_between : Option ℕ → Border → List Row → List Row
 rows_between above end rows = filter (is_between above end) rows
 
 -- how many rows have a time above the border and at most the settled time
-abbrev pub count_settled : Option ℕ → Source → List Next → ℕ
-count_settled above s lines = option_map_or (λ u. length (rows_between above (At u) (rows_of lines))) (settled_time s lines) 0
+abbrev pub count_settled : Timing → Option ℕ → Source → List Next → ℕ
+count_settled timing above s lines = option_map_or (λ u. length (rows_between above (At u) (rows_of lines))) (settled_time timing s lines) 0
 
 -- at least this many have
-abbrev pub is_enough : ℕ → Option ℕ → Source → List Next → Bool
-is_enough rows above s lines = nat_le rows (count_settled above s lines)
+abbrev pub is_enough : Timing → ℕ → Option ℕ → Source → List Next → Bool
+is_enough timing rows above s lines = nat_le rows (count_settled timing above s lines)
 
 -- ---- one source in a round
 -- what a source comes to in a round: it is open and settled up to this time; or closed; or its defect is met
@@ -95,22 +98,22 @@ pub data Turn : Type 0 where
   Meets : (row : ℕ) (why : Why) → Turn
 
 -- where the reading stops: after enough rows; or, if they are not enough, after all lines or before a line with a defect
-abbrev pub StopsAt : List Kind → Source → ℕ → Option ℕ → List Next → List Next → Turn → Type 0
-StopsAt kinds s rows above whole now (Open u) =
-    ((rest : List Next) × (whole ≡ now ++ rest)) × (is_enough rows above s now ≡ true) × (settled_time s now ≡ Some u)
-StopsAt kinds s rows above whole now Shut = (whole ≡ now) × (is_enough rows above s now ≡ false)
-StopsAt kinds s rows above whole now (Meets row why) =
-    ((next : Next) × (rest : List Next) × (whole ≡ now ++ next ∷ rest) × (line_defect kinds s now next ≡ Some (row, why)))
-    × (is_enough rows above s now ≡ false)
+abbrev pub StopsAt : Timing → List Kind → Source → ℕ → Option ℕ → List Next → List Next → Turn → Type 0
+StopsAt timing kinds s rows above whole now (Open u) =
+    ((rest : List Next) × (whole ≡ now ++ rest)) × (is_enough timing rows above s now ≡ true) × (settled_time timing s now ≡ Some u)
+StopsAt timing kinds s rows above whole now Shut = (whole ≡ now) × (is_enough timing rows above s now ≡ false)
+StopsAt timing kinds s rows above whole now (Meets row why) =
+    ((next : Next) × (rest : List Next) × (whole ≡ now ++ next ∷ rest) × (line_defect timing kinds s now next ≡ Some (row, why)))
+    × (is_enough timing rows above s now ≡ false)
 
 -- WHAT A ROUND READS of a source, of which these are all the lines and these were read before: the shortest list of its first
 -- lines before any defect, not shorter than before, that is enough; and if there is none, all of them
-pub record Reads (kinds : List Kind) (s : Source) (rows : ℕ) (above : Option ℕ) (whole before now : List Next) (turn : Turn) : Type 0 where
+pub record Reads (timing : Timing) (kinds : List Kind) (s : Source) (rows : ℕ) (above : Option ℕ) (whole before now : List Next) (turn : Turn) : Type 0 where
   pub more : List Next
   pub further : now ≡ before ++ more
-  pub sound : defect_in kinds s now ≡ None
-  pub shortest : (k : ℕ) → k < length more → is_enough rows above s (before ++ take k more) ≡ false
-  pub stops : StopsAt kinds s rows above whole now turn
+  pub sound : defect_in timing kinds s now ≡ None
+  pub shortest : (k : ℕ) → k < length more → is_enough timing rows above s (before ++ take k more) ≡ false
+  pub stops : StopsAt timing kinds s rows above whole now turn
 
 -- ---- a round
 -- a border is not above the settled time of an open source, and no defect is met
@@ -121,15 +124,15 @@ IsWithin t (Meets row why) = ⊥
 
 -- a round with a new border: no defect is met, and the border is the least of the settled times of the open sources
 pub record IsRoundAt (p : Program) (rows : ℕ) (above : Option ℕ) (whole before now : ℕ → List Next) (t : ℕ) : Type 0 where
-  pub each : AtEach (λ i s. (turn : Turn) × Reads p.kinds s rows above (whole i) (before i) (now i) turn × IsWithin t turn) p.sources
+  pub each : AtEach (λ i s. (turn : Turn) × Reads (timing_of p i) p.kinds s rows above (whole i) (before i) (now i) turn × IsWithin t turn) p.sources
   pub least : (i : ℕ) × (s : Source) × (slice_get p.sources i ≡ Some s)
-      × Reads p.kinds s rows above (whole i) (before i) (now i) (Open t)
+      × Reads (timing_of p i) p.kinds s rows above (whole i) (before i) (now i) (Open t)
 
 -- A ROUND above a border, where these are all the lines of the sources, by the source's number; these were read before it,
 -- and these are in it. The last round is the one in which all sources are closed.
 abbrev pub IsRound : Program → ℕ → Option ℕ → (ℕ → List Next) → (ℕ → List Next) → (ℕ → List Next) → Border → Type 0
 IsRound p rows above whole before now (At t) = IsRoundAt p rows above whole before now t
-IsRound p rows above whole before now Closed = AtEach (λ i s. Reads p.kinds s rows above (whole i) (before i) (now i) Shut) p.sources
+IsRound p rows above whole before now Closed = AtEach (λ i s. Reads (timing_of p i) p.kinds s rows above (whole i) (before i) (now i) Shut) p.sources
 
 -- no defect is met
 abbrev pub IsPassed : Turn → Type 0
@@ -141,16 +144,18 @@ IsPassed (Meets row why) = ⊥
 pub record IsRoundFault (p : Program) (rows : ℕ) (above : Option ℕ) (whole before : ℕ → List Next) (f : SourceFault) : Type 0 where
   pub now : ℕ → List Next
   pub earlier : AtEach (λ i s. i < f.source
-      → (turn : Turn) × Reads p.kinds s rows above (whole i) (before i) (now i) turn × IsPassed turn) p.sources
+      → (turn : Turn) × Reads (timing_of p i) p.kinds s rows above (whole i) (before i) (now i) turn × IsPassed turn) p.sources
   pub source : (s : Source) × (slice_get p.sources f.source ≡ Some s)
-      × Reads p.kinds s rows above (whole f.source) (before f.source) (now f.source) (Meets f.row f.why)
+      × Reads (timing_of p f.source) p.kinds s rows above (whole f.source) (before f.source) (now f.source) (Meets f.row f.why)
 
 -- ---- the rows of a round
 -- the lists of the rows above one border and up to another, among these lines of each source: for each itag its events and the
 -- heartbeats of its source, sorted by time, and the end
 abbrev pub lists_between : Program → Option ℕ → Border → (ℕ → List Next) → List (List Item)
 lists_between p above end reads =
-    flat_map (λ e. lists_of_rows p.kinds e.1 (sum_by width e.0) (rows_between above end (rows_of (reads (length e.0))))) (each_with_before p.sources)
+    flat_map
+    (λ e. lists_of_rows (timing_of p (length e.0)) p.kinds e.1 (sum_by width e.0) (rows_between above end (rows_of (reads (length e.0)))))
+    (each_with_before p.sources)
 
 -- ROUNDS ONE AFTER ANOTHER, from the first on, each with a new border, of a run that starts above a border, if there is one: the
 -- lists of each, the border that they come to, and what has been read by then
@@ -215,4 +220,4 @@ abbrev pub LawOfLastAbove : Type 0
 LawOfLastAbove =
     (p : Program) (rows : ℕ) (above : Option ℕ) (whole before now : ℕ → List Next) (left : Files) (t : ℕ) → LinesIn p left whole
     → IsRound p rows above whole before now Closed
-    → merged (lists_between p (Some t) Closed now) ≡ merged (beyond t (lists_of p left))
+    → merged (lists_between p (Some t) Closed now) ≡ merged (beyond p t (lists_of p left))

@@ -11,12 +11,12 @@ ghost use Rattle.flu_rows.specs.declared.rows.Next.{Next};
 ghost use Rattle.flu_rows.specs.Row.{form_of};
 ghost use Rattle.flu_streams.specs.Files.{files_of, LeavesOthers, CountsOfNames, OneRose};
 ghost use Rattle.flu_streams.specs.Holding.{fresh, unread, AreHeldBehind, ClosedAreReadOut, AreClosed, IsFilled, KeepsJob, Fills, IsNewBorder, IsRefillFault};
-ghost use Rattle.flu_streams.specs.Holding.{HidesNoRoundFault, Cuts, HoldsFew, HoldsAtMost, HaveAtMost};
+ghost use Rattle.flu_streams.specs.Holding.{HidesNoRoundFault, Cuts, HoldsFew, HoldsAtMost, HaveAtMost, most_held};
 ghost use Rattle.flu_lemmas.specs.Elements.{AtEach};
 ghost use Rattle.flu_model.specs.Streaming.{are_streams};
 ghost use Rattle.flu_streams.specs.Lists.{lists_in};
 ghost use Rattle.flu_streams.specs.Holding.{unread_source};
-ghost use Rattle.flu_streams.specs.LoopHeld.{source_of, earlier_of, HasRefilled, StopsAtSource, AreDropped, AreBehind, AreCaughtUp, AreUncounted};
+ghost use Rattle.flu_streams.specs.LoopHeld.{source_of, earlier_of, HasRefilled, StopsAtSource, AreDropped, AreBehind, AreCaughtUp, AreTimed, AreUncounted};
 ghost use Rattle.flu_streams.specs.Rounds.{lists_between};
 
 use crate::border::Border;
@@ -24,7 +24,7 @@ use crate::faults::GatherFault;
 use crate::inlet::Inlet;
 use crate::stop::fault_of;
 use crate::tags::tag_count;
-use flu_model::{Item, Program, Streams};
+use flu_model::{Item, Program, Streams, timing_of};
 use flu_outside::Files;
 use flu_rows::form_of;
 use std::alloc::{AllocError, Global};
@@ -157,7 +157,7 @@ impl Held {
 
         // What is held is bounded, even if a run that is resumed has not reached its border yet.
         ensures few { OnOk result (HoldsFew self.new) }
-        ensures most { HoldsAtMost 64096 self.new }
+        ensures most { HoldsAtMost (most_held self.old.program) self.new }
 
         // It only takes bytes from the front of the sources' files, and a read fault has its cause there: no other answer comes
         // after a take that failed.
@@ -194,8 +194,8 @@ impl Held {
         ensures cut { OnOk result (Cuts self.old self.new b) }
         ensures over { OnErr result (self.new.stage ≡ Stage.Over) }
         ensures few { OnOk result (HoldsFew self.new) }
-        ensures most { HoldsAtMost 64096 self.new }
-        ensures few_items { IfOk result (λ streams. HaveAtMost 64096 (listed streams)) }
+        ensures most { HoldsAtMost (most_held self.old.program) self.new }
+        ensures few_items { IfOk result (λ streams. HaveAtMost (most_held p.now) (listed streams)) }
     {
         self.stage = Stage::Over;
         let lists = lists_to(alloc, p, &self.sources, b)?;
@@ -212,12 +212,14 @@ impl Held {
 // Nothing of each source.
 fn new_inlets(alloc: Global, p: &Program, border: Option<u64>) -> Result<Vec<Inlet>, AllocError>
     ensures unread { IfOk result (λ inlets. map source_of inlets.items ≡ map (unread_source (form_of (job_of p.now)) border) p.now.sources) }
+    ensures timed { IfOk result (λ inlets. AreTimed p.now inlets.items) }
     ensures uncounted { IfOk result (λ inlets. AreUncounted inlets.items) }
 {
     let form = form_of(alloc, p)?;
     let mut inlets = Vec::new(alloc);
     for source in p.sources.items() {
-        inlets.push(Inlet::new(alloc, &form, source, border, None)?)?;
+        let timing = timing_of(p, inlets.len() as u32);
+        inlets.push(Inlet::new(alloc, &form, timing, source, border, None)?)?;
     }
     Ok(inlets)
 }
@@ -233,8 +235,10 @@ fn refill_all<F: Files>(
     requires most { rows ≤ 4096 }
     requires count { length inlets.old.items ≡ length p.now.sources }
     requires uncounted { AreUncounted inlets.old.items }
+    requires timed { AreTimed p.now inlets.old.items }
     requires files { AtEach (λ i s. (h : Inlet) → slice_get inlets.old.items i ≡ Some h → h.rows.file ≡ s.file) p.now.sources }
     ensures uncounted { AreUncounted inlets.new.items }
+    ensures timed { AreTimed p.now inlets.new.items }
     ensures filled { IfOk result (λ end. HasRefilled p.now rows inlets.old.items inlets.new.items (F.left files.old) (F.left files.new) end) }
     ensures stop { IfErr result (StopsAtSource p.now rows inlets.old.items (F.left files.old) (F.left files.new) (F.faults files.old) (F.faults files.new)) }
     ensures fronts { WhereTold (F.left files.old) (F.left files.new) TookFronts }
@@ -279,10 +283,11 @@ fn lists_to(
 ) -> Result<Vec<Vec<Item>>, AllocError>
     requires count { length inlets.now ≡ length p.now.sources }
     requires caught { AreCaughtUp inlets.now }
+    requires timed { AreTimed p.now inlets.now }
     requires uncounted { AreUncounted inlets.now }
     ensures len { IfOk result (λ lists. vec_len lists ≡ count_of_itags p.now) }
     ensures streams { IfOk result (λ lists. IsTrue (are_streams 0 (lists_in lists))) }
-    ensures few { IfOk result (λ lists. HaveAtMost 64096 (lists_in lists)) }
+    ensures few { IfOk result (λ lists. HaveAtMost (most_held p.now) (lists_in lists)) }
     ensures lists { IfOk result (λ lists. (border : Option ℕ) (lines : ℕ → List Next) → AreBehind p.now border lines inlets.now
         → lists_in lists ≡ lists_between p.now border end lines) }
 {

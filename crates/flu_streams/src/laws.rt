@@ -59,9 +59,9 @@ pub fn rounds_meet_what_is_there()
     ensures meeting { LawOfMeeting }
 {}
 
-/// The law of what is held: if only as many rows of each source are held as a round needs, and one for each time within its
-/// slack, these are at most 64,096 of each; and the lists of a round have at most 16,408,576 events and heartbeats, besides their
-/// ends.
+/// The law of what is held: if only as many rows of each source are held as a round needs, and as many as it may have at each time within its
+/// margin, these are no more of each than its limit; and the lists of a round have at most 256 times as many events and heartbeats, besides
+/// their ends. Before version 3 the limit is 64,096, so the lists have at most 16,408,576.
 pub fn rounds_hold_few()
     ensures { LawOfBounds }
 {}

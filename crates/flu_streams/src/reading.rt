@@ -3,6 +3,7 @@
 ghost use Rattle.std.specs.Prelude.{◌≡◌, ◌≢◌, ◌≤◌, ◌<◌, ◌+◌, ◌^◌, length, vec_len, OnOk, IfOk, IfErr, IsErrOf, Err};
 ghost use Rattle.flu_model.specs.Itags.{count_of_itags};
 ghost use Rattle.flu_model.specs.Listed.{listed};
+ghost use Rattle.flu_model.specs.Moments.{IsTiming};
 ghost use Rattle.flu_outside.specs.Outside.{WhereTold, Rose, SameCounts};
 ghost use Rattle.flu_outside.specs.Taking.{TakesFrom, TookFronts, CountsOf, IsReadOut};
 ghost use Rattle.flu_streams.specs.Files.{files_of, LeavesOthers, CountsOfNames, OneRose, AreReadOut};
@@ -17,7 +18,7 @@ use crate::gathered::Gathered;
 use crate::inlet::Inlet;
 use crate::stop::fault_of;
 use crate::tags::tag_count;
-use flu_model::{Kind, Program, Source, Streams};
+use flu_model::{Kind, Program, Source, Streams, Timing, timing_of};
 use flu_outside::Files;
 use flu_rows::{RowForm, form_of};
 use std::alloc::Global;
@@ -57,6 +58,7 @@ pub fn gather<F: Files>(alloc: Global, p: &Program, files: &mut F) -> Result<Str
         if let Err(fault) = add_source(
             alloc,
             &form,
+            timing_of(p, gathered.number),
             p.kinds.items(),
             source,
             &mut gathered,
@@ -72,26 +74,28 @@ pub fn gather<F: Files>(alloc: Global, p: &Program, files: &mut F) -> Result<Str
 fn add_source<F: Files>(
     alloc: Global,
     form: &RowForm,
+    timing: Timing,
     kinds: &[Kind],
     source: &Source,
     gathered: &mut Gathered,
     files: &mut F,
 ) -> Result<(), GatherFault>
+    requires fits { IsTiming timing }
     requires kinds { length kinds.now ≤ 64 }
     requires numbered { vec_len gathered.old.lists + width source.now ≤ 256 }
     requires counted { gathered.old.number + 1 < 2 ^ 32 }
     requires slack { source.now.slack ≤ 60000 }
-    ensures added { OnOk result (AddsSource form.now kinds.now source.now (F.left files.old) (F.left files.new) gathered.old gathered.new) }
+    ensures added { OnOk result (AddsSource timing form.now kinds.now source.now (F.left files.old) (F.left files.new) gathered.old gathered.new) }
     ensures read_out { OnOk result (IsReadOut source.now.file (F.left files.new)) }
-    ensures fault { IfErr result (IsFaultOf form.now kinds.now source.now gathered.old.number gathered.old.held (F.left files.old) (F.left files.new)) }
+    ensures fault { IfErr result (IsFaultOf timing form.now kinds.now source.now gathered.old.number gathered.old.held (F.left files.old) (F.left files.new)) }
     ensures taken { WhereTold (F.left files.old) (F.left files.new) (TakesFrom source.now.file) }
     ensures counts { CountsOf (F.left files.old) source.now.file (F.faults files.old) (F.faults files.new) }
     ensures quiet { result ≢ Err GatherFault.ReadFault → SameCounts (F.faults files.old) (F.faults files.new) }
     ensures puts { SameCounts (F.put_faults files.old) (F.put_faults files.new) }
-    ensures hides { IsErrOf result GatherFault.ReadFault → HidesNoDefect form.now kinds.now source.now gathered.old.held (F.left files.old) (F.left files.new) }
+    ensures hides { IsErrOf result GatherFault.ReadFault → HidesNoDefect timing form.now kinds.now source.now gathered.old.held (F.left files.old) (F.left files.new) }
     ensures cause { IsErrOf result GatherFault.ReadFault → Rose (F.faults files.old source.now.file) (F.faults files.new source.now.file) }
 {
-    let Ok(mut inlet) = Inlet::new(alloc, form, source, None, Some(gathered.held)) else {
+    let Ok(mut inlet) = Inlet::new(alloc, form, timing, source, None, Some(gathered.held)) else {
         return Err(GatherFault::NoMemory);
     };
     let first = gathered.lists.len() as u32;

@@ -7,6 +7,7 @@ ghost use Rattle.std.specs.BTreeMap.{keys, values};
 ghost use Rattle.flu_lemmas.specs.Late.{put_late, rises_from};
 ghost use Rattle.flu_streams.specs.Lists.{items_of_list, item_time, item_for, times_in};
 ghost use Rattle.flu_streams.specs.LoopHeld.{count_to, taken_by};
+ghost use Rattle.flu_streams.specs.LoopMoments.{Follow, between};
 ghost use Rattle.flu_streams.specs.Rounds.{is_up_to};
 
 use crate::border::Border;
@@ -57,18 +58,27 @@ impl TimedItems {
         self.early.len() + self.late.len()
     }
 
-    /// Whether one of them has a time.
-    pub(crate) fn has(&mut self, time: u64) -> Result<bool, AllocError>
+    /// How many come from a time on and before another. These follow one another, each later than the one before it by one, from the first
+    /// time on: so the last of them tells how many there are.
+    pub(crate) fn count_between(&mut self, from: u64, end: u64) -> Result<u64, AllocError>
         requires rising { IsTrue (rises_from item_time 0 self.old) }
+        requires order { from < end }
+        requires in_a_row { Follow from (between from end (times_in self.old)) }
         ensures same { self.new ≡ self.old }
-        ensures has { IfOk result (λ has. has ≡ list_any (λ t. t == time) (times_in self.old)) }
+        ensures count { IfOk result (λ count. count ≡ length (between from end (times_in self.old))) }
     {
-        part(&mut self.early, &mut self.late, time)?;
-        let count = self.early.len();
-        if count > 0 && time_of(&self.early[count - 1]) == time {
-            return Ok(true);
+        part(&mut self.early, &mut self.late, end - 1)?;
+        if let Some((time, _)) = self.late.range(from..end).next_back() {
+            return Ok(*time - from + 1);
         }
-        Ok(self.late.contains_key(&time))
+        let count = self.early.len();
+        if count > 0 {
+            let last = time_of(&self.early[count - 1]);
+            if last >= from {
+                return Ok(last - from + 1);
+            }
+        }
+        Ok(0)
     }
 
     /// Inserts an item where its time belongs.

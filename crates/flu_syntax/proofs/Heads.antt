@@ -9,104 +9,27 @@ use Rattle.flu_text.specs.declared.words.Contextual.TheVariants as contextual
 use Rattle.flu_names.specs.declared.reserved.Reserved.TheVariants as r
 use Rattle.flu_syntax.specs.declared.fault.SyntaxFault.{SyntaxFault}
 use Rattle.flu_syntax.specs.declared.fault.SyntaxFault.TheVariants as f
-use Rattle.flu_text.specs.declared.written.WrittenSpan.{WrittenSpan}
 use Rattle.flu_text.specs.declared.written.WrittenNumber.{WrittenNumber}
+use Rattle.flu_syntax.specs.declared.tree.WrittenTies.{WrittenTies}
 use Rattle.flu_syntax.specs.declared.tree.WrittenUnit.{WrittenUnit}
 use Rattle.flu_syntax.specs.declared.tree.WrittenHead.{WrittenHead}
 use Rattle.flu_syntax.specs.Tree.{Declaration, Cell, Tag, Names, Depends, On, Source, Declarations, Job}
-use Rattle.flu_text.specs.Signs.{Sign, AreSigns, is_name_word, span_of, number_of, place_of}
-use Rattle.flu_syntax.specs.Grammar.{declaration_signs, declarations_signs, head_signs, iso_signs, IsJobWithin, IsJob}
+use Rattle.flu_text.specs.Signs.{Sign, AreSigns, is_name_word, span_of, number_of, number, place_of}
+use Rattle.flu_syntax.specs.Grammar.{declaration_signs, declarations_signs, head_signs, ties_signs, iso_signs, IsJobWithin, IsJob}
 use Rattle.flu_syntax.specs.Continued.{MayGoOn, CannotTake, IsFirstThatCannotFollow, IsTooDeep}
-use Rattle.flu_syntax.specs.Machine.{Start, Verdict, Found, Unexpected, TooDeep, run, with_head, head_of, unit_of, unit_named, behind_iso, iso_or_more}
-use Rattle.flu_syntax.specs.Machine.{behind_number, numbered, behind_version, headed, verdict}
-use Rattle.flu_syntax.specs.Reading.{Tells, IsFirst as Begins, NotFirst, IsNumber, NotNumber, IsNamed, NotNamed}
+use Rattle.flu_syntax.specs.Machine.{Start, Verdict, Found, Unexpected, TooDeep, run, with_head, head_of, unit_of, behind_iso}
+use Rattle.flu_syntax.specs.Machine.{ties_of, behind_ties, verdict}
+use Rattle.flu_syntax.specs.Reading.{Tells, NotFirst, NotNumber, NotNamed}
 use Rattle.flu_syntax.proofs.Accepts.{Reaches, Same, Stops}
 use Rattle.flu_syntax.proofs.Found.{declarations_are_reached, declarations_are_found}
 use Rattle.flu_syntax.proofs.Levels.{declarations_are_kept}
 use Rattle.flu_syntax.proofs.Spelling.{declarations_are_spelled}
 use Rattle.flu_syntax.proofs.Viable.{Cannot, first_of_all}
 use Rattle.flu_syntax.proofs.Deep.{deep_at}
-
-abbrev version_word : Word
-version_word = w.Reserved r.Version
-
-abbrev iso_word : Word
-iso_word = w.Name contextual.Iso
-
-version_or_not : (word : Word) → (word ≡ version_word) ⊎ (word ≢ version_word)
-version_or_not (w.Reserved r.Version) = inl refl
-version_or_not _ = inr (λ e. cc)
-
-number_or_not : (word : Word) → ((n : ℤ) × (word ≡ w.Number n)) ⊎ ((n : ℤ) → word ≢ w.Number n)
-number_or_not (w.Number n) = inl (n, refl)
-number_or_not _ = inr (λ n e. cc)
-
-iso_or_not : (word : Word) → (word ≡ iso_word) ⊎ (word ≢ iso_word)
-iso_or_not (w.Name contextual.Iso) = inl refl
-iso_or_not _ = inr (λ e. cc)
-
-name_or_not : (word : Word) → (is_name_word word ≡ true) ⊎ (is_name_word word ≡ false)
-name_or_not (w.Name c) = inl refl
-name_or_not _ = inr refl
-
--- ---- the verdict by its first tokens
-verdict-plain : (end : ℕ) (tokens : List Token) → NotFirst version_word tokens → verdict end tokens ≡ with_head None (run end [] Start tokens)
-unfolding verdict
-verdict-plain end [] other = refl
-verdict-plain end (t ∷ tokens) other = other_word t.word other
-  where
-    other_word : (word : Word) → word ≢ version_word → headed end t word tokens ≡ with_head None (run end [] Start (t ∷ tokens))
-    other_word (w.Reserved r.Version) ne = absurd (ne refl)
-    other_word _ ne = refl
-
-verdict-versioned : (end : ℕ) (v : Token) (tokens : List Token) → v.word ≡ version_word → verdict end (v ∷ tokens) ≡ behind_version end tokens
-unfolding verdict
-verdict-versioned end v tokens is = rw is refl
-
-numbered-number : (end : ℕ) (n : ℤ) (t : Token) (tokens : List Token) → t.word ≡ w.Number n
-    → behind_version end (t ∷ tokens) ≡ behind_number end (number_of n t) tokens
-numbered-number end n t tokens is = rw is refl
-
-numbered-none : (end : ℕ) (tokens : List Token) → NotNumber tokens → behind_version end tokens ≡ Unexpected (place_of end tokens)
-numbered-none end [] other = refl
-numbered-none end (t ∷ tokens) other = other_word t.word other
-  where
-    other_word : (word : Word) → ((n : ℤ) → word ≢ w.Number n) → numbered end t word tokens ≡ Unexpected t.from
-    other_word (w.Number n) ne = absurd (ne n refl)
-    other_word _ ne = refl
-
-number-alone : (end : ℕ) (n : WrittenNumber) (tokens : List Token) → NotFirst iso_word tokens
-    → behind_number end n tokens ≡ with_head (Some (head_of n None)) (run end [] Start tokens)
-number-alone end n [] other = refl
-number-alone end n (t ∷ tokens) other = other_word t.word other
-  where
-    other_word : (word : Word) → word ≢ iso_word → iso_or_more end n t word tokens ≡ with_head (Some (head_of n None)) (run end [] Start (t ∷ tokens))
-    other_word (w.Name contextual.Iso) ne = absurd (ne refl)
-    other_word _ ne = refl
-
-number-iso : (end : ℕ) (n : WrittenNumber) (i : Token) (tokens : List Token) → i.word ≡ iso_word
-    → behind_number end n (i ∷ tokens) ≡ behind_iso end n i.from tokens
-number-iso end n i tokens is = rw is refl
-
-iso-named : (end : ℕ) (n : WrittenNumber) (at : ℕ) (t : Token) (tokens : List Token) → is_name_word t.word ≡ true
-    → behind_iso end n at (t ∷ tokens) ≡ with_head (Some (head_of n (Some (unit_of at (span_of t))))) (run end [] Start tokens)
-iso-named end n at t tokens is = a_name t.word is
-  where
-    a_name : (word : Word) → is_name_word word ≡ true
-        → unit_named end n at t word tokens ≡ with_head (Some (head_of n (Some (unit_of at (span_of t))))) (run end [] Start tokens)
-    a_name (w.Name c) is = refl
-    a_name (w.Reserved word) is = absurd cc
-    a_name (w.Number m) is = absurd cc
-    a_name w.Text is = absurd cc
-    a_name (w.Mark m) is = absurd cc
-
-iso-none : (end : ℕ) (n : WrittenNumber) (at : ℕ) (tokens : List Token) → NotNamed tokens → behind_iso end n at tokens ≡ Unexpected (place_of end tokens)
-iso-none end n at [] other = refl
-iso-none end n at (t ∷ tokens) other = no_name t.word other
-  where
-    no_name : (word : Word) → is_name_word word ≡ false → unit_named end n at t word tokens ≡ Unexpected t.from
-    no_name (w.Name c) is = absurd cc
-    no_name _ is = refl
+use Rattle.flu_syntax.proofs.HeadVerdicts.{version_word, ties_word, iso_word, version_or_not, number_or_not, ties_or_not, iso_or_not, name_or_not}
+use Rattle.flu_syntax.proofs.HeadVerdicts.{verdict-plain, verdict-versioned}
+use Rattle.flu_syntax.proofs.HeadVerdicts.{numbered-number, numbered-none, number-plain, number-ties, ties-counted, ties-none, ties-alone, ties-iso}
+use Rattle.flu_syntax.proofs.HeadVerdicts.{iso-named, iso-none}
 
 -- ---- what a head does to a verdict on declarations
 record Within (head : Option WrittenHead) (all : Verdict Declarations) (job : Job) : Type 0 where
@@ -141,9 +64,14 @@ abbrev NoLonger : Option WrittenUnit → List Token → Type 0
 NoLonger None rest = NotFirst iso_word rest
 NoLonger (Some unit) rest = Unit {0}
 
+abbrev NoTies : Option WrittenTies → Option WrittenUnit → List Token → Type 0
+NoTies None None rest = NotFirst ties_word rest
+NoTies None (Some unit) rest = Unit {0}
+NoTies (Some ties) iso rest = Unit {0}
+
 abbrev Ends : Option WrittenHead → List Token → Type 0
 Ends None rest = NotFirst version_word rest
-Ends (Some head) rest = NoLonger head.iso rest
+Ends (Some head) rest = NoTies head.ties head.iso rest × NoLonger head.iso rest
 
 not_front : (word : Word) (front rest : List Token) → NotFirst word (front ++ rest) → NotFirst word front
 not_front word [] rest other = tt
@@ -156,8 +84,13 @@ not_more word (u ∷ front) t rest more other = other
 -- so it ends there too if what follows goes on otherwise behind its first token
 ends_front : (head : Option WrittenHead) (front rest : List Token) → Ends head (front ++ rest) → Ends head front
 ends_front None front rest ends = not_front version_word front rest ends
-ends_front (Some head) front rest ends = by head.iso ends
+ends_front (Some head) front rest ends = (by_ties head.ties head.iso ends.0, by head.iso ends.1)
   where
+    by_ties : (ties : Option WrittenTies) (iso : Option WrittenUnit) → NoTies ties iso (front ++ rest) → NoTies ties iso front
+    by_ties None None ends = not_front ties_word front rest ends
+    by_ties None (Some unit) ends = tt
+    by_ties (Some ties) iso ends = tt
+
     by : (iso : Option WrittenUnit) → NoLonger iso (front ++ rest) → NoLonger iso front
     by None ends = not_front iso_word front rest ends
     by (Some unit) ends = tt
@@ -165,24 +98,36 @@ ends_front (Some head) front rest ends = by head.iso ends
 ends_more : (head : Option WrittenHead) (front : List Token) (t : Token) (rest more : List Token) → Ends head (front ++ t ∷ rest)
     → Ends head ((front ++ t ∷ []) ++ more)
 ends_more None front t rest more ends = not_more version_word front t rest more ends
-ends_more (Some head) front t rest more ends = by head.iso ends
+ends_more (Some head) front t rest more ends = (by_ties head.ties head.iso ends.0, by head.iso ends.1)
   where
+    by_ties : (ties : Option WrittenTies) (iso : Option WrittenUnit) → NoTies ties iso (front ++ t ∷ rest) → NoTies ties iso ((front ++ t ∷ []) ++ more)
+    by_ties None None ends = not_more ties_word front t rest more ends
+    by_ties None (Some unit) ends = tt
+    by_ties (Some ties) iso ends = tt
+
     by : (iso : Option WrittenUnit) → NoLonger iso (front ++ t ∷ rest) → NoLonger iso ((front ++ t ∷ []) ++ more)
     by None ends = not_more iso_word front t rest more ends
     by (Some unit) ends = tt
 
--- no declaration begins with `version` or with `iso`
+-- no declaration begins with `version`, with `ties` or with `iso`
 record NoHead (word : Word) : Type 0 where
   version : word ≢ version_word
+  ties : word ≢ ties_word
   iso : word ≢ iso_word
 
 no_head : (d : Declaration) (more : List Sign) (t : Token) (tokens : List Token) → AreSigns (declaration_signs d ++ more) (t ∷ tokens) → NoHead t.word
-no_head (Cell n cells sort) more t tokens are = let first : t.word ≡ w.Reserved r.Cell = are.0 in record { version = λ e. cc; iso = λ e. cc }
-no_head (Tag n keyed item has_value) more t tokens are = let first : t.word ≡ w.Reserved r.Tag = are.0 in record { version = λ e. cc; iso = λ e. cc }
-no_head (Names at n texts) more t tokens are = let first : t.word ≡ w.Name contextual.Names = are.0.0 in record { version = λ e. cc; iso = λ e. cc }
-no_head (Depends a b how) more t tokens are = let first : t.word ≡ w.Reserved r.Depends = are.0 in record { version = λ e. cc; iso = λ e. cc }
-no_head (On kind actions) more t tokens are = let first : t.word ≡ w.Reserved r.On = are.0 in record { version = λ e. cc; iso = λ e. cc }
-no_head (Source n file rate slack tags) more t tokens are = let first : t.word ≡ w.Reserved r.Source = are.0 in record { version = λ e. cc; iso = λ e. cc }
+no_head (Cell n cells sort) more t tokens are =
+    let first : t.word ≡ w.Reserved r.Cell = are.0 in record { version = λ e. cc; ties = λ e. cc; iso = λ e. cc }
+no_head (Tag n keyed item has_value) more t tokens are =
+    let first : t.word ≡ w.Reserved r.Tag = are.0 in record { version = λ e. cc; ties = λ e. cc; iso = λ e. cc }
+no_head (Names at n texts) more t tokens are =
+    let first : t.word ≡ w.Name contextual.Names = are.0.0 in record { version = λ e. cc; ties = λ e. cc; iso = λ e. cc }
+no_head (Depends a b how) more t tokens are =
+    let first : t.word ≡ w.Reserved r.Depends = are.0 in record { version = λ e. cc; ties = λ e. cc; iso = λ e. cc }
+no_head (On kind actions) more t tokens are =
+    let first : t.word ≡ w.Reserved r.On = are.0 in record { version = λ e. cc; ties = λ e. cc; iso = λ e. cc }
+no_head (Source n file rate slack tags) more t tokens are =
+    let first : t.word ≡ w.Reserved r.Source = are.0 in record { version = λ e. cc; ties = λ e. cc; iso = λ e. cc }
 
 no_heads : (ds : Declarations) (t : Token) (tokens : List Token) → AreSigns (declarations_signs ds) (t ∷ tokens) → NoHead t.word
 no_heads [] t tokens are = absurd are
@@ -194,7 +139,7 @@ record Split (head : Option WrittenHead) (rest : List Token) (job : Job) : Type 
   spelled : AreSigns (declarations_signs job.declarations) rest
 
 module _ (job : Job) where
-  -- behind `version` and its number
+  -- behind `version` and its number, and `ties` and its number if they are written
   record SplitUnit (iso : Option WrittenUnit) (rest : List Token) (own : Option WrittenUnit) : Type 0 where
     same : own ≡ iso
     spelled : AreSigns (declarations_signs job.declarations) rest
@@ -217,6 +162,43 @@ module _ (job : Job) where
       let same : unit_of own.at (record { from = own.name.from; to = own.name.to }) ≡ unit = rw (at, from, to) refl in
       record { same = ap Some same; spelled = whole.1.1 }
 
+  -- behind `version` and its number
+  record SplitTies (ties : Option WrittenTies) (iso : Option WrittenUnit) (rest : List Token) (own : Option WrittenTies) (unit : Option WrittenUnit)
+      : Type 0 where
+    same : own ≡ ties
+    unit_same : unit ≡ iso
+    spelled : AreSigns (declarations_signs job.declarations) rest
+
+  no_ties_behind : (unit : Option WrittenUnit) (s : Token) (tokens : List Token) → s.word ≡ ties_word
+      → AreSigns (iso_signs unit ++ declarations_signs job.declarations) (s ∷ tokens) → ⊥
+  no_ties_behind None s tokens is are = (no_heads job.declarations s tokens are).ties is
+  no_ties_behind (Some unit) s tokens is are = let both : ties_word ≡ iso_word = sym is ∙ are.0.0 in cc
+
+  split_ties : (ties own : Option WrittenTies) (iso unit : Option WrittenUnit) (front rest : List Token) → AreSigns (ties_signs ties ++ iso_signs iso) front
+      → NoTies ties iso rest → NoLonger iso rest
+      → AreSigns ((ties_signs own ++ iso_signs unit) ++ declarations_signs job.declarations) (front ++ rest) → SplitTies ties iso rest own unit
+  split_ties None None iso unit front rest are no_ties ends whole =
+      let behind = split_unit iso unit front rest are ends whole in
+      record { same = refl; unit_same = behind.same; spelled = behind.spelled }
+  split_ties None (Some own) None unit [] [] are no_ties ends whole = absurd whole
+  split_ties None (Some own) None unit [] (t ∷ rest) are no_ties ends whole = absurd (no_ties whole.0.0)
+  split_ties None (Some own) None unit (t ∷ front) rest are no_ties ends whole = absurd are
+  split_ties None (Some own) (Some iso) unit [] rest are no_ties ends whole = absurd are
+  split_ties None (Some own) (Some iso) unit (i ∷ front) rest are no_ties ends whole =
+      absurd (let both : ties_word ≡ iso_word = sym whole.0.0 ∙ are.0.0 in cc)
+  split_ties (Some ties) own iso unit [] rest are no_ties ends whole = absurd are
+  split_ties (Some ties) own iso unit (s ∷ []) rest are no_ties ends whole = absurd are.1
+  split_ties (Some ties) None iso unit (s ∷ c ∷ front) rest are no_ties ends whole =
+      absurd (no_ties_behind unit s (c ∷ front ++ rest) are.0.0 whole)
+  split_ties (Some ties) (Some own) iso unit (s ∷ c ∷ front) rest are no_ties ends whole =
+      let at : own.at ≡ ties.at = sym whole.0.1 ∙ are.0.1 in
+      let word : w.Number own.number.value ≡ w.Number ties.number.value = sym whole.1.0.0 ∙ are.1.0.0 in
+      let value : own.number.value ≡ ties.number.value = cc in
+      let place : own.number.at ≡ ties.number.at = sym whole.1.0.1 ∙ are.1.0.1 in
+      let behind = split_unit iso unit front rest are.1.1 ends whole.1.1 in
+      let same : ties_of own.at (record { value = own.number.value; at = own.number.at }) ≡ ties = rw (at, value, place) refl in
+      record { same = ap Some same; unit_same = behind.same; spelled = behind.spelled }
+
   split_head : (head own : Option WrittenHead) (front rest : List Token) → AreSigns (head_signs head) front → Ends head rest → job.head ≡ own
       → AreSigns (head_signs own ++ declarations_signs job.declarations) (front ++ rest) → Split head rest job
   split_head None None [] rest are ends is whole = record { same = is; spelled = whole }
@@ -230,8 +212,9 @@ module _ (job : Job) where
       let word : w.Number own.version.value ≡ w.Number head.version.value = sym whole.1.0.0 ∙ are.1.0.0 in
       let value : own.version.value ≡ head.version.value = cc in
       let at : own.version.at ≡ head.version.at = sym whole.1.0.1 ∙ are.1.0.1 in
-      let behind = split_unit head.iso own.iso front rest are.1.1 ends whole.1.1 in
-      let same : head_of (record { value = own.version.value; at = own.version.at }) own.iso ≡ head = rw (value, at, behind.same) refl in
+      let behind = split_ties head.ties own.ties head.iso own.iso front rest are.1.1 ends.0 ends.1 whole.1.1 in
+      let same : head_of (record { value = own.version.value; at = own.version.at }) own.ties own.iso ≡ head =
+      rw (value, at, behind.same, behind.unit_same) refl in
       record { same = is ∙ ap Some same; spelled = behind.spelled }
 
 split : (most : ℕ) (head : Option WrittenHead) (front rest : List Token) (job : Job) → AreSigns (head_signs head) front → Ends head rest
@@ -284,7 +267,7 @@ a_name = record { word = w.Name contextual.Other; from = 0; to = 0 }
 version_goes_on : (v : Token) → v.word ≡ version_word → MayGoOn (v ∷ [])
 version_goes_on v is = (
   nought ∷ [],
-  record { head = Some (head_of (number_of (pos 0) nought) None); declarations = [] },
+  record { head = Some (head_of (number_of (pos 0) nought) None None); declarations = [] },
   record { grammar = tt; spelled = (is, ((refl, refl), tt)) },
 )
 
@@ -312,97 +295,211 @@ no_number end v tokens is other = record {
   told = verdict-versioned end v tokens is ∙ numbered-none end tokens other;
 }
 
--- behind `iso` a name may follow, and nothing else
-module _ (n : ℤ) (v t i : Token) (is_version : v.word ≡ version_word) (is_number : t.word ≡ w.Number n) (is_iso : i.word ≡ iso_word) where
-  iso_goes_on : MayGoOn (v ∷ t ∷ i ∷ [])
-  iso_goes_on = (
-    a_name ∷ [],
-    record { head = Some (head_of (number_of n t) (Some (unit_of i.from (span_of a_name)))); declarations = [] },
-    record { grammar = tt; spelled = (is_version, ((is_number, refl), ((is_iso, refl), ((refl, refl, refl), tt)))) },
-  )
+-- one more token and what follows it, behind the front of a job that begins with a head
+regroup : (head front : List Token) (t : Token) (more : List Token) → ((head ++ front) ++ t ∷ []) ++ more ≡ head ++ ((front ++ t ∷ []) ++ more)
+regroup head front t more =
+    ap (λ ts. ts ++ more) (append_assoc head front (t ∷ [])) ∙ append_assoc head (front ++ t ∷ []) more
 
-  no_declaration : (ds : Declarations) (tokens : List Token) → AreSigns (declarations_signs ds) (i ∷ tokens) → ⊥
-  no_declaration ds tokens are = (no_heads ds i tokens are).iso is_iso
+-- These tokens are `version` and its number, and `ties` and its number if they are written: with a unit they are a head, a job that begins
+-- with them and `iso` has them, and the verdict is the one behind them.
+record Begun (end : ℕ) (version : WrittenNumber) (ties : Option WrittenTies) (own : List Token) : Type 0 where
+  spelled : (iso : Option WrittenUnit) (front : List Token) → AreSigns (iso_signs iso) front
+      → AreSigns (head_signs (Some (head_of version ties iso))) (own ++ front)
+  parted : (ds : Declarations) (head : Option WrittenHead) (i : Token) (tokens : List Token) → i.word ≡ iso_word
+      → AreSigns (head_signs head ++ declarations_signs ds) (own ++ i ∷ tokens)
+      → (iso : Option WrittenUnit) × AreSigns (iso_signs iso ++ declarations_signs ds) (i ∷ tokens)
+  told : (tokens : List Token) → NoTies ties None tokens → verdict end (own ++ tokens) ≡ behind_ties end version ties tokens
 
-  iso_then : (x : Token) (tokens : List Token) (ds : Declarations) (iso : Option WrittenUnit) → AreSigns (iso_signs iso ++ declarations_signs ds) (i ∷ x ∷ tokens)
-      → is_name_word x.word ≡ true
-  iso_then x tokens ds None are = absurd (no_declaration ds (x ∷ tokens) are)
-  iso_then x tokens ds (Some unit) are = are.1.0.0
-
-  iso_not_alone : (ds : Declarations) (iso : Option WrittenUnit) → AreSigns (iso_signs iso ++ declarations_signs ds) (i ∷ []) → ⊥
-  iso_not_alone ds None are = no_declaration ds [] are
-  iso_not_alone ds (Some unit) are = are.1
-
-  of_head : (ds : Declarations) (tokens : List Token) (head : Option WrittenHead) → AreSigns (head_signs head ++ declarations_signs ds) (v ∷ t ∷ tokens)
-      → (iso : Option WrittenUnit) × AreSigns (iso_signs iso ++ declarations_signs ds) tokens
-  of_head ds tokens None are = absurd ((no_heads ds v (t ∷ tokens) are).version is_version)
-  of_head ds tokens (Some head) are = (head.iso, are.1.1)
-
-  name_only : (tokens : List Token) → NotNamed tokens → CannotTake (v ∷ t ∷ i ∷ []) tokens
-  name_only [] other = λ most job j. (let iso = of_head job.declarations (i ∷ []) job.head j.spelled in iso_not_alone job.declarations iso.0 iso.1)
-  name_only (x ∷ tokens) other = λ most m.
-      (let iso = of_head m.1.declarations (i ∷ x ∷ m.0) m.1.head m.2.spelled in
-      let both : true ≡ false = sym (iso_then x m.0 m.1.declarations iso.0 iso.1) ∙ other in
-      cc)
-
-  with_unit : (end : ℕ) (tokens : List Token) → verdict end (v ∷ t ∷ i ∷ tokens) ≡ behind_iso end (number_of n t) i.from tokens
-  with_unit end tokens =
-      verdict-versioned end v (t ∷ i ∷ tokens) is_version ∙ numbered-number end n t (i ∷ tokens) is_number ∙ number-iso end (number_of n t) i tokens is_iso
-
-  no_unit : (end : ℕ) (tokens : List Token) → NotNamed tokens → Breaks end (v ∷ t ∷ i ∷ tokens)
-  no_unit end tokens other = record {
-    front = v ∷ t ∷ i ∷ [];
+module _ (end : ℕ) (version : WrittenNumber) (ties : Option WrittenTies) (own : List Token) (b : Begun end version ties own) where
+  unit_alone : (tokens : List Token) → NoTies ties None tokens → NotFirst iso_word tokens → Heads end (own ++ tokens)
+  unit_alone tokens no_ties other = record {
+    head = Some (head_of version ties None);
+    front = own;
     rest = tokens;
     whole = refl;
-    may = iso_goes_on;
-    cannot = name_only tokens other;
-    told = with_unit end tokens ∙ iso-none end (number_of n t) i.from tokens other;
+    spelled = subst (λ (ts : List Token). AreSigns (head_signs (Some (head_of version ties None))) ts) (append-nil own) (b.spelled None [] tt);
+    ends = (no_ties, other);
+    told = b.told tokens no_ties ∙ ties-alone end version ties tokens other;
   }
 
-  a_unit : (end : ℕ) (x : Token) (tokens : List Token) → is_name_word x.word ≡ true → Heads end (v ∷ t ∷ i ∷ x ∷ tokens)
-  a_unit end x tokens is = record {
-    head = Some (head_of (number_of n t) (Some (unit_of i.from (span_of x))));
-    front = v ∷ t ∷ i ∷ x ∷ [];
-    rest = tokens;
-    whole = refl;
-    spelled = (is_version, ((is_number, refl), ((is_iso, refl), ((is, refl, refl), tt))));
-    ends = tt;
-    told = with_unit end (x ∷ tokens) ∙ iso-named end (number_of n t) i.from x tokens is;
-  }
+  -- behind `iso` a name may follow, and nothing else
+  module _ (i : Token) (is_iso : i.word ≡ iso_word) where
+    iso_goes_on : MayGoOn (own ++ i ∷ [])
+    iso_goes_on =
+        let head = Some (head_of version ties (Some (unit_of i.from (span_of a_name)))) in
+        let job : Job = record { head = head; declarations = [] } in
+        let are : AreSigns (head_signs head) (own ++ i ∷ a_name ∷ []) =
+        b.spelled (Some (unit_of i.from (span_of a_name))) (i ∷ a_name ∷ []) ((is_iso, refl), ((refl, refl, refl), tt)) in
+        let is : IsJob (own ++ i ∷ a_name ∷ []) job =
+        record { grammar = tt; spelled = subst (λ (z : List Sign). AreSigns z (own ++ i ∷ a_name ∷ [])) (sym (append-nil (head_signs head))) are } in
+        (a_name ∷ [], job, subst (λ (ts : List Token). IsJob ts job) (sym (append_assoc own (i ∷ []) (a_name ∷ []))) is)
 
-  behind_the_word : (end : ℕ) (tokens : List Token) → Heads end (v ∷ t ∷ i ∷ tokens) ⊎ Breaks end (v ∷ t ∷ i ∷ tokens)
-  behind_the_word end [] = inr (no_unit end [] tt)
-  behind_the_word end (x ∷ tokens) = elim (name_or_not x.word) [
-    | inl is ↦ inl (a_unit end x tokens is)
-    | inr other ↦ inr (no_unit end (x ∷ tokens) other)
-  ]
+    no_declaration : (ds : Declarations) (tokens : List Token) → AreSigns (declarations_signs ds) (i ∷ tokens) → ⊥
+    no_declaration ds tokens are = (no_heads ds i tokens are).iso is_iso
 
-number_alone : (end : ℕ) (n : ℤ) (v t : Token) (tokens : List Token) → v.word ≡ version_word → t.word ≡ w.Number n → NotFirst iso_word tokens
-    → Heads end (v ∷ t ∷ tokens)
-number_alone end n v t tokens is number other = record {
-  head = Some (head_of (number_of n t) None);
-  front = v ∷ t ∷ [];
-  rest = tokens;
-  whole = refl;
-  spelled = (is, ((number, refl), tt));
-  ends = other;
-  told = verdict-versioned end v (t ∷ tokens) is ∙ numbered-number end n t tokens number ∙ number-alone end (number_of n t) tokens other;
-}
+    iso_then : (x : Token) (tokens : List Token) (ds : Declarations) (iso : Option WrittenUnit)
+        → AreSigns (iso_signs iso ++ declarations_signs ds) (i ∷ x ∷ tokens) → is_name_word x.word ≡ true
+    iso_then x tokens ds None are = absurd (no_declaration ds (x ∷ tokens) are)
+    iso_then x tokens ds (Some unit) are = are.1.0.0
 
-behind_the_number : (end : ℕ) (n : ℤ) (v t : Token) (tokens : List Token) → v.word ≡ version_word → t.word ≡ w.Number n
-    → Heads end (v ∷ t ∷ tokens) ⊎ Breaks end (v ∷ t ∷ tokens)
-behind_the_number end n v t [] is number = inl (number_alone end n v t [] is number tt)
-behind_the_number end n v t (i ∷ tokens) is number =
-    elim (iso_or_not i.word) [
-      | inl iso ↦ behind_the_word n v t i is number iso end tokens
-      | inr other ↦ inl (number_alone end n v t (i ∷ tokens) is number other)
+    iso_not_alone : (ds : Declarations) (iso : Option WrittenUnit) → AreSigns (iso_signs iso ++ declarations_signs ds) (i ∷ []) → ⊥
+    iso_not_alone ds None are = no_declaration ds [] are
+    iso_not_alone ds (Some unit) are = are.1
+
+    name_only : (tokens : List Token) → NotNamed tokens → CannotTake (own ++ i ∷ []) tokens
+    name_only [] other = λ most job j.
+        (let iso = b.parted job.declarations job.head i [] is_iso j.spelled in iso_not_alone job.declarations iso.0 iso.1)
+    name_only (x ∷ tokens) other = λ most m.
+        (let is = subst (λ (ts : List Token). IsJobWithin most ts m.1) (regroup own (i ∷ []) x m.0) m.2 in
+        let iso = b.parted m.1.declarations m.1.head i (x ∷ m.0) is_iso is.spelled in
+        let both : true ≡ false = sym (iso_then x m.0 m.1.declarations iso.0 iso.1) ∙ other in
+        cc)
+
+    no_more_ties : (tokens : List Token) → NoTies ties None (i ∷ tokens)
+    no_more_ties tokens = by ties
+      where
+        by : (ties : Option WrittenTies) → NoTies ties None (i ∷ tokens)
+        by None = λ e. (let both : iso_word ≡ ties_word = sym is_iso ∙ e in cc)
+        by (Some ties) = tt
+
+    no_ties_either : (unit : WrittenUnit) (tokens : List Token) → NoTies ties (Some unit) tokens
+    no_ties_either unit tokens = by ties
+      where
+        by : (ties : Option WrittenTies) → NoTies ties (Some unit) tokens
+        by None = tt
+        by (Some ties) = tt
+
+    with_unit : (tokens : List Token) → verdict end (own ++ i ∷ tokens) ≡ behind_iso end version ties i.from tokens
+    with_unit tokens = b.told (i ∷ tokens) (no_more_ties tokens) ∙ ties-iso end version ties i tokens is_iso
+
+    no_unit : (tokens : List Token) → NotNamed tokens → Breaks end (own ++ i ∷ tokens)
+    no_unit tokens other = record {
+      front = own ++ i ∷ [];
+      rest = tokens;
+      whole = sym (append_assoc own (i ∷ []) tokens);
+      may = iso_goes_on;
+      cannot = name_only tokens other;
+      told = with_unit tokens ∙ iso-none end version ties i.from tokens other;
+    }
+
+    a_unit : (x : Token) (tokens : List Token) → is_name_word x.word ≡ true → Heads end (own ++ i ∷ x ∷ tokens)
+    a_unit x tokens is = record {
+      head = Some (head_of version ties (Some (unit_of i.from (span_of x))));
+      front = own ++ i ∷ x ∷ [];
+      rest = tokens;
+      whole = sym (append_assoc own (i ∷ x ∷ []) tokens);
+      spelled = b.spelled (Some (unit_of i.from (span_of x))) (i ∷ x ∷ []) ((is_iso, refl), ((is, refl, refl), tt));
+      ends = (no_ties_either (unit_of i.from (span_of x)) tokens, tt);
+      told = with_unit (x ∷ tokens) ∙ iso-named end version ties i.from x tokens is;
+    }
+
+    behind_the_word : (tokens : List Token) → Heads end (own ++ i ∷ tokens) ⊎ Breaks end (own ++ i ∷ tokens)
+    behind_the_word [] = inr (no_unit [] tt)
+    behind_the_word (x ∷ tokens) = elim (name_or_not x.word) [
+      | inl is ↦ inl (a_unit x tokens is)
+      | inr other ↦ inr (no_unit (x ∷ tokens) other)
     ]
+
+  behind_the_begun : (tokens : List Token) → NoTies ties None tokens → Heads end (own ++ tokens) ⊎ Breaks end (own ++ tokens)
+  behind_the_begun [] no_ties = inl (unit_alone [] no_ties tt)
+  behind_the_begun (i ∷ tokens) no_ties =
+      elim (iso_or_not i.word) [
+        | inl iso ↦ behind_the_word i iso tokens
+        | inr other ↦ inl (unit_alone (i ∷ tokens) no_ties other)
+      ]
+
+module _ (n : ℤ) (v t : Token) (is_version : v.word ≡ version_word) (is_number : t.word ≡ w.Number n) where
+  number_parts : (ds : Declarations) (head : Option WrittenHead) (i : Token) (tokens : List Token) → i.word ≡ iso_word
+      → AreSigns (head_signs head ++ declarations_signs ds) (v ∷ t ∷ i ∷ tokens)
+      → (iso : Option WrittenUnit) × AreSigns (iso_signs iso ++ declarations_signs ds) (i ∷ tokens)
+  number_parts ds None i tokens is are = absurd ((no_heads ds v (t ∷ i ∷ tokens) are).version is_version)
+  number_parts ds (Some head) i tokens is are = by head.ties are.1.1
+    where
+      by : (ties : Option WrittenTies) → AreSigns ((ties_signs ties ++ iso_signs head.iso) ++ declarations_signs ds) (i ∷ tokens)
+          → (iso : Option WrittenUnit) × AreSigns (iso_signs iso ++ declarations_signs ds) (i ∷ tokens)
+      by None are = (head.iso, are)
+      by (Some ties) are = absurd (let both : iso_word ≡ ties_word = sym is ∙ are.0.0 in cc)
+
+  number_begun : (end : ℕ) → Begun end (number_of n t) None (v ∷ t ∷ [])
+  number_begun end = record {
+    spelled = λ iso front are. (is_version, ((is_number, refl), are));
+    parted = number_parts;
+    told = λ tokens no_ties.
+        (verdict-versioned end v (t ∷ tokens) is_version ∙ numbered-number end n t tokens is_number ∙ number-plain end (number_of n t) tokens no_ties);
+  }
+
+  -- behind `ties` a number may follow, and nothing else
+  module _ (s : Token) (is_ties : s.word ≡ ties_word) where
+    ties_go_on : MayGoOn (v ∷ t ∷ s ∷ [])
+    ties_go_on = (
+      nought ∷ [],
+      record { head = Some (head_of (number_of n t) (Some (ties_of s.from (number_of (pos 0) nought))) None); declarations = [] },
+      record { grammar = tt; spelled = (is_version, ((is_number, refl), ((is_ties, refl), ((refl, refl), tt)))) },
+    )
+
+    no_ties_behind_it : (ds : Declarations) (iso : Option WrittenUnit) (tokens : List Token)
+        → AreSigns (iso_signs iso ++ declarations_signs ds) (s ∷ tokens) → ⊥
+    no_ties_behind_it ds None tokens are = (no_heads ds s tokens are).ties is_ties
+    no_ties_behind_it ds (Some unit) tokens are = let both : ties_word ≡ iso_word = sym is_ties ∙ are.0.0 in cc
+
+    -- a job that begins so has rows at one time
+    ties_parted : (ds : Declarations) (head : Option WrittenHead) (tokens : List Token)
+        → AreSigns (head_signs head ++ declarations_signs ds) (v ∷ t ∷ s ∷ tokens)
+        → (ties : WrittenTies) × (iso : Option WrittenUnit) × AreSigns (number ties.number ++ (iso_signs iso ++ declarations_signs ds)) tokens
+    ties_parted ds None tokens are = absurd ((no_heads ds v (t ∷ s ∷ tokens) are).version is_version)
+    ties_parted ds (Some head) tokens are = by head.ties are.1.1
+      where
+        by : (ties : Option WrittenTies) → AreSigns ((ties_signs ties ++ iso_signs head.iso) ++ declarations_signs ds) (s ∷ tokens)
+            → (ties : WrittenTies) × (iso : Option WrittenUnit) × AreSigns (number ties.number ++ (iso_signs iso ++ declarations_signs ds)) tokens
+        by None are = absurd (no_ties_behind_it ds head.iso tokens are)
+        by (Some ties) are = (ties, head.iso, are.1)
+
+    count_only : (tokens : List Token) → NotNumber tokens → CannotTake (v ∷ t ∷ s ∷ []) tokens
+    count_only [] other = λ most job j. (ties_parted job.declarations job.head [] j.spelled).2
+    count_only (c ∷ tokens) other = λ most m.
+        (let ties = ties_parted m.1.declarations m.1.head (c ∷ m.0) m.2.spelled in other ties.0.number.value ties.2.0.0)
+
+    no_count : (end : ℕ) (tokens : List Token) → NotNumber tokens → Breaks end (v ∷ t ∷ s ∷ tokens)
+    no_count end tokens other = record {
+      front = v ∷ t ∷ s ∷ [];
+      rest = tokens;
+      whole = refl;
+      may = ties_go_on;
+      cannot = count_only tokens other;
+      told = verdict-versioned end v (t ∷ s ∷ tokens) is_version ∙ numbered-number end n t (s ∷ tokens) is_number
+          ∙ number-ties end (number_of n t) s tokens is_ties ∙ ties-none end (number_of n t) s.from tokens other;
+    }
+
+    ties_begun : (end : ℕ) (m : ℤ) (c : Token) → c.word ≡ w.Number m → Begun end (number_of n t) (Some (ties_of s.from (number_of m c))) (v ∷ t ∷ s ∷ c ∷ [])
+    ties_begun end m c is_count = record {
+      spelled = λ iso front are. (is_version, ((is_number, refl), ((is_ties, refl), ((is_count, refl), are))));
+      parted = λ ds head i tokens is are. (let ties = ties_parted ds head (c ∷ i ∷ tokens) are in (ties.1, ties.2.1));
+      told = λ tokens no_ties.
+          (verdict-versioned end v (t ∷ s ∷ c ∷ tokens) is_version ∙ numbered-number end n t (s ∷ c ∷ tokens) is_number
+          ∙ number-ties end (number_of n t) s (c ∷ tokens) is_ties ∙ ties-counted end (number_of n t) s.from m c tokens is_count);
+    }
+
+    behind_the_ties : (end : ℕ) (tokens : List Token) → Heads end (v ∷ t ∷ s ∷ tokens) ⊎ Breaks end (v ∷ t ∷ s ∷ tokens)
+    behind_the_ties end [] = inr (no_count end [] (λ m. tt))
+    behind_the_ties end (c ∷ tokens) = elim (number_or_not c.word) [
+      | inl count ↦
+          behind_the_begun end (number_of n t) (Some (ties_of s.from (number_of count.0 c))) (v ∷ t ∷ s ∷ c ∷ [])
+          (ties_begun end count.0 c count.1) tokens tt
+      | inr other ↦ inr (no_count end (c ∷ tokens) other)
+    ]
+
+  behind_the_number : (end : ℕ) (tokens : List Token) → Heads end (v ∷ t ∷ tokens) ⊎ Breaks end (v ∷ t ∷ tokens)
+  behind_the_number end [] = behind_the_begun end (number_of n t) None (v ∷ t ∷ []) (number_begun end) [] tt
+  behind_the_number end (s ∷ tokens) = elim (ties_or_not s.word) [
+    | inl ties ↦ behind_the_ties s ties end tokens
+    | inr other ↦ behind_the_begun end (number_of n t) None (v ∷ t ∷ []) (number_begun end) (s ∷ tokens) other
+  ]
 
 behind_the_version : (end : ℕ) (v : Token) (tokens : List Token) → v.word ≡ version_word → Heads end (v ∷ tokens) ⊎ Breaks end (v ∷ tokens)
 behind_the_version end v [] is = inr (no_number end v [] is (λ n. tt))
 behind_the_version end v (t ∷ tokens) is =
     elim (number_or_not t.word) [
-      | inl number ↦ behind_the_number end number.0 v t tokens is number.1
+      | inl number ↦ behind_the_number number.0 v t is number.1 end tokens
       | inr other ↦ inr (no_number end v (t ∷ tokens) is other)
     ]
 
@@ -470,11 +567,6 @@ not_reached most place v found e (Stops over f) = let both : Unexpected place �
 
 not_found_deep : (v : Verdict Declarations) (found : Declarations) → v ≡ TooDeep → v ≡ Found found → ⊥
 not_found_deep v found e f = let both : TooDeep ≡ Found found = sym e ∙ f in cc
-
--- one more token and what follows it, behind the front of a job that begins with a head
-regroup : (head front : List Token) (t : Token) (more : List Token) → ((head ++ front) ++ t ∷ []) ++ more ≡ head ++ ((front ++ t ∷ []) ++ more)
-regroup head front t more =
-    ap (λ ts. ts ++ more) (append_assoc head front (t ∷ [])) ∙ append_assoc head (front ++ t ∷ []) more
 
 headed_cannot : (end : ℕ) (head : Option WrittenHead) (own front rest : List Token) → AreSigns (head_signs head) own → Ends head (front ++ rest)
     → Cannot end [] Start front rest → CannotTake (own ++ front) rest
@@ -560,33 +652,3 @@ opens_too_many end tokens e =
       | inl h ↦ headed_deep end tokens h (with_too_deep h.head (run end [] Start h.rest) (sym h.told ∙ e))
       | inr b ↦ absurd (let both : Unexpected (place_of end b.rest) ≡ TooDeep = sym b.told ∙ e in cc)
     ]
-
--- ---- what the readers of the head do
-pub reads_no_version : (end : ℕ) (tokens : List Token) → NotFirst version_word tokens → verdict end tokens ≡ with_head None (run end [] Start tokens)
-reads_no_version end tokens other = verdict-plain end tokens other
-
-pub reads_version : (end : ℕ) (v : Token) (n : WrittenNumber) (tokens behind rest : List Token) → Begins version_word tokens v behind → IsNumber behind n rest
-    → verdict end tokens ≡ behind_number end n rest
-reads_version end v n tokens behind rest first number =
-    let t = number.0 in
-    ap (verdict end) first.0 ∙ verdict-versioned end v behind first.1 ∙ ap (behind_version end) number.1.0 ∙ numbered-number end n.value t rest number.1.1
-    ∙ ap (λ m. behind_number end m rest) (sym number.2)
-
-pub reads_no_number : (end : ℕ) (v : Token) (tokens behind : List Token) → Begins version_word tokens v behind → NotNumber behind
-    → verdict end tokens ≡ Unexpected (place_of end behind)
-reads_no_number end v tokens behind first other = ap (verdict end) first.0 ∙ verdict-versioned end v behind first.1 ∙ numbered-none end behind other
-
-pub reads_no_unit : (end : ℕ) (n : WrittenNumber) (tokens : List Token) → NotFirst iso_word tokens
-    → behind_number end n tokens ≡ with_head (Some (head_of n None)) (run end [] Start tokens)
-reads_no_unit end n tokens other = number-alone end n tokens other
-
-pub reads_unit : (end : ℕ) (n : WrittenNumber) (i : Token) (name : WrittenSpan) (tokens behind rest : List Token) → Begins iso_word tokens i behind
-    → IsNamed behind name rest → behind_number end n tokens ≡ with_head (Some (head_of n (Some (unit_of i.from name)))) (run end [] Start rest)
-reads_unit end n i name tokens behind rest first named =
-    let t = named.0 in
-    ap (behind_number end n) first.0 ∙ number-iso end n i behind first.1 ∙ ap (behind_iso end n i.from) named.1 ∙ iso-named end n i.from t rest named.2
-    ∙ ap (λ own. with_head (Some (head_of n (Some (unit_of i.from own)))) (run end [] Start rest)) (sym named.3)
-
-pub reads_no_name : (end : ℕ) (n : WrittenNumber) (i : Token) (tokens behind : List Token) → Begins iso_word tokens i behind → NotNamed behind
-    → behind_number end n tokens ≡ Unexpected (place_of end behind)
-reads_no_name end n i tokens behind first other = ap (behind_number end n) first.0 ∙ number-iso end n i behind first.1 ∙ iso-none end n i.from behind other

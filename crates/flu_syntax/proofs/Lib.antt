@@ -6,6 +6,7 @@ pub mod Found
 pub mod Spelling
 pub mod Levels
 pub mod Deep
+pub mod HeadVerdicts
 pub mod Heads
 pub mod Exact
 pub mod Words

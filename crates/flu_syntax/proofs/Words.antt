@@ -16,6 +16,7 @@ use Rattle.flu_syntax.specs.declared.tree.WrittenBy.{WrittenBy}
 use Rattle.flu_syntax.specs.declared.tree.WrittenCells.{WrittenCells}
 use Rattle.flu_syntax.specs.declared.tree.WrittenCells.TheVariants as cells
 use Rattle.flu_syntax.specs.declared.tree.WrittenItem.{WrittenItem}
+use Rattle.flu_syntax.specs.declared.tree.WrittenTies.{WrittenTies}
 use Rattle.flu_syntax.specs.declared.tree.WrittenUnit.{WrittenUnit}
 use Rattle.flu_syntax.specs.declared.tree.WrittenHead.{WrittenHead}
 use Rattle.flu_syntax.specs.Tree.{Tree, NumberTree, ValueTree, KeyTree, TimeTree, ReadTree, HasTree, ParenTree, NegTree, NotTree, TwoTree, Deed}
@@ -23,11 +24,11 @@ use Rattle.flu_syntax.specs.Tree.{Writes, Clears, Emits, Flushes, Action, Declar
 use Rattle.flu_text.specs.Signs.{Sign, Any, text, separated, keys_signs}
 use Rattle.flu_syntax.specs.Grammar.{sort_word, value_word, keyed_signs, list_signs, cells_signs, item_signs}
 use Rattle.flu_syntax.specs.Grammar.{key_signs, cell_signs, spelled, deed_signs, guard_signs, action_signs, tag_signs}
-use Rattle.flu_syntax.specs.Grammar.{rate_signs, slack_signs, iso_signs, head_signs, declaration_signs, declarations_signs, job_signs}
+use Rattle.flu_syntax.specs.Grammar.{rate_signs, slack_signs, ties_signs, iso_signs, head_signs, declaration_signs, declarations_signs, job_signs}
 use Rattle.flu_text.specs.Signs.{Stands}
 use Rattle.flu_syntax.specs.Words.{list_words, cells_words, item_words}
 use Rattle.flu_syntax.specs.Words.{key_words, cell_words, tree_words, deed_words, guard_words, action_words}
-use Rattle.flu_syntax.specs.Words.{keys_words, tag_words, number_words, declaration_words, unit_words, head_words, job_words}
+use Rattle.flu_syntax.specs.Words.{keys_words, tag_words, number_words, declaration_words, ties_words, unit_words, head_words, job_words}
 use Rattle.flu_text.specs.Laws.{SignsStand}
 use Rattle.flu_syntax.specs.Laws.{WordsStand}
 
@@ -103,13 +104,21 @@ module _ (P : Sign → Type 0) where
   slack_has None all = tt
   slack_has (Some n) all = all.1
 
+  ties_has : (ties : Option WrittenTies) → AllByRecursion P (ties_signs ties) → AllByRecursion P (ties_words ties)
+  ties_has None all = tt
+  ties_has (Some ties) all = all.1
+
   unit_has : (iso : Option WrittenUnit) → AllByRecursion P (iso_signs iso) → AllByRecursion P (unit_words iso)
   unit_has None all = tt
   unit_has (Some unit) all = all.1
 
   head_has : (head : Option WrittenHead) → AllByRecursion P (head_signs head) → AllByRecursion P (head_words head)
   head_has None all = tt
-  head_has (Some head) all = (all.1.0, unit_has head.iso all.1.1)
+  head_has (Some head) all = (
+    all.1.0,
+    all_append P (ties_words head.ties) (unit_words head.iso) (ties_has head.ties (all_front P (ties_signs head.ties) (iso_signs head.iso) all.1.1))
+        (unit_has head.iso (all_back P (ties_signs head.ties) (iso_signs head.iso) all.1.1)),
+  )
 
   cells_have : (cells : WrittenCells) → AllByRecursion P (cells_signs cells) → AllByRecursion P (cells_words cells)
   cells_have cells.Alone all = tt

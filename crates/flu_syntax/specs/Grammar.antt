@@ -25,6 +25,7 @@ use Rattle.flu_syntax.specs.declared.tree.WrittenCells.TheVariants as cells
 use Rattle.flu_syntax.specs.declared.tree.WrittenItem.{WrittenItem}
 use Rattle.flu_syntax.specs.declared.tree.WrittenRelation.{WrittenRelation}
 use Rattle.flu_syntax.specs.declared.tree.WrittenRelation.TheVariants as relation
+use Rattle.flu_syntax.specs.declared.tree.WrittenTies.{WrittenTies}
 use Rattle.flu_syntax.specs.declared.tree.WrittenUnit.{WrittenUnit}
 use Rattle.flu_syntax.specs.declared.tree.WrittenHead.{WrittenHead}
 use Rattle.flu_syntax.specs.Tree.{Tree, NumberTree, ValueTree, KeyTree, TimeTree, ReadTree, HasTree, ParenTree, NegTree, NotTree, TwoTree, Deed, Writes, Clears}
@@ -247,12 +248,17 @@ abbrev pub iso_signs : Option WrittenUnit → List Sign
 iso_signs None = []
 iso_signs (Some unit) = At (w.Name contextual.Iso) unit.at ∷ name unit.name
 
--- ["version" NUMBER ["iso" NAME]]
+-- ["ties" NUMBER], where `ties` is a name that spells it
+abbrev pub ties_signs : Option WrittenTies → List Sign
+ties_signs None = []
+ties_signs (Some ties) = At (w.Name contextual.Ties) ties.at ∷ number ties.number
+
+-- ["version" NUMBER ["ties" NUMBER] ["iso" NAME]]
 abbrev pub head_signs : Option WrittenHead → List Sign
 head_signs None = []
-head_signs (Some head) = Any (w.Reserved r.Version) ∷ (number head.version ++ iso_signs head.iso)
+head_signs (Some head) = Any (w.Reserved r.Version) ∷ (number head.version ++ ties_signs head.ties ++ iso_signs head.iso)
 
--- ["version" NUMBER ["iso" NAME]] { decl }
+-- ["version" NUMBER ["ties" NUMBER] ["iso" NAME]] { decl }
 abbrev pub job_signs : Job → List Sign
 job_signs job = head_signs job.head ++ declarations_signs job.declarations
 

@@ -27,6 +27,7 @@ use Rattle.flu_syntax.specs.declared.tree.WrittenCells.{WrittenCells}
 use Rattle.flu_syntax.specs.declared.tree.WrittenCells.TheVariants as cells
 use Rattle.flu_syntax.specs.declared.tree.WrittenItem.{WrittenItem}
 use Rattle.flu_syntax.specs.declared.tree.WrittenRelation.TheVariants as relation
+use Rattle.flu_syntax.specs.declared.tree.WrittenTies.{WrittenTies}
 use Rattle.flu_syntax.specs.declared.tree.WrittenUnit.{WrittenUnit}
 use Rattle.flu_syntax.specs.declared.tree.WrittenHead.{WrittenHead}
 use Rattle.flu_syntax.specs.declared.tokens.Front.{Front}
@@ -598,29 +599,50 @@ with_head head (Found all) = Found (record { head = head; declarations = all })
 with_head head (Unexpected place) = Unexpected place
 with_head head TooDeep = TooDeep
 
-abbrev pub head_of : WrittenNumber → Option WrittenUnit → WrittenHead
-head_of version iso = record { version = version; iso = iso }
+abbrev pub head_of : WrittenNumber → Option WrittenTies → Option WrittenUnit → WrittenHead
+head_of version ties iso = record { version = version; ties = ties; iso = iso }
 
 abbrev pub unit_of : ℕ → WrittenSpan → WrittenUnit
 unit_of at name = record { at = at; name = name }
 
--- after `iso`, which is at this place
-abbrev pub unit_named : ℕ → WrittenNumber → ℕ → Token → Word → List Token → Verdict Job
-unit_named end version at t (w.Name c) tokens = with_head (Some (head_of version (Some (unit_of at (span_of t))))) (run end [] Start tokens)
-unit_named end version at t _ tokens = Unexpected t.from
+abbrev pub ties_of : ℕ → WrittenNumber → WrittenTies
+ties_of at number = record { at = at; number = number }
 
-abbrev pub behind_iso : ℕ → WrittenNumber → ℕ → List Token → Verdict Job
-behind_iso end version at [] = Unexpected end
-behind_iso end version at (t ∷ tokens) = unit_named end version at t t.word tokens
+-- after `iso`, which is at this place
+abbrev pub unit_named : ℕ → WrittenNumber → Option WrittenTies → ℕ → Token → Word → List Token → Verdict Job
+unit_named end version ties at t (w.Name c) tokens = with_head (Some (head_of version ties (Some (unit_of at (span_of t))))) (run end [] Start tokens)
+unit_named end version ties at t _ tokens = Unexpected t.from
+
+abbrev pub behind_iso : ℕ → WrittenNumber → Option WrittenTies → ℕ → List Token → Verdict Job
+behind_iso end version ties at [] = Unexpected end
+behind_iso end version ties at (t ∷ tokens) = unit_named end version ties at t t.word tokens
+
+-- after the number of the version, and the rows at one time if they are written
+abbrev pub iso_or_more : ℕ → WrittenNumber → Option WrittenTies → Token → Word → List Token → Verdict Job
+iso_or_more end version ties t (w.Name contextual.Iso) tokens = behind_iso end version ties t.from tokens
+iso_or_more end version ties t _ tokens = with_head (Some (head_of version ties None)) (run end [] Start (t ∷ tokens))
+
+abbrev pub behind_ties : ℕ → WrittenNumber → Option WrittenTies → List Token → Verdict Job
+behind_ties end version ties [] = with_head (Some (head_of version ties None)) (run end [] Start [])
+behind_ties end version ties (t ∷ tokens) = iso_or_more end version ties t t.word tokens
+
+-- after `ties`, which is at this place
+abbrev pub ties_counted : ℕ → WrittenNumber → ℕ → Token → Word → List Token → Verdict Job
+ties_counted end version at t (w.Number n) tokens = behind_ties end version (Some (ties_of at (number_of n t))) tokens
+ties_counted end version at t _ tokens = Unexpected t.from
+
+abbrev pub behind_the_word_ties : ℕ → WrittenNumber → ℕ → List Token → Verdict Job
+behind_the_word_ties end version at [] = Unexpected end
+behind_the_word_ties end version at (t ∷ tokens) = ties_counted end version at t t.word tokens
 
 -- after the number of the version
-abbrev pub iso_or_more : ℕ → WrittenNumber → Token → Word → List Token → Verdict Job
-iso_or_more end version t (w.Name contextual.Iso) tokens = behind_iso end version t.from tokens
-iso_or_more end version t _ tokens = with_head (Some (head_of version None)) (run end [] Start (t ∷ tokens))
+abbrev pub ties_or_more : ℕ → WrittenNumber → Token → Word → List Token → Verdict Job
+ties_or_more end version t (w.Name contextual.Ties) tokens = behind_the_word_ties end version t.from tokens
+ties_or_more end version t _ tokens = behind_ties end version None (t ∷ tokens)
 
 abbrev pub behind_number : ℕ → WrittenNumber → List Token → Verdict Job
-behind_number end version [] = with_head (Some (head_of version None)) (run end [] Start [])
-behind_number end version (t ∷ tokens) = iso_or_more end version t t.word tokens
+behind_number end version [] = behind_ties end version None []
+behind_number end version (t ∷ tokens) = ties_or_more end version t t.word tokens
 
 -- after `version`
 abbrev pub numbered : ℕ → Token → Word → List Token → Verdict Job

@@ -19,6 +19,7 @@ use Rattle.flu_syntax.specs.declared.tree.WrittenCells.{WrittenCells}
 use Rattle.flu_syntax.specs.declared.tree.WrittenCells.TheVariants as cells
 use Rattle.flu_syntax.specs.declared.tree.WrittenItem.{WrittenItem}
 use Rattle.flu_syntax.specs.declared.tree.WrittenRelation.{WrittenRelation}
+use Rattle.flu_syntax.specs.declared.tree.WrittenTies.{WrittenTies}
 use Rattle.flu_syntax.specs.declared.tree.WrittenUnit.{WrittenUnit}
 use Rattle.flu_syntax.specs.declared.tree.WrittenHead.{WrittenHead}
 use Rattle.flu_syntax.specs.Tree.{Tree, ParenTree, Deed, Action, Declaration, Names, Depends, On, Source, Declarations}
@@ -28,7 +29,8 @@ use Rattle.flu_text.specs.Signs.{is_name_word, span_of, number_of}
 use Rattle.flu_syntax.specs.Machine.{Now, Start, CellFamily, CellKeys, CellKey, CellClose, InExpression, ActionStart, ActionEnd, DeedEnd, TagKind, TagKeys}
 use Rattle.flu_syntax.specs.Machine.{TagMore, TagClose, TagEnd, SourceRate, SourceSlack, SourceColon, DependsHow, Actions, Tags, Context, Aim, ToWrite, Frame}
 use Rattle.flu_syntax.specs.Machine.{ParenFrame, RightFrame, Mode, Want, Have, Done, opens, named, cell_of, tag_of, listed, source_of, acted, Verdict, Found}
-use Rattle.flu_syntax.specs.Machine.{Unexpected, TooDeep, run, verdict, with_head, head_of, behind_number, CellForm, CellBy, CellSort, TagItem, TagBy}
+use Rattle.flu_syntax.specs.Machine.{Unexpected, TooDeep, run, verdict, with_head, head_of, behind_ties, behind_number, CellForm}
+use Rattle.flu_syntax.specs.Machine.{CellBy, CellSort, TagItem, TagBy}
 use Rattle.flu_syntax.specs.Machine.{TagValue, NamesText, item_of, listing_of}
 
 -- the fault is the verdict, unless memory runs out
@@ -257,11 +259,17 @@ abbrev pub ReadsDeclarations : {X : Type 0} → ℕ → List Token → (X → De
 ReadsDeclarations end tokens declarations (Ok x) = run end [] Start tokens ≡ Found (declarations x)
 ReadsDeclarations end tokens declarations (Err fault) = Tells fault (run end [] Start tokens)
 
--- the unit of a job's times, if one is written, after the number of any version
+-- the unit of a job's times, if one is written, after the number of any version and any rows at one time
 abbrev pub ReadsUnit : {X : Type 0} → ℕ → List Token → (X → Option WrittenUnit) → (X → List Token) → Result X SyntaxFault → Type 0
 ReadsUnit end tokens unit rest (Ok x) =
-    (version : WrittenNumber) → behind_number end version tokens ≡ with_head (Some (head_of version (unit x))) (run end [] Start (rest x))
-ReadsUnit end tokens unit rest (Err fault) = (version : WrittenNumber) → Tells fault (behind_number end version tokens)
+    (version : WrittenNumber) (ties : Option WrittenTies)
+    → behind_ties end version ties tokens ≡ with_head (Some (head_of version ties (unit x))) (run end [] Start (rest x))
+ReadsUnit end tokens unit rest (Err fault) = (version : WrittenNumber) (ties : Option WrittenTies) → Tells fault (behind_ties end version ties tokens)
+
+-- how many rows a source may have at one time, if it is written, after the number of any version
+abbrev pub ReadsTies : {X : Type 0} → ℕ → List Token → (X → Option WrittenTies) → (X → List Token) → Result X SyntaxFault → Type 0
+ReadsTies end tokens ties rest (Ok x) = (version : WrittenNumber) → behind_number end version tokens ≡ behind_ties end version (ties x) (rest x)
+ReadsTies end tokens ties rest (Err fault) = (version : WrittenNumber) → Tells fault (behind_number end version tokens)
 
 -- the head of a job, if one is written: the verdict on all tokens is the verdict on the declarations after it, or the fault is the verdict
 abbrev pub ReadsHead : {X : Type 0} → ℕ → List Token → (X → Option WrittenHead) → (X → List Token) → Result X SyntaxFault → Type 0

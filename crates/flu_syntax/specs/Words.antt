@@ -13,6 +13,7 @@ use Rattle.flu_syntax.specs.declared.tree.WrittenBy.{WrittenBy}
 use Rattle.flu_syntax.specs.declared.tree.WrittenCells.{WrittenCells}
 use Rattle.flu_syntax.specs.declared.tree.WrittenCells.TheVariants as cells
 use Rattle.flu_syntax.specs.declared.tree.WrittenItem.{WrittenItem}
+use Rattle.flu_syntax.specs.declared.tree.WrittenTies.{WrittenTies}
 use Rattle.flu_syntax.specs.declared.tree.WrittenUnit.{WrittenUnit}
 use Rattle.flu_syntax.specs.declared.tree.WrittenHead.{WrittenHead}
 use Rattle.flu_syntax.specs.Tree.{Tree, NumberTree, ValueTree, KeyTree, TimeTree, ReadTree, HasTree, ParenTree, NegTree, NotTree, TwoTree, Deed, Writes, Clears}
@@ -94,14 +95,18 @@ declaration_words (Depends a b relation) = name a ++ name b
 declaration_words (On kind actions) = name kind ++ flat_map action_words actions
 declaration_words (Source n file rate slack tags) = name n ++ text file ++ number_words rate ++ number_words slack ++ flat_map tag_words tags
 
--- those of a head: the number of the version, and the name of the unit, if one is written
+-- those of a head: the number of the version, the one of the rows at one time and the name of the unit, if they are written
+abbrev pub ties_words : Option WrittenTies → List Sign
+ties_words None = []
+ties_words (Some ties) = number ties.number
+
 abbrev pub unit_words : Option WrittenUnit → List Sign
 unit_words None = []
 unit_words (Some unit) = name unit.name
 
 abbrev pub head_words : Option WrittenHead → List Sign
 head_words None = []
-head_words (Some head) = number head.version ++ unit_words head.iso
+head_words (Some head) = number head.version ++ ties_words head.ties ++ unit_words head.iso
 
 -- those of a whole job
 abbrev pub job_words : Job → List Sign

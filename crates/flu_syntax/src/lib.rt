@@ -29,5 +29,5 @@ pub use reading::read_syntax;
 pub use tree::{
     WrittenAct, WrittenAction, WrittenBy, WrittenCells, WrittenDeclaration, WrittenExpr,
     WrittenHead, WrittenItem, WrittenJob, WrittenKey, WrittenRef, WrittenRelation, WrittenTag,
-    WrittenUnit,
+    WrittenTies, WrittenUnit,
 };

@@ -5,12 +5,12 @@ ghost use Rattle.flu_syntax.specs.Tree.{job_of, declaration_of};
 ghost use Rattle.flu_syntax.specs.Grammar.{IsJob};
 ghost use Rattle.flu_syntax.specs.Continued.{IsFirstThatCannotFollow, IsTooDeep};
 ghost use Rattle.flu_syntax.specs.Machine.{verdict, Found};
-ghost use Rattle.flu_syntax.specs.Reading.{ReadsHead, ReadsUnit, ReadsDeclarations, Tells};
+ghost use Rattle.flu_syntax.specs.Reading.{ReadsHead, ReadsTies, ReadsUnit, ReadsDeclarations, Tells};
 
 use crate::declarations::declaration;
 use crate::fault::SyntaxFault;
 use crate::tokens::{name, number, take};
-use crate::tree::{WrittenDeclaration, WrittenHead, WrittenJob, WrittenUnit};
+use crate::tree::{WrittenDeclaration, WrittenHead, WrittenJob, WrittenTies, WrittenUnit};
 use flu_model::List;
 use flu_text::{Contextual, Reserved, Token, Word};
 use std::alloc::Global;
@@ -27,6 +27,21 @@ fn unit(tokens: &[Token], end: usize) -> Result<(Option<WrittenUnit>, &[Token]),
     Ok((Some(WrittenUnit { at, name }), rest))
 }
 
+/// How many rows a source may have at one time, if it is written.
+fn ties(tokens: &[Token], end: usize) -> Result<(Option<WrittenTies>, &[Token]), SyntaxFault>
+    ensures run { ReadsTies end tokens.now (λ x. x.0) (λ x. x.1.now) result }
+{
+    let Some((word, rest)) = take(tokens, Word::Name(Contextual::Ties)) else {
+        return Ok((None, tokens));
+    };
+    let (number, rest) = number(rest, end)?;
+    let ties = WrittenTies {
+        at: word.from,
+        number,
+    };
+    Ok((Some(ties), rest))
+}
+
 /// The head of a job, if one is written.
 fn head(tokens: &[Token], end: usize) -> Result<(Option<WrittenHead>, &[Token]), SyntaxFault>
     ensures run { ReadsHead end tokens.now (λ x. x.0) (λ x. x.1.now) result }
@@ -35,8 +50,9 @@ fn head(tokens: &[Token], end: usize) -> Result<(Option<WrittenHead>, &[Token]),
         return Ok((None, tokens));
     };
     let (version, rest) = number(rest, end)?;
+    let (ties, rest) = ties(rest, end)?;
     let (iso, rest) = unit(rest, end)?;
-    Ok((Some(WrittenHead { version, iso }), rest))
+    Ok((Some(WrittenHead { version, ties, iso }), rest))
 }
 
 /// Declarations up to the end.

@@ -185,10 +185,19 @@ pub struct WrittenUnit {
     pub name: WrittenSpan,
 }
 
-/// What a job begins with: the number after `version`, and the unit of its times, if one is written.
+/// How many rows a source may have at one time: the place of the word `ties`, and the number after it.
+#[derive(Clone, Copy, PartialEq, Eq)]
+pub struct WrittenTies {
+    pub at: usize,
+    pub number: WrittenNumber,
+}
+
+/// What a job begins with: the number after `version`, how many rows a source may have at one time and the unit of the times, if they are
+/// written.
 #[derive(Clone, Copy)]
 pub struct WrittenHead {
     pub version: WrittenNumber,
+    pub ties: Option<WrittenTies>,
     pub iso: Option<WrittenUnit>,
 }
 

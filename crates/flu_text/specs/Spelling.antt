@@ -38,5 +38,5 @@ marks =
 -- the word that these bytes of a name spell where the grammar has that word
 unfoldable pub contextual_of : List ℕ → Contextual
 contextual_of name =
-    if bytes_eq name (codes "item") then c.Item else if bytes_eq name (codes "iso") then c.Iso else if bytes_eq name (codes "names") then c.Names
-    else if bytes_eq name (codes "by") then c.By else c.Other
+    if bytes_eq name (codes "item") then c.Item else if bytes_eq name (codes "ties") then c.Ties else if bytes_eq name (codes "iso") then c.Iso
+    else if bytes_eq name (codes "names") then c.Names else if bytes_eq name (codes "by") then c.By else c.Other

@@ -57,6 +57,8 @@ pub enum Mark {
 pub enum Contextual {
     /// `item`
     Item,
+    /// `ties`
+    Ties,
     /// `iso`
     Iso,
     /// `names`
@@ -74,6 +76,8 @@ pub fn contextual_of(name: &[u8]) -> Contextual
 {
     if name == b"item".as_slice() {
         Contextual::Item
+    } else if name == b"ties".as_slice() {
+        Contextual::Ties
     } else if name == b"iso".as_slice() {
         Contextual::Iso
     } else if name == b"names".as_slice() {

@@ -26,6 +26,7 @@ pub is_demo_job : (p : Program) → IsDemoJob p → job_of p ≡ demo_job
 is_demo_job p demo =
     λ i. record {
       version = demo.version i;
+      ties = demo.ties i;
       iso = demo.iso i;
       lists = demo.lists i;
       families = demo.families i;

@@ -10,6 +10,7 @@ use Rattle.flu_outside.specs.Taking.{bytes_left}
 use Rattle.flu_outside.specs.Writing.{AppendsAll}
 use Rattle.flu_model.specs.declared.jobs.Source.{Source}
 use Rattle.flu_model.specs.declared.jobs.Program.{Program}
+use Rattle.flu_model.specs.Moments.{timing_of}
 use Rattle.flu_model.specs.Contents.{nothing_held}
 use Rattle.flu_model.specs.Erasure.{job_of}
 use Rattle.flu_model.specs.Modes.{IsAccepted}
@@ -131,7 +132,7 @@ given_in named first others name is =
 -- lines without a defect are sound
 sound : (p : Program) (left : Contents) → HaveNoDefect p left → AreSound p (lines_in p left)
 sound p left none = λ i s e.
-    ap (λ o. defect_in p.kinds s (option_map_or (λ (t : Source). read_file (form_of (job_of p)) (bytes_left left t.file)) o [])) e ∙ none i s e
+    ap (λ o. defect_in (timing_of p i) p.kinds s (option_map_or (λ (t : Source). read_file (form_of (job_of p)) (bytes_left left t.file)) o [])) e ∙ none i s e
 
 -- ---- fold
 fold_among : (job : List ℕ) (p : Program) → AreAmong (Fold job) job p (job ∷ files_of p.sources)

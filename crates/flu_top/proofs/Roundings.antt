@@ -19,6 +19,7 @@ use Rattle.flu_cells.specs.Holding.{held}
 use Rattle.flu_deps.specs.Checking.{program_of}
 use Rattle.flu_model.specs.declared.events.Item.{Item}
 use Rattle.flu_model.specs.declared.jobs.Program.{Program}
+use Rattle.flu_model.specs.Moments.{timing_of}
 use Rattle.flu_model.specs.Contents.{Contents}
 use Rattle.flu_model.specs.Erasure.{job_of}
 use Rattle.flu_rows.specs.Row.{form_of}
@@ -281,8 +282,9 @@ failed_behind p o a b d k l m s u had has x z old done before job number told ri
     is = subst (λ (r : Program). slice_get r.sources h.at ≡ Some h.source) job h.is;
     more = h.more;
     further = h.further;
-    sound = subst (λ (r : Program). defect_in r.kinds h.source (h.now h.at) ≡ None) job h.sound;
-    few = λ n le. subst (λ (r : ℕ). is_enough r old.border h.source (before h.at ++ take n h.more) ≡ false) number (h.few n le);
+    sound = subst (λ (r : Program). defect_in (timing_of r h.at) r.kinds h.source (h.now h.at) ≡ None) job h.sound;
+    few = λ n le. subst (λ (r : ℕ). is_enough (timing_of p h.at) r old.border h.source (before h.at ++ take n h.more) ≡ false) number
+        (subst (λ (r : Program). is_enough (timing_of r h.at) old.rows old.border h.source (before h.at ++ take n h.more) ≡ false) job (h.few n le));
     place = h.place;
     form = h.form ∙ ap (λ (r : Program). form_of (job_of r)) job;
     file = h.file;
@@ -295,10 +297,10 @@ failed_behind p o a b d k l m s u had has x z old done before job number told ri
       record {
         rounds = came.0;
         earlier = subst (λ (r : Program). AtEach (λ i s'. i < h.at → (turn : Turn)
-            × Reads r.kinds s' o.rows old.border (lines_in p was i) (before i) (h.now i) turn × IsPassed turn) r.sources)
+            × Reads (timing_of r i) r.kinds s' o.rows old.border (lines_in p was i) (before i) (h.now i) turn × IsPassed turn) r.sources)
             job
             (subst (λ (n : ℕ). AtEach (λ i s'. i < h.at → (turn : Turn)
-            × Reads old.program.kinds s' n old.border (lines_in p was i) (before i) (h.now i) turn × IsPassed turn)
+            × Reads (timing_of old.program i) old.program.kinds s' n old.border (lines_in p was i) (before i) (h.now i) turn × IsPassed turn)
             old.program.sources) number both.0);
         was = both.1;
       }) told h.told;

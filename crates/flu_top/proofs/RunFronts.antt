@@ -81,7 +81,7 @@ pub record LawsOfMending : Type 0 where
 
 -- the report of mended sources, from an opening
 abbrev mended_report : Contents → Program → Opening → List ℕ
-mended_report mended q o = report q (final_outputs q o.cells (lists_above o.border (lists_of q mended)))
+mended_report mended q o = report q (final_outputs q o.cells (lists_above q o.border (lists_of q mended)))
 
 -- a text begins with another
 abbrev BeginsWith : List ℕ → List ℕ → Type 0
@@ -301,4 +301,4 @@ fresh_law job plan depth rows adapt save unflushed left p o starts =
     ∙ ap (λ (texts : List (List ℕ)). report_behind texts left p) (append-nil (job ∷ if_named plan))
 
 pub resumed_law : LawOfBorders → ItemsAreCut → ResumedRunsGoOn
-resumed_law borders cut p lists t = (borders p nothing_held t lists (up_to t lists) (beyond t lists) (cut t lists)).lines
+resumed_law borders cut p lists t = (borders p nothing_held t lists (up_to p t lists) (beyond p t lists) (cut p t lists)).lines

@@ -333,11 +333,11 @@ module _ (job : List ℕ) (plan : Option (List ℕ)) (options : RunOptions) (p :
 
   -- all events are those of the sources behind the texts
   says_behind : (said : Option Said) (v w : Contents) → IsStarted job plan options p o v w
-      → IsPlanSaid options.adapt p (grown (no_counts p) (lists_above o.border (lists_of p w))) (line_said said)
+      → IsPlanSaid options.adapt p (grown (no_counts p) (lists_above p o.border (lists_of p w))) (line_said said)
       → IsLine (plan_said options.adapt options.rows (job ∷ if_named plan) options.resume) v p (line_said said)
   unfolding lists_behind
   says_behind said v w first is = says_line options.adapt options.rows (job ∷ if_named plan) options.resume p o v (line_said said) first.starts.opens
-      (subst (λ (left : Contents). IsPlanSaid options.adapt p (grown (no_counts p) (lists_above o.border (lists_of p left))) (line_said said))
+      (subst (λ (left : Contents). IsPlanSaid options.adapt p (grown (no_counts p) (lists_above p o.border (lists_of p left))) (line_said said))
       (sym first.ready.texts.behind) is)
 
   all_read : (said : Option Said) → RanAll p o options.save (call b d l m t u had has x z) → SaysPlan options.adapt p o said (call b d l m t u had has x z)
@@ -346,7 +346,7 @@ module _ (job : List ℕ) (plan : Option (List ℕ)) (options : RunOptions) (p :
   all_read said ran says = record {
     done = told_then (IsStarted job plan options p o)
         (λ v w. IsAllRun p o options.save ran.text v w × (TookOnly (λ name. Contains (files_of p.sources) name ⊎ IsSavedTo options.save name) v w
-        × IsPlanSaid options.adapt p (grown (no_counts p) (lists_above o.border (lists_of p v))) (line_said said)))
+        × IsPlanSaid options.adapt p (grown (no_counts p) (lists_above p o.border (lists_of p v))) (line_said said)))
         (IsDone (Run job plan options) had has (line_said said)) a b d
         (λ v w r first second. (
           p,
@@ -365,13 +365,13 @@ module _ (job : List ℕ) (plan : Option (List ℕ)) (options : RunOptions) (p :
               o,
               first.starts,
               second.0.saved name named ∙ ap (λ (left : Contents). Some
-                  (save p greatest_border (final_state p o.cells (lists_above o.border (lists_of p left))))) (sym first.ready.texts.behind),
+                  (save p greatest_border (final_state p o.cells (lists_above p o.border (lists_of p left))))) (sym first.ready.texts.behind),
             );
           },
           (
             o,
             first.starts.opens,
-            second.0.is ∙ ap (λ (left : Contents). report p (final_outputs p o.cells (lists_above o.border (lists_of p left))))
+            second.0.is ∙ ap (λ (left : Contents). report p (final_outputs p o.cells (lists_above p o.border (lists_of p left))))
                 (sym first.ready.texts.behind),
           ),
           says_behind said v w first second.1.1,
@@ -379,9 +379,9 @@ module _ (job : List ℕ) (plan : Option (List ℕ)) (options : RunOptions) (p :
         )) started
         (told_both (IsAllRun p o options.save ran.text)
         (λ v w. TookOnly (λ name. Contains (files_of p.sources) name ⊎ IsSavedTo options.save name) v w
-        × IsPlanSaid options.adapt p (grown (no_counts p) (lists_above o.border (lists_of p v))) (line_said said)) b d ran.all
+        × IsPlanSaid options.adapt p (grown (no_counts p) (lists_above p o.border (lists_of p v))) (line_said said)) b d ran.all
         (told_both (TookOnly (λ name. Contains (files_of p.sources) name ⊎ IsSavedTo options.save name))
-        (λ v w. IsPlanSaid options.adapt p (grown (no_counts p) (lists_above o.border (lists_of p v))) (line_said said)) b d
+        (λ v w. IsPlanSaid options.adapt p (grown (no_counts p) (lists_above p o.border (lists_of p v))) (line_said said)) b d
         within.others says.told));
     may_say = may_say_line options.adapt options.rows (job ∷ if_named plan) options.resume said says.may_say;
   }

@@ -11,6 +11,7 @@ use Rattle.std.proofs.lemmas.Slice.Eq.{bytes_eq-Decides}
 use Rattle.flu_outside.specs.Outside.{WhereTold, Contents}
 use Rattle.flu_model.specs.declared.events.Item.{Item}
 use Rattle.flu_model.specs.declared.jobs.Program.{Program}
+use Rattle.flu_model.specs.Moments.{timing_of}
 use Rattle.flu_model.specs.declared.jobs.Source.{Source}
 use Rattle.flu_model.specs.Contents.{nothing_held}
 use Rattle.flu_model.specs.Folding.{final_outputs}
@@ -406,12 +407,14 @@ report_refusal command p a b c k l m refusals.ReadFault whole accepted none read
       form = is.form;
       file = is.file;
       undecided = is.undecided;
-      told = told_then (IsReady command p) (λ was now. StopsWithout (form_of (job_of p)) p.kinds is.earlier is.source is.read (ahead is.place now) was)
+      told = told_then (IsReady command p)
+          (λ was now. StopsWithout (timing_of p) (form_of (job_of p)) p.kinds is.earlier is.source is.read (ahead is.place now) was)
           (λ was now. HasJob (job_wanted command) was p
-          × StopsWithout (form_of (job_of p)) p.kinds is.earlier is.source is.read (ahead is.place now) (emptied_each (texts_named command) was)) a b c
+          × StopsWithout (timing_of p) (form_of (job_of p)) p.kinds is.earlier is.source is.read (ahead is.place now)
+          (emptied_each (texts_named command) was)) a b c
           (λ x y z first stops. (
             first.has,
-            subst (λ (left : Contents). StopsWithout (form_of (job_of p)) p.kinds is.earlier is.source is.read (ahead is.place z) left)
+            subst (λ (left : Contents). StopsWithout (timing_of p) (form_of (job_of p)) p.kinds is.earlier is.source is.read (ahead is.place z) left)
                 (sym first.texts.behind) stops,
           )) ready is.told;
     })

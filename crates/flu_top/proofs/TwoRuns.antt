@@ -50,7 +50,7 @@ opens_same saves p q same bytes o opens = record {
 same_sources_report : SourcesDecide → (p : Program) (o : Opening) (texts texts' : List (List ℕ)) (left left' : Contents) → AreSameSources p texts left texts' left'
     → report_from o texts' left' p ≡ report_from o texts left p
 same_sources_report decide p o texts texts' left left' same =
-    ap (λ (lists : List (List Item)). report p (final_outputs p o.cells (lists_above o.border lists))) (decide p texts texts' left left' same).1
+    ap (λ (lists : List (List Item)). report p (final_outputs p o.cells (lists_above p o.border lists))) (decide p texts texts' left left' same).1
 
 -- what the first one left
 pub first_left : LawOfOneMeaning → (words words' : List (List ℕ)) (old new old' : Outside) (status : ℕ) → Outcome words old new status → MayHaveSaved status

@@ -5,6 +5,7 @@ use Rattle.flu_outside.specs.Outside.{Contents, Rose}
 use Rattle.flu_outside.specs.Taking.{bytes_left}
 use Rattle.flu_model.specs.declared.jobs.Source.{Source}
 use Rattle.flu_model.specs.declared.jobs.Program.{Program}
+use Rattle.flu_model.specs.Moments.{timing_of}
 use Rattle.flu_model.specs.declared.plans.Node.{Node}
 use Rattle.flu_model.specs.Contents.{nothing_held}
 use Rattle.flu_model.specs.Erasure.{job_of}
@@ -47,7 +48,7 @@ pub record NoneFailed (names : List (List ℕ)) (before now : Faults) : Type 0 w
 -- no line of a source has a defect, however many items the sources hold, as when they are read in rounds
 abbrev pub HaveNoDefect : Program → Contents → Type 0
 HaveNoDefect p left =
-    (i : ℕ) (s : Source) → slice_get p.sources i ≡ Some s → defect_in p.kinds s (read_file (form_of (job_of p)) (bytes_left left s.file)) ≡ None
+    (i : ℕ) (s : Source) → slice_get p.sources i ≡ Some s → defect_in (timing_of p i) p.kinds s (read_file (form_of (job_of p)) (bytes_left left s.file)) ≡ None
 
 -- the bytes under a name are the text of a plan that is valid for the job
 abbrev pub IsValidPlanText : List ℕ → Contents → Program → Type 0

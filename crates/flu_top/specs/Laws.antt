@@ -247,8 +247,8 @@ abbrev pub ResumedRunsGoOn : Type 0
 ResumedRunsGoOn =
     (p : Program) (lists : List (List Item)) (t : ℕ)
     → report p (final_outputs p nothing_held lists)
-    ≡ report p (final_outputs p nothing_held (up_to t lists)) ++ report p
-    (final_outputs p (final_state p nothing_held (up_to t lists)) (lists_above (Some t) lists))
+    ≡ report p (final_outputs p nothing_held (up_to p t lists)) ++ report p
+    (final_outputs p (final_state p nothing_held (up_to p t lists)) (lists_above p (Some t) lists))
 
 -- ---- demo
 -- `demo` reads no file

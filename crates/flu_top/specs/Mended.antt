@@ -28,4 +28,4 @@ RunsWriteFrontsOfMended =
     → (q : Program) × HasJob (Named job) left q
     × ((o : Opening) × StartsFrom (Run job plan options) left q o
     × WhereTold old.out new.out (λ had has. (n : ℕ)
-    × Appends n (report q (final_outputs q o.cells (lists_above o.border (lists_of q mended)))) had has))
+    × Appends n (report q (final_outputs q o.cells (lists_above q o.border (lists_of q mended)))) had has))

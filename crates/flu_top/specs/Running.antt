@@ -161,7 +161,7 @@ borders_above border = option_map_or (λ t. 2 ^ 63 - t) border (2 ^ 63 + 1)
 -- ---- how they end
 -- the items that the run has in all
 abbrev pub all_lists : Program → Opening → Files → List (List Item)
-all_lists p o left = lists_above o.border (lists_of p left)
+all_lists p o left = lists_above p o.border (lists_of p left)
 
 -- this is what a run says whose events have these counts: the text of the plan that is observed of them, if its plan follows them, and
 -- else nothing

@@ -1,12 +1,12 @@
 //! What a report does not show of the events that it is of. No clause says what is counted: hints for people alone are made of it.
 
-ghost use Rattle.std.specs.Prelude.{◌≡◌, length};
+ghost use Rattle.std.specs.Prelude.{◌≡◌, ◌<◌, length};
 ghost use Rattle.flu_model.specs.Itags.{count_of_itags};
 ghost use Rattle.flu_model.specs.Listed.{listed};
 
 use flu_cells::State;
 use flu_lines::{Counts, Span};
-use flu_model::{Itag, Item, Out, Outs, Program, Streams, itag_count};
+use flu_model::{Itag, Item, Out, Outs, Program, Streams, itag_count, moments_a_time};
 use std::alloc::Global;
 
 /// What was counted so far of the events that a report is of, round by round.
@@ -37,11 +37,12 @@ impl Tally {
             self.last_line = last;
             self.after = Span::NONE;
         }
+        let scale = moments_a_time(program);
         for i in 0..itag_count(program) {
             let items = rows.items(Itag(i));
-            let behind = span_behind(items, last);
+            let behind = span_behind(items, scale, last);
             self.after = self.after.and(behind);
-            self.add(i as usize, behind.and(ends_of(items)));
+            self.add(i as usize, behind.and(ends_of(items, scale)));
         }
     }
 
@@ -84,34 +85,38 @@ fn last_time(outs: &[Out]) -> Option<u64> {
     last
 }
 
-// The events after a time, or all events if none is given, of the items of an itag, whose times rise.
-fn span_behind(items: &[Item], time: Option<u64>) -> Span {
+// The events after a time, or all events if none is given, of the items of an itag, whose moments rise; a time has this many moments.
+fn span_behind(items: &[Item], scale: u64, time: Option<u64>) -> Span
+    requires { 0 < scale }
+{
     let mut span = Span::NONE;
     for item in items.iter().rev() {
         if let Item::Event(event) = item {
             if let Some(time) = time {
-                if event.time <= time {
+                if event.time / scale <= time {
                     break;
                 }
             }
-            span = span.and(at(event.time, 1));
+            span = span.and(at(event.time / scale, 1));
         }
     }
     span
 }
 
-// The times of the first and the last event of an itag, as a span of no event.
-fn ends_of(items: &[Item]) -> Span {
+// The times of the first and the last event of an itag, as a span of no event; a time has this many moments.
+fn ends_of(items: &[Item], scale: u64) -> Span
+    requires { 0 < scale }
+{
     let mut ends = Span::NONE;
     for item in items {
         if let Item::Event(event) = item {
-            ends = at(event.time, 0);
+            ends = at(event.time / scale, 0);
             break;
         }
     }
     for item in items.iter().rev() {
         if let Item::Event(event) = item {
-            return ends.and(at(event.time, 0));
+            return ends.and(at(event.time / scale, 0));
         }
     }
     ends

@@ -1,7 +1,7 @@
 -- What is read keeps the rules of the language, all of them.
 use Rattle.std.proofs.Common.{◌≡◌, ℕ, ◌+◌, ◌≤◌, Bool, true, List, [], ◌∷◌, ◌++◌, map, length, Option, Some, None, Ok, Err, refl, sym, ap}
 use Rattle.std.proofs.Common.{subst, ◌∙◌, arith}
-use Rattle.std.specs.Prelude.{◌&&◌, ◌||◌, ◌==◌, not, nat_lt, nat_le, slice_get, option_map}
+use Rattle.std.specs.Prelude.{◌^◌, ◌&&◌, ◌||◌, ◌==◌, not, nat_lt, nat_le, slice_get, option_map}
 use Rattle.std.specs.List.{list_all, list_any, flat_map, AllByRecursion}
 use Rattle.std.specs.Str.{IsUtf8, is_utf8}
 use Rattle.std.specs.Str.Lossy.{utf8_valid_len}
@@ -13,6 +13,7 @@ use Rattle.std.proofs.lemmas.Option.{slice_get_within, slice_get-map}
 use Rattle.flu_lemmas.specs.Totals.{total}
 use Rattle.flu_lemmas.proofs.Elements.{all_back, all_of_each, list_all_push}
 use Rattle.flu_lemmas.proofs.Tests.{and_left, and_right, both, lt_true}
+use Rattle.flu_lemmas.proofs.Booleans.{or_true}
 use Rattle.flu_lemmas.proofs.Searches.{list_any-map}
 use Rattle.flu_lemmas.proofs.Loops.{bind_ok, each-keeps, each-counts, each-lists}
 use Rattle.flu_model.specs.declared.limits.What.TheVariants.{Bytes}
@@ -24,7 +25,7 @@ use Rattle.flu_model.specs.Numberings.{Numbering}
 use Rattle.flu_model.specs.ListRules.{is_list, family_list_fits, kind_list_fits, fit_lists}
 use Rattle.flu_model.specs.Rules.{is_same_text, are_distinct, is_version, are_kinds}
 use Rattle.flu_model.specs.Texts.{Unit as TimeUnit}
-use Rattle.flu_model.specs.Versions.{is_named_item, fit_version, iso_fits}
+use Rattle.flu_model.specs.Versions.{is_named_item, fit_version, ties_fit, iso_fits}
 use Rattle.flu_names.specs.Names.{is_name}
 use Rattle.flu_model.specs.Erasure.{PlainKind, Job, plain_kind}
 use Rattle.flu_rules.specs.Kept.{KeepsRules}
@@ -32,9 +33,10 @@ use Rattle.flu_rules.specs.Keys.{TagsMeet, TagsDiffer}
 use Rattle.flu_text.specs.declared.words.Token.{Token}
 use Rattle.flu_text.specs.Reading.{reading, Reading}
 use Rattle.flu_text.specs.declared.written.WrittenSpan.{WrittenSpan}
+use Rattle.flu_syntax.specs.declared.tree.WrittenTies.{WrittenTies}
 use Rattle.flu_syntax.specs.declared.tree.WrittenUnit.{WrittenUnit}
 use Rattle.flu_syntax.specs.declared.tree.WrittenHead.{WrittenHead}
-use Rattle.flu_syntax.specs.Tree.{Action, Declaration}
+use Rattle.flu_syntax.specs.Tree.{Declaration}
 use Rattle.flu_syntax.specs.Tree as tree
 use Rattle.flu_syntax.specs.Machine.{Verdict, verdict, Unexpected, TooDeep}
 use Rattle.flu_syntax.specs.Machine.{Found as IsFound}
@@ -47,11 +49,13 @@ use Rattle.flu_layout.specs.Stands.{AreRead}
 use Rattle.flu_layout.specs.Laws.{ReadMayBePrinted}
 use Rattle.flu_parse.specs.declared.faults.JobFault.TheVariants as f
 use Rattle.flu_parse.specs.declared.names.KindHead.{KindHead}
+use Rattle.flu_parse.specs.Faults.{unless, ◌>>◌}
 use Rattle.flu_parse.specs.Naming.{Naming, in_version, is_version_3, family, naming_of, look_up, known}
 use Rattle.flu_parse.specs.Lists.{listed_families, listed_kinds}
 use Rattle.flu_parse.specs.Resolving.{Drafted}
 use Rattle.flu_parse.specs.Resolving.{with_declaration}
-use Rattle.flu_parse.specs.Resolving.{idle_kind, first_draft, draft_of, version_of, unit_named, found_unit, unit_of, iso_of, job_with, resolved}
+use Rattle.flu_parse.specs.Resolving.{idle_kind, first_draft, draft_of, version_of, ties_counted, ties_of, unit_named, found_unit, unit_of, iso_of}
+use Rattle.flu_parse.specs.Resolving.{job_with, resolved}
 use Rattle.flu_parse.specs.Reading.{text_in, found_tokens, tokens_in, found_job, written_in, job_in}
 use Rattle.flu_parse.specs.Laws.{JobsKeepRules}
 use Rattle.flu_parse.proofs.Looks.{passed}
@@ -366,11 +370,11 @@ module _ (text : List ℕ) (n : Naming) where
         ∙ (λ i. items i && actions i && not (newer && list_any is_named_item families)) ∙ version_kept ds d named kept e
 
     -- the whole job
-    rules_kept : (ds : List Declaration) (d : Drafted) (kinds : List Kind) (iso : Option TimeUnit) → is_version n.version ≡ true
-        → iso_fits n.version iso ≡ true → Names ds → AllByRecursion IsWell ds
+    rules_kept : (ds : List Declaration) (d : Drafted) (kinds : List Kind) (ties : ℕ) (iso : Option TimeUnit) → is_version n.version ≡ true
+        → ties_fit n.version ties ≡ true → iso_fits n.version iso ≡ true → Names ds → AllByRecursion IsWell ds
         → draft_of text n ds ≡ Ok d → map plain_kind kinds ≡ listed_kinds d.kinds d.kind_lists
-        → KeepsRules n.version iso d.lists (listed_families (map family n.families) d.family_lists) kinds d.depends d.sources
-    rules_kept ds d kinds iso known unit named well e same =
+        → KeepsRules n.version ties iso d.lists (listed_families (map family n.families) d.family_lists) kinds d.depends d.sources
+    rules_kept ds d kinds ties iso known count unit named well e same =
         let kept = draft_kept ds d well e in
         let families : List Family = map family n.families in
         let alike = listed_alike families d.family_lists in
@@ -393,6 +397,7 @@ module _ (text : List ℕ) (n : Naming) where
         let lists_count = lists_counted ds d named e in
         record {
           known_version = known;
+          known_ties = count;
           known_iso = unit;
           few_lists = omega (arith, keep.few_lists, lists_count);
           few_families = omega (arith, keep.few_families, length-listed_families families d.family_lists, length-map n.families family);
@@ -437,6 +442,21 @@ number_kept (Some head) version e =
     let same : value ≡ version = cc in
     ap is_version (sym same) ∙ h.0
 
+-- several rows at one time are found in version 3 alone
+count_kept : (version : ℕ) (written : Option WrittenTies) (ties : ℕ) → ties_counted version written ≡ Ok ties → ties_fit version ties ≡ true
+count_kept version None ties e = let same : 1 ≡ ties = cc in ap (ties_fit version) (sym same) ∙ or_true (version == 3)
+count_kept version (Some written) ties e =
+    let value = written_value written.number.value in
+    let within : Bool = nat_le 1 value && nat_le value (2 ^ 31) in
+    let one = passed (version == 3) (f.WrongShape written.at) (unless within (f.WrongShape written.number.at) >> Ok value) ties e in
+    let two = passed within (f.WrongShape written.number.at) (Ok value) ties one.1 in
+    let same : value ≡ ties = cc in
+    ap (ties_fit version) (sym same) ∙ both within (version == 3 || value == 1) two.0 (ap (λ b. b || value == 1) one.0)
+
+ties_kept : (version : ℕ) (written : Option WrittenHead) (ties : ℕ) → ties_of version written ≡ Ok ties → ties_fit version ties ≡ true
+ties_kept version None ties e = count_kept version None ties e
+ties_kept version (Some head) ties e = count_kept version head.ties ties e
+
 -- a unit is found in version 3 alone
 unit_kept : (text : List ℕ) (version : ℕ) (written : Option WrittenUnit) (iso : Option TimeUnit) → unit_of text version written ≡ Ok iso
     → iso_fits version iso ≡ true
@@ -465,9 +485,10 @@ keep_in_version n version keep = record {
 }
 
 -- the kinds of a job
-kinds_are : (iso : Option TimeUnit) (n : Naming) (d : Drafted) (job : Job) (kinds : List Kind) → job_with iso n d ≡ job → map plain_kind kinds ≡ job.kinds
+kinds_are : (ties : ℕ) (iso : Option TimeUnit) (n : Naming) (d : Drafted) (job : Job) (kinds : List Kind) → job_with ties iso n d ≡ job
+    → map plain_kind kinds ≡ job.kinds
     → map plain_kind kinds ≡ listed_kinds d.kinds d.kind_lists
-kinds_are iso n d job kinds is same = same ∙ ap (λ (j : Job). j.kinds) (sym is)
+kinds_are ties iso n d job kinds is same = same ∙ ap (λ (j : Job). j.kinds) (sym is)
 
 module _ (text : List ℕ) (ts : List Token) (read : AreRead text ts) (meet : TagsMeet) (differ : TagsDiffer) where
   each_well : (n : Naming) (keep : NamesKeep n) (ds : List Declaration) → AllByRecursion (λ w. AllByRecursion (Stands ts) (declaration_words w)) ds
@@ -478,22 +499,24 @@ module _ (text : List ℕ) (ts : List Token) (read : AreRead text ts) (meet : Ta
 
   resolved_kept : (written : tree.Job) (job : Job) → AllByRecursion (λ w. AllByRecursion (Stands ts) (declaration_words w)) written.declarations
       → AreDeclarations 64 written.declarations → resolved text written ≡ Ok job
-      → (kinds : List Kind) → map plain_kind kinds ≡ job.kinds → KeepsRules job.version job.iso job.lists job.families kinds job.depends job.sources
+      → (kinds : List Kind) → map plain_kind kinds ≡ job.kinds → KeepsRules job.version job.ties job.iso job.lists job.families kinds job.depends job.sources
   unfolding resolved
   resolved_kept written job words are e kinds same =
       let ds = written.declarations in
       let one = bind_ok (naming_of text ds) _ job e in
       let two = bind_ok (version_of written.head) _ job one.2 in
-      let unit = bind_ok (iso_of text two.0 written.head) _ job two.2 in
+      let count = bind_ok (ties_of two.0 written.head) _ job two.2 in
+      let unit = bind_ok (iso_of text two.0 written.head) _ job count.2 in
       let n : Naming = in_version one.0 two.0 in
-      let three = bind_ok (draft_of text n ds) (λ d. Ok (job_with unit.0 n d)) job unit.2 in
-      let is : job_with unit.0 n three.0 ≡ job = cc in
+      let three = bind_ok (draft_of text n ds) (λ d. Ok (job_with count.0 unit.0 n d)) job unit.2 in
+      let is : job_with count.0 unit.0 n three.0 ≡ job = cc in
       let keep = keep_in_version one.0 two.0 (names_kept text ts read ds one.0 words one.1) in
-      let there = kinds_are unit.0 n three.0 job kinds is same in
+      let there = kinds_are count.0 unit.0 n three.0 job kinds is same in
       let known = number_kept written.head two.0 two.1 in
+      let count_fits = ties_kept two.0 written.head count.0 count.1 in
       let fits = iso_kept text two.0 written.head unit.0 unit.1 in
-      subst (λ (j : Job). KeepsRules j.version j.iso j.lists j.families kinds j.depends j.sources) is
-      (rules_kept text n ts read keep meet differ ds three.0 kinds unit.0 known fits (record {
+      subst (λ (j : Job). KeepsRules j.version j.ties j.iso j.lists j.families kinds j.depends j.sources) is
+      (rules_kept text n ts read keep meet differ ds three.0 kinds count.0 unit.0 known count_fits fits (record {
         depends = naming_counts text ds one.0 one.1;
         sources = naming_lists text ds one.0 one.1;
         families = naming_families text ds one.0 one.1;

@@ -2,13 +2,13 @@
 use Rattle.std.proofs.Common.{◌≡◌, ◌≤◌, ◌+◌, ℕ, zero, suc, pos, Bool, true, false, Option, None, List, [], ◌∷◌, ◌++◌, map, length, Some, Ok, refl, sym, ap}
 use Rattle.std.proofs.Common.{subst, ◌∙◌}
 use Rattle.std.proofs.Common.{append_assoc, arith}
-use Rattle.std.specs.Prelude.{◌==◌, ◌&&◌, ◌||◌, not, slice_get, if◌then◌else◌, codes}
+use Rattle.std.specs.Prelude.{◌^◌, nat_le, nat_lt, ◌==◌, ◌&&◌, ◌||◌, not, slice_get, if◌then◌else◌, codes}
 use Rattle.std.specs.List.{list_all, list_any}
 use Rattle.std.specs.Str.{IsUtf8}
 use Rattle.std.proofs.lemmas.List.{append-nil}
 use Rattle.std.proofs.lemmas.List.Concat.{flat_map-append}
 use Rattle.std.proofs.lemmas.List.Folds.{list_any-append}
-use Rattle.flu_lemmas.proofs.Tests.{le_true, true_eq, and_left, and_right, not_true}
+use Rattle.flu_lemmas.proofs.Tests.{le_true, true_le, lt_true, true_eq, and_left, and_right, not_true, not_both}
 use Rattle.flu_lemmas.proofs.Booleans.{or_front, or_turns, three_left, three_middle, three_right}
 use Rattle.flu_lemmas.proofs.Elements.{fails_at}
 use Rattle.flu_lemmas.specs.Items.{Begins}
@@ -31,6 +31,7 @@ use Rattle.flu_calendar.specs.declared.unit.Unit.TheVariants.{Seconds, Milliseco
 use Rattle.flu_model.specs.Versions.{is_named_item, iso_fits}
 use Rattle.flu_names.specs.declared.reserved.Reserved.TheVariants as r
 use Rattle.flu_rules.specs.Keys.{TagsMeet, TagsDiffer}
+use Rattle.flu_syntax.specs.declared.tree.WrittenTies.{WrittenTies}
 use Rattle.flu_syntax.specs.declared.tree.WrittenUnit.{WrittenUnit}
 use Rattle.flu_syntax.specs.declared.tree.WrittenHead.{WrittenHead}
 use Rattle.flu_syntax.specs.Tree.{Declaration, Job as WrittenJob}
@@ -39,17 +40,18 @@ use Rattle.flu_text.specs.declared.words.Word.TheVariants as w
 use Rattle.flu_text.specs.declared.words.Contextual.TheVariants as contextual
 use Rattle.flu_text.specs.Spelling.{contextual_of}
 use Rattle.flu_text.specs.Signs.{At, IsSign, is_name_word, span_of}
-use Rattle.flu_syntax.specs.Grammar.{declaration_signs, declarations_signs, iso_signs, head_signs, job_signs, IsJob}
+use Rattle.flu_syntax.specs.Grammar.{declaration_signs, declarations_signs, ties_signs, iso_signs, head_signs, job_signs, IsJob}
 use Rattle.flu_syntax.specs.Laws.{FoundIsJob}
 use Rattle.flu_names.specs.Names.{is_name}
-use Rattle.flu_layout.specs.Laid.{blank, line_end, reserved, number}
+use Rattle.flu_layout.specs.Laid.{blank, line_end, reserved, name, number}
 use Rattle.flu_layout.specs.Stands.{Stand}
 use Rattle.flu_layout.specs.Laws.{LaidIsRead, BegunAreSigns, KeysAreSpelled, KeysAreLaid}
 use Rattle.flu_parse.specs.declared.faults.JobFault.TheVariants as f
 use Rattle.flu_parse.specs.Faults.{Found, ◌>>=◌, ◌>>◌, unless, each}
 use Rattle.flu_parse.specs.Naming.{Naming, in_version, family, look_up, no_names, naming_of}
 use Rattle.flu_parse.specs.Lists.{listed_families, listed_kinds}
-use Rattle.flu_parse.specs.Resolving.{Drafted, with_declaration, idle_kind, draft_of, version_of, unit_named, found_unit, unit_of, iso_of}
+use Rattle.flu_parse.specs.Resolving.{Drafted, with_declaration, idle_kind, draft_of, version_of, ties_counted, ties_of, unit_named, found_unit}
+use Rattle.flu_parse.specs.Resolving.{unit_of, iso_of}
 use Rattle.flu_parse.specs.Resolving.{job_with as draft_with}
 use Rattle.flu_parse.specs.Resolving.{resolved}
 use Rattle.flu_parse.specs.Reading.{text_in, found_tokens, tokens_in, found_job, written_in, job_in}
@@ -60,7 +62,8 @@ use Rattle.flu_parse.proofs.Kept.Plain.{plain_kind_fits}
 use Rattle.flu_parse.proofs.Kept.Versions.{items_suit, actions_suit}
 use Rattle.flu_parse.proofs.Printed.ListFits.{plain_kind_list_fits, families_listed, plain_kinds_listed, lists_known}
 use Rattle.flu_parse.proofs.Printed.Rules.{plain_depend_fits, plain_source_fits, names_of_job, JobFits}
-use Rattle.flu_parse.proofs.Printed.Words.{iso_words, version_words, names_line_words, cell_line_words, tag_line_words, depends_line_words, source_line_words}
+use Rattle.flu_parse.proofs.Printed.Words.{behind_count, unit_words, third_words, version_words, names_line_words, cell_line_words, tag_line_words}
+use Rattle.flu_parse.proofs.Printed.Words.{depends_line_words, source_line_words}
 use Rattle.flu_parse.proofs.Printed.Words.{job_words, job_layout}
 use Rattle.flu_parse.proofs.Printed.LaidLines.{names_of_kinds, job_laid}
 use Rattle.flu_parse.proofs.Printed.ReadTerms.{family_head, FamiliesKnown}
@@ -242,15 +245,19 @@ module _ (begun : BegunAreSigns) (meet : TagsMeet) (differ : TagsDiffer) (job : 
     head : Option WrittenHead
     parts : Parts
     version_is : version_of head ≡ Ok job.version
+    ties_is : ties_of job.version head ≡ Ok job.ties
     iso_is : iso_of whole job.version head ≡ Ok job.iso
     is : IsJob ts (record { head = head; declarations = all_parts parts })
 
-  -- the unit behind the number of version 3, as it is read
+  -- the unit of the times, as it is read
   record UnitIs (iso : Option TimeUnit) (rest : List Laid) (ts : List Token) : Type 0 where
-    at : ℕ
     written : Option WrittenUnit
-    took : Took IsSign (Stand whole) (At (w.Number (pos 3)) at ∷ iso_signs written) rest ts
+    took : Took IsSign (Stand whole) (iso_signs written) rest ts
     is : unit_of whole 3 written ≡ Ok iso
+
+  ties_spelled : w.Name (contextual_of (codes "ties")) ≡ w.Name contextual.Ties
+  unfolding contextual_of
+  ties_spelled = refl
 
   iso_spelled : w.Name (contextual_of (codes "iso")) ≡ w.Name contextual.Iso
   unfolding contextual_of
@@ -261,75 +268,133 @@ module _ (begun : BegunAreSigns) (meet : TagsMeet) (differ : TagsDiffer) (job : 
   unit_said Milliseconds at = refl
   unit_said Microseconds at = refl
 
-  read_unit : (iso : Option TimeUnit) (rest : List Laid) (ts : List Token) → Stand whole (iso_words iso rest) ts → UnitIs iso rest ts
-  read_unit None rest ts h = record {
-    at = h.0.from;
-    written = None;
-    took = record { rest = h.1; begins = (h.0, h.1, h.2, (h.3.word, refl), refl); stand = h.4 };
-    is = refl;
-  }
+  read_unit : (iso : Option TimeUnit) (rest : List Laid) (ts : List Token) → Stand whole (unit_words iso rest) ts → UnitIs iso rest ts
+  read_unit None rest ts h = record { written = None; took = took_none IsSign (Stand whole) rest ts h; is = refl }
   read_unit (Some unit) rest ts h =
-      let word = h.4 in
-      let n = word.4 in
-      let written : WrittenUnit = record { at = word.0.from; name = span_of n.0 } in
+      let n = h.4 in
+      let written : WrittenUnit = record { at = h.0.from; name = span_of n.0 } in
       record {
-        at = h.0.from;
         written = Some written;
         took = record {
           rest = n.1;
-          begins = (
-            h.0,
-            h.1,
-            h.2,
-            (h.3.word, refl),
-            (word.0, word.1, word.2, (word.3.word ∙ iso_spelled, refl), (n.0, n.1, n.2, (ap is_name_word n.3.word, refl, refl), refl)),
-          );
+          begins = (h.0, h.1, h.2, (h.3.word ∙ iso_spelled, refl), (n.0, n.1, n.2, (ap is_name_word n.3.word, refl, refl), refl));
           stand = n.4;
         };
         is = ap (λ name. found_unit n.0.from (unit_named name)) (n.3.named refl) ∙ unit_said unit n.0.from;
       }
+
+  -- the number of version 3, how many rows a source may have at one time, and the unit of the times, as they are read
+  record ThirdIs (ties : ℕ) (iso : Option TimeUnit) (rest : List Laid) (ts : List Token) : Type 0 where
+    at : ℕ
+    counted : Option WrittenTies
+    unit : Option WrittenUnit
+    took : Took IsSign (Stand whole) (At (w.Number (pos 3)) at ∷ (ties_signs counted ++ iso_signs unit)) rest ts
+    ties_is : ties_counted 3 counted ≡ Ok ties
+    unit_is : unit_of whole 3 unit ≡ Ok iso
+
+  one_left : (ties : ℕ) → nat_le 1 ties ≡ true → nat_lt 1 ties ≡ false → ties ≡ 1
+  one_left zero some few = absurd (let le : 1 ≤ 0 = true_le 1 0 some in omega (arith, le))
+  one_left (suc zero) some few = refl
+  one_left (suc (suc t)) some few = absurd (not_both (nat_lt 1 (suc (suc t))) (lt_true 1 (suc (suc t)) (omega arith)) few)
+
+  read_third : (ties : ℕ) (iso : Option TimeUnit) (rest : List Laid) (ts : List Token) → (nat_le 1 ties && nat_le ties (2 ^ 31)) ≡ true
+      → Stand whole (third_words ties iso rest) ts → ThirdIs ties iso rest ts
+  read_third ties iso rest ts within h = by (nat_lt 1 ties) refl h
+    where
+      by : (several : Bool) → nat_lt 1 ties ≡ several → Stand whole (if several
+          then number (pos 3) blank ∷ name (codes "ties") blank ∷ number (pos ties) (behind_count iso) ∷ unit_words iso rest
+          else number (pos 3) (behind_count iso) ∷ unit_words iso rest) ts → ThirdIs ties iso rest ts
+      by true e h =
+          let word = h.4 in
+          let n = word.4 in
+          let behind = read_unit iso rest n.1 n.4 in
+          let counted : WrittenTies = record { at = word.0.from; number = record { value = pos ties; at = n.0.from } } in
+          record {
+            at = h.0.from;
+            counted = Some counted;
+            unit = behind.written;
+            took = record {
+              rest = behind.took.rest;
+              begins = (
+                h.0,
+                h.1,
+                h.2,
+                (h.3.word, refl),
+                (word.0, word.1, word.2, (word.3.word ∙ ties_spelled, refl), (n.0, n.1, n.2, (n.3.word, refl), behind.took.begins)),
+              );
+              stand = behind.took.stand;
+            };
+            ties_is = ap (λ b. unless b (f.WrongShape n.0.from) >> Ok ties) within;
+            unit_is = behind.is;
+          }
+      by false e h =
+          let behind = read_unit iso rest h.1 h.4 in
+          record {
+            at = h.0.from;
+            counted = None;
+            unit = behind.written;
+            took = record {
+              rest = behind.took.rest;
+              begins = (h.0, h.1, h.2, (h.3.word, refl), behind.took.begins);
+              stand = behind.took.stand;
+            };
+            ties_is = ap Ok (sym (one_left ties (and_left (nat_le 1 ties) (nat_le ties (2 ^ 31)) within) e));
+            unit_is = behind.is;
+          }
 
   -- the head, as it is read
   record HeadIs (rest : List Laid) (ts : List Token) : Type 0 where
     written : Option WrittenHead
     took : Took IsSign (Stand whole) (head_signs written) rest ts
     version_is : version_of written ≡ Ok job.version
+    ties_is : ties_of job.version written ≡ Ok job.ties
     iso_is : iso_of whole job.version written ≡ Ok job.iso
+
+  -- only version 3 has several rows at one time
+  one_tie : (job.version == 3) ≡ false → job.ties ≡ 1
+  one_tie older =
+      let right = three_right (nat_le 1 job.ties) (nat_le job.ties (2 ^ 31)) (job.version == 3 || job.ties == 1) fits.known_ties in
+      true_eq job.ties 1 (sym (ap (λ b. b || job.ties == 1) older) ∙ right)
 
   -- only version 3 has a unit
   no_unit : (iso : Option TimeUnit) → iso_fits job.version iso ≡ true → (job.version == 3) ≡ false → iso ≡ None
   no_unit None fits older = refl
   no_unit (Some unit) fits older = absurd (let both : true ≡ false = sym fits ∙ older in cc)
 
-  read_head : (rest : List Laid) (ts : List Token) → Stand whole (version_words job.version job.iso rest) ts → HeadIs rest ts
+  read_head : (rest : List Laid) (ts : List Token) → Stand whole (version_words job.version job.ties job.iso rest) ts → HeadIs rest ts
   read_head rest ts h = by (job.version == 2) (job.version == 3) refl refl h
     where
       by : (two three : Bool) → (job.version == 2) ≡ two → (job.version == 3) ≡ three
           → Stand whole (if two then reserved r.Version blank ∷ number (pos 2) line_end ∷ rest
-          else if three then reserved r.Version blank ∷ iso_words job.iso rest else rest) ts
+          else if three then reserved r.Version blank ∷ third_words job.ties job.iso rest else rest) ts
           → HeadIs rest ts
       by true three e g h =
           let two = true_eq job.version 2 e in
+          let older : (job.version == 3) ≡ false = ap (λ v. v == 3) two in
           record {
-            written = Some (record { version = record { value = pos 2; at = h.4.0.from }; iso = None });
+            written = Some (record { version = record { value = pos 2; at = h.4.0.from }; ties = None; iso = None });
             took = record { rest = h.4.1; begins = (h.0, h.1, h.2, h.3.word, (h.4.0, h.4.1, h.4.2, (h.4.3.word, refl), refl)); stand = h.4.4 };
             version_is = ap Ok (sym two);
-            iso_is = ap Ok (sym (no_unit job.iso fits.known_iso (ap (λ v. v == 3) two)));
+            ties_is = ap Ok (sym (one_tie older));
+            iso_is = ap Ok (sym (no_unit job.iso fits.known_iso older));
           }
       by false true e g h =
-          let unit = read_unit job.iso rest h.1 h.4 in
+          let within = and_left (nat_le 1 job.ties && nat_le job.ties (2 ^ 31)) (job.version == 3 || job.ties == 1) fits.known_ties in
+          let third = read_third job.ties job.iso rest h.1 within h.4 in
           let three = true_eq job.version 3 g in
           record {
-            written = Some (record { version = record { value = pos 3; at = unit.at }; iso = unit.written });
-            took = record { rest = unit.took.rest; begins = (h.0, h.1, h.2, h.3.word, unit.took.begins); stand = unit.took.stand };
+            written = Some (record { version = record { value = pos 3; at = third.at }; ties = third.counted; iso = third.unit });
+            took = record { rest = third.took.rest; begins = (h.0, h.1, h.2, h.3.word, third.took.begins); stand = third.took.stand };
             version_is = ap Ok (sym three);
-            iso_is = ap (λ v. unit_of whole v unit.written) three ∙ unit.is;
+            ties_is = ap (λ v. ties_counted v third.counted) three ∙ third.ties_is;
+            iso_is = ap (λ v. unit_of whole v third.unit) three ∙ third.unit_is;
           }
       by false false e g h = record {
         written = None;
         took = took_none IsSign (Stand whole) rest ts h;
         version_is = ap Ok (sym (true_eq job.version 1 (or_front (job.version == 1) (job.version == 2)
             (or_front ((job.version == 1) || (job.version == 2)) (job.version == 3) fits.known_version g) e)));
+        ties_is = ap Ok (sym (one_tie g));
         iso_is = ap Ok (sym (no_unit job.iso fits.known_iso g));
       }
 
@@ -383,6 +448,7 @@ module _ (begun : BegunAreSigns) (meet : TagsMeet) (differ : TagsDiffer) (job : 
         head = head.written;
         parts = p;
         version_is = head.version_is;
+        ties_is = head.ties_is;
         iso_is = head.iso_is;
         is = record {
           grammar =
@@ -503,20 +569,24 @@ module _ (begun : BegunAreSigns) (meet : TagsMeet) (differ : TagsDiffer) (job : 
             p.are_sources refl fits.sources fits.own_files few,
       )
 
-  resolved_is : (p : Parts) (head : Option WrittenHead) → version_of head ≡ Ok job.version → iso_of whole job.version head ≡ Ok job.iso
+  resolved_is : (p : Parts) (head : Option WrittenHead) → version_of head ≡ Ok job.version → ties_of job.version head ≡ Ok job.ties
+      → iso_of whole job.version head ≡ Ok job.iso
       → resolved whole (record { head = head; declarations = all_parts p }) ≡ Ok job
   unfolding n resolved
-  resolved_is p head known unit =
+  resolved_is p head known counted unit =
       let d = drafted p in
       let names : Naming = naming_of_job job in
-      ap (λ (r : Found Naming). r >>= λ m. version_of head >>= λ v. iso_of whole v head >>= λ iso. draft_of whole (in_version m v) (all_parts p) >>=
-      λ d. Ok (draft_with iso (in_version m v) d)) (named p)
-      ∙ ap (λ (r : Found ℕ). r >>= λ v. iso_of whole v head >>= λ iso. draft_of whole (in_version names v) (all_parts p) >>=
-      λ d. Ok (draft_with iso (in_version names v) d)) known
-      ∙ ap (λ (r : Found (Option TimeUnit)). r >>= λ iso. draft_of whole n (all_parts p) >>= λ d. Ok (draft_with iso n d)) unit
-      ∙ ap (λ (r : Found Drafted). r >>= λ d. Ok (draft_with job.iso n d)) d.2
+      ap (λ (r : Found Naming). r >>= λ m. version_of head >>= λ v. ties_of v head >>= λ ties. iso_of whole v head >>= λ iso.
+      draft_of whole (in_version m v) (all_parts p) >>= λ d. Ok (draft_with ties iso (in_version m v) d)) (named p)
+      ∙ ap (λ (r : Found ℕ). r >>= λ v. ties_of v head >>= λ ties. iso_of whole v head >>= λ iso.
+      draft_of whole (in_version names v) (all_parts p) >>= λ d. Ok (draft_with ties iso (in_version names v) d)) known
+      ∙ ap (λ (r : Found ℕ). r >>= λ ties. iso_of whole job.version head >>= λ iso. draft_of whole n (all_parts p) >>=
+      λ d. Ok (draft_with ties iso n d)) counted
+      ∙ ap (λ (r : Found (Option TimeUnit)). r >>= λ iso. draft_of whole n (all_parts p) >>= λ d. Ok (draft_with job.ties iso n d)) unit
+      ∙ ap (λ (r : Found Drafted). r >>= λ d. Ok (draft_with job.ties job.iso n d)) d.2
       ∙ ap (λ fs. Ok (let j : Job = record {
         version = job.version;
+        ties = job.ties;
         iso = job.iso;
         lists = job.lists;
         families = fs;
@@ -526,6 +596,7 @@ module _ (begun : BegunAreSigns) (meet : TagsMeet) (differ : TagsDiffer) (job : 
       } in j)) (families_back 0 job.families)
       ∙ ap (λ ks. Ok (let j : Job = record {
         version = job.version;
+        ties = job.ties;
         iso = job.iso;
         lists = job.lists;
         families = job.families;
@@ -549,7 +620,7 @@ laid_is_read read begun keys found meet differ job fits utf8 few =
     ∙ ap (λ (r : Found (List ℕ)). r >>= rest) (text_in-utf8 whole whole refl utf8)
     ∙ ap (λ (r : TokenReading). found_tokens r >>= λ ts. written_in (length whole) ts >>= λ written. resolved whole written) reads.0
     ∙ ap (λ (v : Verdict WrittenJob). found_job v >>= λ written. resolved whole written) ((found (length whole) ts written).1 parts.is)
-    ∙ resolved_is begun meet differ job fits whole utf8 parts.parts parts.head parts.version_is parts.iso_is
+    ∙ resolved_is begun meet differ job fits whole utf8 parts.parts parts.head parts.version_is parts.ties_is parts.iso_is
 
 pub job_is_read : LaidIsRead → BegunAreSigns → KeysAreSpelled → KeysAreLaid → FoundIsJob → TagsMeet → TagsDiffer → (job : Job) → JobFits job
     → IsUtf8 (normal_form job)

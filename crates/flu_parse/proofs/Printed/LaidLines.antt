@@ -35,7 +35,8 @@ use Rattle.flu_parse.specs.Printing.{list_name, kind_name, unit_name}
 use Rattle.flu_parse.proofs.Kept.Plain.{plain_action_fits, plain_kind_fits}
 use Rattle.flu_parse.proofs.Printed.Rules.{plain_kind_is_keyed, plain_depend_fits, plain_listed_fits, plain_tag_fits, plain_source_fits, JobFits}
 use Rattle.flu_parse.proofs.Printed.ListFits.{plain_kind_list_fits, families_listed, plain_kinds_listed, list_facts, list_named, listed_bytes, listed_short}
-use Rattle.flu_parse.proofs.Printed.Words.{action_words, iso_words, version_words, text_words, texts_words, names_line_words, by_words}
+use Rattle.flu_parse.proofs.Printed.Words.{action_words, behind_count, unit_words, third_words, version_words, text_words, texts_words, names_line_words}
+use Rattle.flu_parse.proofs.Printed.Words.{by_words}
 use Rattle.flu_parse.proofs.Printed.Words.{keyed_words, sort_reserved, cell_line_words, item_words, value_reserved}
 use Rattle.flu_parse.proofs.Printed.Words.{tag_line_words, behind_depends, same_words, depends_line_words, actions_words, on_line_words, tag_words}
 use Rattle.flu_parse.proofs.Printed.Words.{listed_words, behind_rate, slack_words, source_line_words, job_words}
@@ -284,19 +285,36 @@ unit_is_name Seconds = refl
 unit_is_name Milliseconds = refl
 unit_is_name Microseconds = refl
 
-laid_iso : (iso : Option Unit) (rest : List Laid) → AreLaid rest → AreLaid (iso_words iso rest)
-laid_iso None rest laid = laid_number (pos 3) line_end rest refl refl refl laid
-laid_iso (Some unit) rest laid =
-    laid_number (pos 3) blank _ refl refl refl
-    (laid_name (codes "iso") blank _ refl refl refl (laid_name (unit_name unit) line_end rest (unit_is_name unit) refl refl laid))
+laid_unit : (iso : Option Unit) (rest : List Laid) → AreLaid rest → Follows (behind_count iso) (unit_words iso rest)
+laid_unit None rest laid = record { blank = refl; ends = refl; laid = laid }
+laid_unit (Some unit) rest laid = record {
+  blank = refl;
+  ends = refl;
+  laid = laid_name (codes "iso") blank _ refl refl refl (laid_name (unit_name unit) line_end rest (unit_is_name unit) refl refl laid);
+}
 
-laid_version : (version : ℕ) (iso : Option Unit) (rest : List Laid) → AreLaid rest → AreLaid (version_words version iso rest)
-laid_version version iso rest laid = by (version == 2) (version == 3)
+laid_third : (ties : ℕ) (iso : Option Unit) (rest : List Laid) → ties ≤ 2 ^ 31 → AreLaid rest → AreLaid (third_words ties iso rest)
+laid_third ties iso rest few laid =
+    let unit = laid_unit iso rest laid in
+    by (nat_lt 1 ties)
+    (laid_number (pos 3) blank _ refl refl refl (laid_name (codes "ties") blank _ refl refl refl
+    (laid_number (pos ties) (behind_count iso) (unit_words iso rest) (lt_true ties (2 ^ 63) (omega arith)) unit.blank unit.ends unit.laid)))
+    (laid_number (pos 3) (behind_count iso) (unit_words iso rest) refl unit.blank unit.ends unit.laid)
+  where
+    by : (several : Bool) → AreLaid (number (pos 3) blank ∷ name (codes "ties") blank ∷ number (pos ties) (behind_count iso) ∷ unit_words iso rest)
+        → AreLaid (number (pos 3) (behind_count iso) ∷ unit_words iso rest)
+        → AreLaid (if several then number (pos 3) blank ∷ name (codes "ties") blank ∷ number (pos ties) (behind_count iso) ∷ unit_words iso rest
+        else number (pos 3) (behind_count iso) ∷ unit_words iso rest)
+    by true long short = long
+    by false long short = short
+
+laid_version : (version ties : ℕ) (iso : Option Unit) (rest : List Laid) → ties ≤ 2 ^ 31 → AreLaid rest → AreLaid (version_words version ties iso rest)
+laid_version version ties iso rest few laid = by (version == 2) (version == 3)
   where
     by : (two three : Bool) → AreLaid (if two then reserved r.Version blank ∷ number (pos 2) line_end ∷ rest
-        else if three then reserved r.Version blank ∷ iso_words iso rest else rest)
+        else if three then reserved r.Version blank ∷ third_words ties iso rest else rest)
     by true three = laid_reserved r.Version blank _ refl refl (laid_number (pos 2) line_end rest refl refl refl laid)
-    by false true = laid_reserved r.Version blank _ refl refl (laid_iso iso rest laid)
+    by false true = laid_reserved r.Version blank _ refl refl (laid_third ties iso rest few laid)
     by false false = laid
 
 -- the words of the normal form are laid out
@@ -317,4 +335,5 @@ job_laid laid_keys job fits =
     let cells = lines_hold (cell_line_words job.lists) (λ (f : Family). is_name f.name && family_list_fits job.lists f) AreLaid
     (laid_cell_line job.lists fits.lists) job.families _
     (list_all_both (λ (f : Family). is_name f.name) (family_list_fits job.lists) job.families fits.families families_fit) tags in
-    laid_version job.version job.iso _ (lines_hold names_line_words is_list AreLaid laid_names_line job.lists _ fits.lists cells)
+    let few = true_le job.ties (2 ^ 31) (three_middle (nat_le 1 job.ties) (nat_le job.ties (2 ^ 31)) (job.version == 3 || job.ties == 1) fits.known_ties) in
+    laid_version job.version job.ties job.iso _ few (lines_hold names_line_words is_list AreLaid laid_names_line job.lists _ fits.lists cells)

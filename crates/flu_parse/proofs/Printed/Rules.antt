@@ -16,7 +16,7 @@ use Rattle.flu_model.specs.Rules.{is_version, is_same_text, are_distinct, kind_i
 use Rattle.flu_model.specs.Rules.{is_same_tag, source_fits}
 use Rattle.flu_model.specs.Listing.{tags_of_source, itags_of_sources}
 use Rattle.flu_model.specs.Texts.{Unit}
-use Rattle.flu_model.specs.Versions.{iso_fits}
+use Rattle.flu_model.specs.Versions.{ties_fit, iso_fits}
 use Rattle.flu_rules.specs.Kept.{KeepsRules}
 use Rattle.flu_parse.specs.Laws.{job_with}
 use Rattle.flu_names.specs.Names.{is_name}
@@ -54,6 +54,7 @@ names_of_job job =
 -- the rules of a job
 pub record JobFits (job : Job) : Type 0 where
   pub known_version : is_version job.version ≡ true
+  pub known_ties : ties_fit job.version job.ties ≡ true
   pub known_iso : iso_fits job.version job.iso ≡ true
   pub few_lists : length job.lists ≤ 64
   pub few_families : length job.families ≤ 64
@@ -101,11 +102,12 @@ same_names [] = refl
 same_names (k ∷ kinds) = ap (λ ns. k.name ∷ ns) (same_names kinds)
 
 -- what keeps the rules keeps them as plain data
-pub job_fits : (version : ℕ) (iso : Option Unit) (lists : List Numbering) (families : List Family) (kinds : List Kind) (depends : List Depend)
+pub job_fits : (version ties : ℕ) (iso : Option Unit) (lists : List Numbering) (families : List Family) (kinds : List Kind) (depends : List Depend)
     (sources : List Source)
-    → KeepsRules version iso lists families kinds depends sources → JobFits (job_with version iso lists families kinds depends sources)
-job_fits version iso lists families kinds depends sources kept = record {
+    → KeepsRules version ties iso lists families kinds depends sources → JobFits (job_with version ties iso lists families kinds depends sources)
+job_fits version ties iso lists families kinds depends sources kept = record {
   known_version = kept.known_version;
+  known_ties = kept.known_ties;
   known_iso = kept.known_iso;
   few_lists = kept.few_lists;
   few_families = kept.few_families;

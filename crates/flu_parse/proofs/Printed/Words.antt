@@ -30,7 +30,7 @@ use Rattle.flu_syntax.specs.Grammar.{op_word}
 use Rattle.flu_layout.specs.Laid.{blank, line_end, quoted, reserved, mark, name, item, text, number}
 use Rattle.flu_layout.specs.Lists.{separated, between, items_words, keys_text, behind_kind, keys_words}
 use Rattle.flu_layout.specs.Laws.{KeysAreSpelled}
-use Rattle.flu_parse.specs.Printing.{op_text, term_text, act_text, guard_text, action_text, unit_name, iso_text, version_line, names_line}
+use Rattle.flu_parse.specs.Printing.{op_text, term_text, act_text, guard_text, action_text, unit_name, ties_text, iso_text, version_line, names_line}
 use Rattle.flu_parse.specs.Printing.{list_name, by_text, keyed_text, sort_text, cell_line, item_text}
 use Rattle.flu_parse.specs.Printing.{value_text, tag_line, kind_name, same_text, depends_line, actions_line, on_line, tag_text, slack_text, source_line}
 use Rattle.flu_parse.specs.Printing.{normal_form}
@@ -170,34 +170,66 @@ action_layout families a behind rest =
 
 -- ---- declarations
 
--- the number of version 3, and the unit of the times
-abbrev pub iso_words : Option Unit → List Laid → List Laid
-iso_words None rest = number (pos 3) line_end ∷ rest
-iso_words (Some unit) rest = number (pos 3) blank ∷ name (codes "iso") blank ∷ name (unit_name unit) line_end ∷ rest
+-- what stands behind a number of the first line: a blank if the unit of the times follows, and else the end of the line
+abbrev pub behind_count : Option Unit → List ℕ
+behind_count None = line_end
+behind_count (Some unit) = blank
+
+abbrev pub unit_words : Option Unit → List Laid → List Laid
+unit_words None rest = rest
+unit_words (Some unit) rest = name (codes "iso") blank ∷ name (unit_name unit) line_end ∷ rest
+
+-- the number of version 3, how many rows a source may have at one time if they may be several, and the unit of the times
+abbrev pub third_words : ℕ → Option Unit → List Laid → List Laid
+third_words ties iso rest =
+    if nat_lt 1 ties then number (pos 3) blank ∷ name (codes "ties") blank ∷ number (pos ties) (behind_count iso) ∷ unit_words iso rest
+    else number (pos 3) (behind_count iso) ∷ unit_words iso rest
 
 -- nothing, or the version
-abbrev pub version_words : ℕ → Option Unit → List Laid → List Laid
-version_words version iso rest =
+abbrev pub version_words : ℕ → ℕ → Option Unit → List Laid → List Laid
+version_words version ties iso rest =
     if version == 2 then reserved r.Version blank ∷ number (pos 2) line_end ∷ rest
-    else if version == 3 then reserved r.Version blank ∷ iso_words iso rest
+    else if version == 3 then reserved r.Version blank ∷ third_words ties iso rest
     else rest
 
-iso_layout : (iso : Option Unit) (rest : List Laid)
-    → codes "version " ++ layout (iso_words iso rest) ≡ (codes "version 3" ++ iso_text iso ++ line_end) ++ layout rest
-iso_layout None rest = ap (λ d. codes "version " ++ (d ++ (line_end ++ layout rest))) (decimal_digit 3 (omega arith))
-iso_layout (Some unit) rest =
-    ap (λ d. codes "version " ++ (d ++ (codes " iso " ++ (unit_name unit ++ (line_end ++ layout rest))))) (decimal_digit 3 (omega arith))
-    ∙ regroup_four (codes "version 3") (codes " iso ") (unit_name unit) line_end (layout rest)
-    ∙ ap (λ l. l ++ line_end ++ layout rest) (append_assoc (codes "version 3") (codes " iso ") (unit_name unit))
+unit_layout : (iso : Option Unit) (rest : List Laid) → behind_count iso ++ layout (unit_words iso rest) ≡ iso_text iso ++ (line_end ++ layout rest)
+unit_layout None rest = refl
+unit_layout (Some unit) rest = refl
 
-version_layout : (version : ℕ) (iso : Option Unit) (rest : List Laid) → layout (version_words version iso rest) ≡ version_line version iso ++ layout rest
-version_layout version iso rest = by (version == 2) (version == 3)
+regroup_head : (a b c d e f : List ℕ) → a ++ (b ++ (c ++ (d ++ (e ++ f)))) ≡ (((a ++ (b ++ c)) ++ d) ++ e) ++ f
+regroup_head a b c d e f = simp append_assoc
+
+regroup_three : (a b c d : List ℕ) → a ++ (b ++ (c ++ d)) ≡ ((a ++ b) ++ c) ++ d
+regroup_three a b c d = simp append_assoc
+
+third_layout : (ties : ℕ) (iso : Option Unit) (rest : List Laid)
+    → codes "version " ++ layout (third_words ties iso rest) ≡ (codes "version 3" ++ ties_text ties ++ iso_text iso ++ line_end) ++ layout rest
+third_layout ties iso rest = by (nat_lt 1 ties)
+  where
+    by : (several : Bool) → codes "version " ++ layout (if several
+        then number (pos 3) blank ∷ name (codes "ties") blank ∷ number (pos ties) (behind_count iso) ∷ unit_words iso rest
+        else number (pos 3) (behind_count iso) ∷ unit_words iso rest)
+        ≡ (codes "version 3" ++ (if several then codes " ties " ++ decimal ties else []) ++ iso_text iso ++ line_end) ++ layout rest
+    by true =
+        ap (λ d. codes "version " ++ (d ++ (codes " ties " ++ (decimal ties ++ (behind_count iso ++ layout (unit_words iso rest))))))
+        (decimal_digit 3 (omega arith))
+        ∙ ap (λ l. codes "version 3" ++ (codes " ties " ++ (decimal ties ++ l))) (unit_layout iso rest)
+        ∙ regroup_head (codes "version 3") (codes " ties ") (decimal ties) (iso_text iso) line_end (layout rest)
+    by false =
+        ap (λ d. codes "version " ++ (d ++ (behind_count iso ++ layout (unit_words iso rest)))) (decimal_digit 3 (omega arith))
+        ∙ ap (λ l. codes "version 3" ++ l) (unit_layout iso rest)
+        ∙ regroup_three (codes "version 3") (iso_text iso) line_end (layout rest)
+
+version_layout : (version ties : ℕ) (iso : Option Unit) (rest : List Laid)
+    → layout (version_words version ties iso rest) ≡ version_line version ties iso ++ layout rest
+version_layout version ties iso rest = by (version == 2) (version == 3)
   where
     by : (two three : Bool) → layout (if two then reserved r.Version blank ∷ number (pos 2) line_end ∷ rest
-        else if three then reserved r.Version blank ∷ iso_words iso rest else rest)
-        ≡ (if two then codes "version 2" ++ line_end else if three then codes "version 3" ++ iso_text iso ++ line_end else []) ++ layout rest
+        else if three then reserved r.Version blank ∷ third_words ties iso rest else rest)
+        ≡ (if two then codes "version 2" ++ line_end
+        else if three then codes "version 3" ++ ties_text ties ++ iso_text iso ++ line_end else []) ++ layout rest
     by true three = ap (λ d. codes "version " ++ (d ++ (line_end ++ layout rest))) (decimal_digit 2 (omega arith))
-    by false true = iso_layout iso rest
+    by false true = third_layout ties iso rest
     by false false = refl
 
 -- a list of names: its texts, of which every list of a job has some
@@ -377,7 +409,7 @@ source_line_layout spelled kinds s rest =
 
 abbrev pub job_words : Job → List Laid
 job_words job =
-    version_words job.version job.iso (lines_before names_line_words job.lists (lines_before (cell_line_words job.lists) job.families
+    version_words job.version job.ties job.iso (lines_before names_line_words job.lists (lines_before (cell_line_words job.lists) job.families
     (lines_before (tag_line_words job.lists) job.kinds (lines_before (depends_line_words job.kinds) job.depends
     (lines_before (on_line_words job.families) job.kinds (lines_before (source_line_words job.kinds) job.sources []))))))
 
@@ -390,8 +422,8 @@ job_layout spelled job =
     let tags = lines_before (tag_line_words job.lists) job.kinds depends in
     let cells = lines_before (cell_line_words job.lists) job.families tags in
     let lists = lines_before names_line_words job.lists cells in
-    version_layout job.version job.iso lists
-    ∙ ap (λ l. version_line job.version job.iso ++ l) (lines_out names_line_words layout names_line names_line_layout job.lists cells
+    version_layout job.version job.ties job.iso lists
+    ∙ ap (λ l. version_line job.version job.ties job.iso ++ l) (lines_out names_line_words layout names_line names_line_layout job.lists cells
     ∙ rw (
       lines_out (cell_line_words job.lists) layout (cell_line job.lists) (cell_line_layout job.lists) job.families tags,
       lines_out (tag_line_words job.lists) layout (tag_line job.lists) (tag_line_layout job.lists) job.kinds depends,
@@ -399,6 +431,6 @@ job_layout spelled job =
       lines_out (on_line_words job.families) layout (on_line job.families) (λ k rest. actions_layout job.families k.name k.actions rest) job.kinds sources,
       lines_out (source_line_words job.kinds) layout (source_line job.kinds) (source_line_layout spelled job.kinds) job.sources [],
     ) refl)
-    ∙ regroup_job (version_line job.version job.iso) (flat_map names_line job.lists) (flat_map (cell_line job.lists) job.families)
+    ∙ regroup_job (version_line job.version job.ties job.iso) (flat_map names_line job.lists) (flat_map (cell_line job.lists) job.families)
     (flat_map (tag_line job.lists) job.kinds) (flat_map (depends_line job.kinds) job.depends)
     (flat_map (on_line job.families) job.kinds) (flat_map (source_line job.kinds) job.sources)

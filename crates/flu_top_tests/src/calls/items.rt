@@ -292,3 +292,97 @@ source s \"s.csv\" rate 1: put, mark, show
 fn rows_with_items(rt: HostRuntime) -> Result<(), Fail> {
     play(&rt, rt.alloc(), ROWS)
 }
+
+/// Several rows of a source at one time: at one time sources come in the order in which they are declared, times of fractions that are cut off may be
+/// the same, and one row more than may have a time is too many.
+const TIED: &str = "@ J
+version 3 ties 2
+cell rides keyed sum
+tag ride item none
+tag day none
+depends ride day
+depends day day
+on ride: add rides[item] 1
+on day: flush rides \"station {key}: {cell} rides at {time}\"
+source north \"north.csv\": ride
+source south \"south.csv\" slack 2: ride
+source clock \"days.csv\": day
+@ north.csv
+5,ride,1
+end
+@ south.csv
+7,ride,2
+5,ride,1
+7,beat
+5,ride,2
+9,ride,3
+9,ride,2
+end
+@ days.csv
+5,day
+9,day
+9,day
+end
+@ $ fold J
+@ $ run J
+@ $ run J --round 1
+@ $ run J --round 3
+@ = 0
+5,day,station 1: 2 rides at 5
+5,day,station 2: 1 rides at 5
+9,day,station 2: 2 rides at 9
+9,day,station 3: 1 rides at 9
+@ J
+version 3 ties 2
+cell rides keyed sum
+tag ride item none
+tag day none
+depends ride day
+depends day day
+on ride: add rides[item] 1
+on day: flush rides \"station {key}: {cell} rides at {time}\"
+source clock \"days.csv\": day
+source north \"north.csv\": ride
+source south \"south.csv\" slack 2: ride
+@ $ fold J
+@ $ run J
+@ $ run J --round 1
+@ = 0
+9,day,station 1: 2 rides at 9
+9,day,station 2: 2 rides at 9
+@ north.csv
+5,ride,1
+5,ride,1
+5,ride,2
+end
+@ $ fold J
+@ $ run J --round 2
+@ = 6 flumina: source north row 3: too many, 3
+@ J
+version 3 ties 2 iso seconds
+cell most max
+tag trade int
+tag close none
+depends trade close
+depends close close
+on trade: raise most value
+on close: emit \"{most} at {time}\"; clear most
+source trades \"north.csv\": trade
+source closes \"days.csv\": close
+@ north.csv
+2026-03-02 08:05:00.250,trade,7
+2026-03-02 08:05:00.750,trade,9
+end
+@ days.csv
+2026-03-02 08:05:00,close
+end
+@ $ fold J
+@ $ run J
+@ = 0
+2026-03-02T08:05:00Z,close,9 at 2026-03-02T08:05:00Z
+";
+
+#[test]
+fn rows_at_one_time(rt: HostRuntime) -> Result<(), Fail> {
+    play(&rt, rt.alloc(), TIED)
+}

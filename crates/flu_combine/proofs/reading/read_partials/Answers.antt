@@ -1,4 +1,4 @@
-use Rattle.std.proofs.Common.{◌≡◌, ℕ, ◌+◌, [], ◌∷◌, length, ap, sym, subst, ◌∙◌}
+use Rattle.std.proofs.Common.{◌≡◌, ℕ, ◌+◌, [], ◌∷◌, Err, length, ap, sym, subst, ◌∙◌}
 use Rattle.std.proofs.lemmas.List.{length-append}
 use Rattle.flu_deps.specs.Checking.{program_of}
 use Rattle.flu_deps.specs.Validated.{plan_of}
@@ -6,9 +6,17 @@ use Rattle.flu_contribution.specs.Laws.{AreNodesApart}
 use Rattle.flu_lemmas.proofs.Named.{fronts_at, fronts_then}
 use Rattle.flu_joining.specs.Parts.{waiting_in, waiting_in_each}
 use Rattle.std.proofs.Common.{take}
+use Rattle.flu_combine.specs.declared.fault.CombineFault.{CombineFault}
 use Rattle.flu_combine.specs.declared.fault.CombineFault.TheVariants as combine
+use Rattle.flu_combine.specs.declared.fault.Refused.{Refused}
+use Rattle.flu_combine.specs.declared.fault.Refused.TheVariants.{ReadFault}
+use Rattle.flu_combine.specs.Reading.{IsRefusedAt}
 use Rattle.flu_combine.proofs.Readings.{fronts_read, others_more, cause_of, halted_at, at_place, among_names, read_step, apart_more, same_then}
 use Rattle.flu_combine.proofs.reading.read_partials.Goals as goal
+
+-- a refusal for a read that failed is one of the call
+failed_at : (place : ℕ) (refused : Refused) (fault : CombineFault) → refused ≡ ReadFault → IsRefusedAt place refused fault → fault ≡ combine.ReadFault
+failed_at place refused fault is at = subst (λ r. IsRefusedAt place r fault) is at
 
 pub returns-in_err-add-in-Ok-clause-fronts : goal.returns-in_err-add-in-Ok-clause-fronts
 returns-in_err-add-in-Ok-clause-fronts g c =
@@ -57,6 +65,12 @@ returns-in-Err-clause-hides g c = λ is.
     (left c.read_one-read.new.files) (faults c.args.files.now) (faults c.partials.files) (faults c.read_one-read.new.files)
     c.partials-test.true at c.refused_at.ensures c.partials.invariant.apart c.partials.invariant.read c.partials.invariant.quiet refusal
     (let e : c.refused_at.result ≡ combine.ReadFault = cc in e)
+
+pub returns-in-Err-clause-quiet : goal.returns-in-Err-clause-quiet
+returns-in-Err-clause-quiet g c = λ other.
+    let faults = g.F.Files.faults in
+    same_then (faults c.args.files.now) (faults c.partials.files) (faults c.read_one-read.new.files) c.partials.invariant.quiet
+    (c.in-Err.ensures.quiet (λ e. other (ap Err (failed_at c.partials.place c.in-Err.refused c.refused_at.result (cc) c.refused_at.ensures))))
 
 pub returns-in-Err-clause-fronts : goal.returns-in-Err-clause-fronts
 returns-in-Err-clause-fronts g c =

@@ -1,3 +1,4 @@
+use Rattle.flu_streams.proofs.OneJob.{timing_in}
 use Rattle.flu_command.proofs.SameJob.{same_good, same_mended}
 use Rattle.flu_command.proofs.SameFold.{same_report, same_report_from}
 use Rattle.flu_command.proofs.one_text.programs_of_a_job_agree.Goals as goal
@@ -11,6 +12,7 @@ pub returns-clause-rest : goal.returns-clause-rest
 returns-clause-rest c = λ p q same.
     let jobs = c.programs_of_a_job_are_alike.ensures in
     same_report_from p q (jobs.updates p q same) (jobs.reports p q same) (c.programs_of_a_job_read_the_same.ensures p q same)
+    (λ j. (timing_in (same j) 0).scale)
 
 pub returns-clause-good : goal.returns-clause-good
 returns-clause-good c = same_good c.programs_of_a_job_read_the_same.ensures

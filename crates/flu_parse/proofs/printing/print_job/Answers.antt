@@ -9,9 +9,10 @@ use Rattle.flu_parse.specs.Printing.{normal_form}
 use Rattle.flu_parse.specs.Laws.{PrintedIsRead}
 use Rattle.flu_parse.proofs.printing.print_job.Goals as goal
 
-rules_of : (p : Program) → KeepsRules p.version p.iso p.lists p.families p.kinds p.depends p.sources
+rules_of : (p : Program) → KeepsRules p.version p.ties p.iso p.lists p.families p.kinds p.depends p.sources
 rules_of p = record {
   known_version = p.known_version;
+  known_ties = p.known_ties;
   known_iso = p.known_iso;
   few_lists = p.few_lists;
   few_families = p.few_families;
@@ -33,7 +34,7 @@ rules_of p = record {
 read_again : PrintedIsRead → (p : Program) (text : List ℕ) → IsUtf8 text → text ≡ normal_form (job_of p) → length text ≤ 1048576 → job_in text ≡ Ok (job_of p)
 read_again printed p text utf8 is =
     subst (λ t. IsUtf8 t → length t ≤ 1048576 → job_in t ≡ Ok (job_of p)) (sym is)
-    (printed p.version p.iso p.lists p.families p.kinds p.depends p.sources (rules_of p)) utf8
+    (printed p.version p.ties p.iso p.lists p.families p.kinds p.depends p.sources (rules_of p)) utf8
 
 pub returns-clause-read_again : goal.returns-clause-read_again
 returns-clause-read_again c =

@@ -1,17 +1,22 @@
-use Rattle.std.proofs.Common.{◌≡◌, ◌+◌, ◌<◌, ◌≤◌, List, ◌++◌, ◌∷◌, [], Some, length, map, take, vec_len, refl, sym, ap, ◌∙◌, arith}
+use Rattle.std.proofs.Common.{◌≡◌, ◌+◌, ◌<◌, ◌≤◌, List, ◌++◌, ◌∷◌, [], Some, length, map, take, vec_len, refl, sym, ap, subst, ◌∙◌, arith}
 use Rattle.std.specs.Prelude.{slice_get, sum_by}
 use Rattle.std.specs.List.{flat_map}
 use Rattle.std.proofs.lemmas.Grind.{common_steps}
 use Rattle.std.proofs.lemmas.List.{length-map, map-append, take_all}
 use Rattle.std.proofs.lemmas.List.Elements.{All-append}
 use Rattle.std.proofs.lemmas.List.Sums.{sum_by-append}
-use Rattle.std.proofs.lemmas.Option.{slice_get_read}
+use Rattle.std.proofs.lemmas.Option.{slice_get_read, slice_get_within}
 use Rattle.flu_model.specs.declared.events.Item.{Item}
+use Rattle.flu_model.specs.declared.moments.Timing.{Timing}
+use Rattle.flu_model.specs.Moments.{timing_of}
 use Rattle.flu_model.specs.Listing.{listed_tags}
+use Rattle.flu_streams.specs.Holding.{HaveAtMost, most_of, most_held}
 use Rattle.flu_streams.specs.Lists.{lists_in}
+use Rattle.flu_streams.specs.LoopMoments.{end_moment}
 use Rattle.flu_streams.specs.Tags.{width}
 use Rattle.flu_streams.proofs.Cuts.{own_items, own_streams, own_lists, lists_first, lists_more, streams_both}
 use Rattle.flu_streams.proofs.Gatherings.{total_width}
+use Rattle.flu_streams.proofs.Moments.{timing_fits}
 use Rattle.flu_streams.proofs.Rounding.{source_at}
 use Rattle.flu_streams.proofs.Turns.{turn}
 use Rattle.flu_streams.proofs.held.lists_to.Goals as goal
@@ -57,6 +62,7 @@ loop-source-preserved c =
     let lt : n < length c.args.inlets.now = omega (arith, inv.number, c.requires.count, c.loop-source-test.true, ap length c.items-source-items.ensures) in
     let is : slice_get c.args.inlets.now n ≡ Some h = slice_get_read c.args.inlets.now (length c.args.inlets.now) n h refl lt c.index-inlets-number.is in
     let here : slice_get c.args.inlets.now i ≡ Some h = ap (slice_get c.args.inlets.now) (sym inv.number) ∙ is in
+    let timed : h.timing ≡ timing_of p i = c.requires.timed i h here in
     let w : c.tag_count-width.result ≡ width s = c.tag_count-width.ensures ∙ ap (λ tags. length (flat_map listed_tags tags)) c.items.ensures in
     let one : sum_by width (take (i + 1) p.sources) ≡ sum_by width earlier + width s =
     ap (sum_by width) t.more ∙ sum_by-append width earlier (s ∷ []) ∙ omega arith in
@@ -68,14 +74,14 @@ loop-source-preserved c =
     record {
       number = omega (arith, inv.number);
       len = omega (arith, len, one, w, inv.len, c.in_ok-own.ensures.len);
-      few = rw both (All-append (λ (items : List Item). length items ≤ 64096 + 1) (lists_in lists) (lists_in own) inv.few
-          (c.in_ok-own.ensures.few (c.requires.uncounted i h here)));
+      few = rw both (All-append (λ (items : List Item). length items ≤ most_held p + 1) (lists_in lists) (lists_in own) inv.few
+          (subst (λ (timing : Timing). HaveAtMost (most_of timing) (lists_in own)) timed (c.in_ok-own.ensures.few (c.requires.uncounted i h here))));
       streams = rw both (streams_both (lists_in lists) (lists_in own) first size inv.streams
-          (own_streams own first c.tag_count-width.result end h.items c.in_ok-own.ensures.len c.in_ok-own.ensures.each h.rising));
+          (own_streams own first c.tag_count-width.result (end_moment h.timing end) h.items c.in_ok-own.ensures.len c.in_ok-own.ensures.each h.rising));
       lists = λ border lines behind.
           both ∙ lists_more p border end lines earlier s i (lists_in lists) (lists_in own) (sym t.size) (inv.lists border lines behind)
-          (own_lists own p.kinds s (sum_by width earlier) border end (lines i) h (c.in_ok-own.ensures.len ∙ w)
-          (λ k k_lt. c.in_ok-own.ensures.each k (rw w k_lt) ∙ ap (λ f. own_items f end h.items k) from) (behind i s at h here)
+          (own_lists (timing_of p i) (timing_fits p i (slice_get_within p.sources i s at)) own p.kinds s (sum_by width earlier) border end (lines i) h (c.in_ok-own.ensures.len ∙ w)
+          (λ k k_lt. c.in_ok-own.ensures.each k (rw w k_lt) ∙ (λ j. own_items (from j) (end_moment (timed j) end) h.items k)) (behind i s at h here)
           (c.requires.caught i h here))
           ∙ ap (lists_first p border end lines) (sym t.more);
     }

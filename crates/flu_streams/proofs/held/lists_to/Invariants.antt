@@ -2,7 +2,7 @@ use Rattle.std.proofs.Common.{◌≡◌, ℕ, List, Option, true, take, vec_len}
 use Rattle.std.specs.Prelude.{sum_by}
 use Rattle.flu_model.specs.Streaming.{are_streams}
 use Rattle.flu_rows.specs.declared.rows.Next.{Next}
-use Rattle.flu_streams.specs.Holding.{HaveAtMost}
+use Rattle.flu_streams.specs.Holding.{HaveAtMost, most_held}
 use Rattle.flu_streams.specs.Lists.{lists_in}
 use Rattle.flu_streams.specs.LoopHeld.{AreBehind}
 use Rattle.flu_streams.specs.Tags.{width}
@@ -13,7 +13,7 @@ abbrev pub invariant-loop-source : goal.invariant-loop-source
 invariant-loop-source l = record {
   number : l.number ≡ l.source-index;
   len : vec_len l.lists ≡ sum_by width (take l.source-index l.p.sources);
-  few : HaveAtMost 64096 (lists_in l.lists);
+  few : HaveAtMost (most_held l.p) (lists_in l.lists);
   streams : are_streams 0 (lists_in l.lists) ≡ true;
   lists : (border : Option ℕ) (lines : ℕ → List Next) → AreBehind l.p border lines l.inlets
       → lists_in l.lists ≡ lists_first l.p border l.fn.end lines (take l.source-index l.p.sources);

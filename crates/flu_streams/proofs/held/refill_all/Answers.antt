@@ -8,6 +8,7 @@ use Rattle.flu_lemmas.proofs.Elements.{each_set}
 use Rattle.flu_lemmas.proofs.Replaced.{slice_get-set_other}
 use Rattle.flu_lemmas.proofs.Told.{told_same}
 use Rattle.flu_model.specs.Listing.{listed_tags}
+use Rattle.flu_model.specs.Moments.{timing_of}
 use Rattle.flu_outside.specs.Taking.{TookFronts}
 use Rattle.flu_streams.specs.declared.faults.GatherFault.TheVariants.{ReadFault}
 use Rattle.flu_streams.specs.declared.stop.Stop.TheVariants.{ReadFault as ReadStop}
@@ -33,6 +34,7 @@ loop-source-init g c =
       count = refl;
       end = refl;
       all = record { size = refl; each = λ i s at end old new here was is. absurd cc };
+      timed = c.requires.timed;
       uncounted = c.requires.uncounted;
       rest = λ j le. refl;
       others = told_same (LeavesOthers []) left (λ x other apart. refl);
@@ -101,6 +103,16 @@ returns-in-Err-clause-stop g c =
     (c.fault_of.ensures ∙ ap (λ (k : ℕ). fault_of_stop k c.in-Err.stop) inv.number)
     (λ stop. rose_behind (faults c.args.files.now s.file) (faults c.loop-source.files s.file) (faults c.refill.new.files s.file)
     (inv.counts.rise s.file) (c.refill.ensures.cause (rw (c.in-Err.is, stop) refl)))
+
+pub returns-in-Err-clause-timed : goal.returns-in-Err-clause-timed
+returns-in-Err-clause-timed g c =
+    let n = c.loop-source.number in
+    let mid = c.index_mut-inlet.result.now in
+    let news = c.loop-source.inlets.items in
+    let inv = c.loop-source.invariant in
+    let lt : n < length news = omega (arith, inv.number, inv.all.size, c.requires.count, c.loop-source-test.true, ap length c.items-source-items.ensures) in
+    let is : slice_get news n ≡ Some mid = slice_get_read news (length news) n mid refl lt c.index_mut-inlet.ensures.value in
+    each_set (λ (j : ℕ) (h : Inlet). h.timing ≡ timing_of c.args.p.now j) news n c.refill.new.self inv.timed (c.refill.ensures.timing ∙ inv.timed n mid is)
 
 pub returns-in-Err-clause-fronts : goal.returns-in-Err-clause-fronts
 returns-in-Err-clause-fronts g c =
@@ -197,6 +209,8 @@ loop-source-preserved g c =
       all = rw inv.number (refilled_more p c.args.rows i s c.args.inlets.now.items news mid c.refill.new.self (left old) (left b)
           (left new) inv.ends c.in-Ok.turn t inv.count at was inv.others taken inv.all
           (rw (c.items.ensures, inv.first) at c.in-Ok.ensures.filled));
+      timed = each_set (λ (j : ℕ) (h : Inlet). h.timing ≡ timing_of p j) news n c.refill.new.self inv.timed
+          (c.in-Ok.ensures.timing ∙ inv.timed n mid is);
       uncounted = each_set (λ (j : ℕ) (h : Inlet). is_some h.held ≡ false) news n c.refill.new.self inv.uncounted
           (c.in-Ok.ensures.counted ∙ inv.uncounted n mid is);
       rest = λ j le. slice_get-set_other news n j c.refill.new.self (λ e. omega (arith, e, le, inv.number)) ∙ inv.rest j (omega (arith, le));

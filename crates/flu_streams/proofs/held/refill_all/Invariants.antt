@@ -4,7 +4,7 @@ use Rattle.flu_outside.specs.Outside.{WhereTold, SameCounts, IsThere}
 use Rattle.flu_outside.specs.Taking.{TookFronts}
 use Rattle.flu_streams.specs.declared.border.Border.{Border}
 use Rattle.flu_streams.specs.Files.{files_of, LeavesOthers, CountsOfNames}
-use Rattle.flu_streams.specs.LoopHeld.{earliest, AreRefilled, AreUncounted}
+use Rattle.flu_streams.specs.LoopHeld.{earliest, AreRefilled, AreTimed, AreUncounted}
 use Rattle.flu_streams.specs.Tags.{width}
 use Rattle.flu_streams.proofs.held.refill_all.Given as goal
 
@@ -21,6 +21,7 @@ invariant-loop-source g l =
       count : length ends ≡ l.source-index;
       end : l.end ≡ earliest ends;
       all : AreRefilled l.p l.rows l.fn.inlets.items l.inlets.items (left l.fn.files) (left l.files) ends;
+      timed : AreTimed l.p l.inlets.items;
       uncounted : AreUncounted l.inlets.items;
       rest : (j : ℕ) → l.source-index ≤ j → slice_get l.inlets.items j ≡ slice_get l.fn.inlets.items j;
       others : WhereTold (left l.fn.files) (left l.files) (LeavesOthers (files_of earlier));

@@ -4,6 +4,7 @@ use Rattle.std.proofs.lemmas.List.{take_all, length-map}
 use Rattle.std.proofs.lemmas.List.Sums.{sum_by-append}
 use Rattle.flu_model.specs.Erasure.{job_of}
 use Rattle.flu_model.specs.Listed.{listed}
+use Rattle.flu_model.specs.Moments.{timing_of}
 use Rattle.flu_lemmas.proofs.Named.{rose_behind, fronts_at, fronts_then}
 use Rattle.flu_lemmas.proofs.Told.{told_weaker}
 use Rattle.flu_streams.specs.declared.faults.GatherFault.TheVariants.{ReadFault}
@@ -41,10 +42,12 @@ returns-in-Err-clause-fault g c =
     let i = c.loop-source.source-index in
     let s = c.source-item.result in
     let t = turn p c.items-source-items.result.now i s c.items-source-items.ensures c.loop-source-test.true c.source-item.is in
+    let numbered : c.timing_of.result ≡ timing_of p (length (take i p.sources)) =
+    c.timing_of.ensures.value ∙ ap (timing_of p) (c.loop-source.invariant.number ∙ t.size) in
     gathered_fault p (take i p.sources) (drop (i + 1) p.sources) s c.loop-source.gathered c.loop-source.gathered.number c.in-Err.fault (left c.args.files.now)
     (left c.loop-source.files) (left c.add_source.new.files)
     t.split (c.loop-source.invariant.number ∙ t.size) t.apart c.loop-source.invariant.told
-    (rw (c.loop-source.invariant.form, c.items.ensures) at c.in-Err.ensures.fault)
+    (rw (numbered, c.loop-source.invariant.form, c.items.ensures) at c.in-Err.ensures.fault)
 
 pub returns-in-Err-clause-fronts : goal.returns-in-Err-clause-fronts
 returns-in-Err-clause-fronts g c =
@@ -59,7 +62,7 @@ returns-in-Err-clause-others g c =
     let i = c.loop-source.source-index in
     let s = c.source-item.result in
     let t = turn p c.items-source-items.result.now i s c.items-source-items.ensures c.loop-source-test.true c.source-item.is in
-    let k = others_at (form_of (job_of p)) p.kinds (take i p.sources) (drop (i + 1) p.sources) s c.loop-source.gathered (left c.args.files.now)
+    let k = others_at (timing_of p) (form_of (job_of p)) p.kinds (take i p.sources) (drop (i + 1) p.sources) s c.loop-source.gathered (left c.args.files.now)
     (left c.loop-source.files) (left c.add_source.new.files) c.loop-source.invariant.told c.in-Err.ensures.taken in
     rw (← t.split) at k
 
@@ -102,9 +105,11 @@ returns-in-Err-clause-hides g c = λ is_fault.
     let hides = c.add_source.ensures.hides is in
     let rose = rose_behind (faults c.args.files.now s.file) (faults c.loop-source.files s.file) (faults c.add_source.new.files s.file)
     (c.loop-source.invariant.counts.rise s.file) (c.add_source.ensures.cause is) in
+    let numbered : c.timing_of.result ≡ timing_of p (length (take i p.sources)) =
+    c.timing_of.ensures.value ∙ ap (timing_of p) (c.loop-source.invariant.number ∙ t.size) in
     hides_behind p (take i p.sources) (drop (i + 1) p.sources) s c.loop-source.gathered (left c.args.files.now) (left c.loop-source.files)
     (left c.add_source.new.files) (faults c.args.files.now) (faults c.add_source.new.files)
-    t.split t.apart c.loop-source.invariant.told rose (rw (c.loop-source.invariant.form, c.items.ensures) at hides)
+    t.split t.apart c.loop-source.invariant.told rose (rw (numbered, c.loop-source.invariant.form, c.items.ensures) at hides)
 
 pub loop-source-preserved : goal.loop-source-preserved
 loop-source-preserved g c =
@@ -118,7 +123,9 @@ loop-source-preserved g c =
     let s = c.source-item.result in
     let earlier = take i p.sources in
     let t = turn p c.items-source-items.result.now i s c.items-source-items.ensures c.loop-source-test.true c.source-item.is in
-    let adds = rw (c.loop-source.invariant.form, c.items.ensures) at c.in_default-add_source.ensures.added in
+    let numbered : c.timing_of.result ≡ timing_of p (length (take i p.sources)) =
+    c.timing_of.ensures.value ∙ ap (timing_of p) (c.loop-source.invariant.number ∙ t.size) in
+    let adds = rw (numbered, c.loop-source.invariant.form, c.items.ensures) at c.in_default-add_source.ensures.added in
     let taken = c.in_default-add_source.ensures.taken in
     let one : sum_by width (take (i + 1) p.sources) ≡ sum_by width earlier + width s = rw t.more (sum_by-append width earlier (s ∷ []) ∙ omega arith) in
     let names : files_of (take (i + 1) p.sources) ≡ files_of earlier ++ (s.file ∷ []) = rw t.more (files_more earlier s) in
@@ -126,9 +133,9 @@ loop-source-preserved g c =
       form = c.loop-source.invariant.form;
       number = omega (arith, adds.number, c.loop-source.invariant.number);
       len = omega (arith, adds.len, one, c.loop-source.invariant.len);
-      streams = streams_more (form_of (job_of p)) p.kinds s (left mid) (left new) c.loop-source.gathered c.add_source.new.gathered adds
+      streams = streams_more (timing_of p (length earlier)) (form_of (job_of p)) p.kinds s (left mid) (left new) c.loop-source.gathered c.add_source.new.gathered adds
           c.loop-source.invariant.streams;
-      told = rw t.more (gathered_more (form_of (job_of p)) p.kinds earlier s c.loop-source.gathered c.add_source.new.gathered (left old) (left mid)
+      told = rw t.more (gathered_more (timing_of p) (form_of (job_of p)) p.kinds earlier s c.loop-source.gathered c.add_source.new.gathered (left old) (left mid)
           (left new) c.loop-source.invariant.told adds taken c.loop-source.invariant.len t.apart);
       fronts = fronts_then (left old) (left mid) (left new) c.loop-source.invariant.fronts (fronts_at s.file (left mid) (left new) taken);
       out = rw names (out_more (files_of earlier) s.file (left mid) (left new) taken t.apart c.loop-source.invariant.out
@@ -147,7 +154,7 @@ returns-clause-good g c =
     let all : take c.loop-source.source-index p.sources ≡ p.sources =
     take_all c.loop-source.source-index p.sources (omega (arith, ap length c.items-source-items.ensures)) in
     let told = rw all at c.loop-source.invariant.told in
-    told_weaker (IsGathered (form_of (job_of p)) p.kinds p.sources c.loop-source.gathered) (λ old new. AreGood p old) (left c.args.files.now)
+    told_weaker (IsGathered (timing_of p) (form_of (job_of p)) p.kinds p.sources c.loop-source.gathered) (λ old new. AreGood p old) (left c.args.files.now)
     (left c.loop-source.files) (λ x y k. k.good) told
 
 pub returns-clause-lists : goal.returns-clause-lists
@@ -158,7 +165,7 @@ returns-clause-lists g c =
     take_all c.loop-source.source-index p.sources (omega (arith, ap length c.items-source-items.ensures)) in
     let told = rw all at c.loop-source.invariant.told in
     let same : listed c.new-2.result ≡ lists_in c.loop-source.gathered.lists = c.new-2.ensures in
-    told_weaker (IsGathered (form_of (job_of p)) p.kinds p.sources c.loop-source.gathered) (λ old new. listed c.new-2.result ≡ lists_of p old)
+    told_weaker (IsGathered (timing_of p) (form_of (job_of p)) p.kinds p.sources c.loop-source.gathered) (λ old new. listed c.new-2.result ≡ lists_of p old)
     (left c.args.files.now) (left c.loop-source.files) (λ x y k. same ∙ k.lists) told
 
 pub returns-clause-itags : goal.returns-clause-itags
@@ -177,5 +184,5 @@ returns-clause-others g c =
     let all : take c.loop-source.source-index p.sources ≡ p.sources =
     take_all c.loop-source.source-index p.sources (omega (arith, ap length c.items-source-items.ensures)) in
     let told = rw all at c.loop-source.invariant.told in
-    told_weaker (IsGathered (form_of (job_of p)) p.kinds p.sources c.loop-source.gathered) (LeavesOthers (files_of p.sources)) (left c.args.files.now)
+    told_weaker (IsGathered (timing_of p) (form_of (job_of p)) p.kinds p.sources c.loop-source.gathered) (LeavesOthers (files_of p.sources)) (left c.args.files.now)
     (left c.loop-source.files) (λ x y k. k.others) told

@@ -1,6 +1,7 @@
 use Rattle.std.proofs.Common.{◌≡◌, ℕ, List, true, take, vec_len}
 use Rattle.std.specs.Prelude.{sum_by}
 use Rattle.flu_model.specs.Erasure.{job_of}
+use Rattle.flu_model.specs.Moments.{timing_of}
 use Rattle.flu_model.specs.Streaming.{are_streams}
 use Rattle.flu_outside.specs.Outside.{WhereTold, SameCounts, IsThere}
 use Rattle.flu_outside.specs.Taking.{TookFronts}
@@ -22,7 +23,7 @@ invariant-loop-source g l =
       len : vec_len l.gathered.lists ≡ sum_by width earlier;
       streams : are_streams 0 (lists_in l.gathered.lists) ≡ true;
       form : l.form ≡ form_of (job_of l.p);
-      told : WhereTold (left l.fn.files) (left l.files) (IsGathered (form_of (job_of l.p)) l.p.kinds earlier l.gathered);
+      told : WhereTold (left l.fn.files) (left l.files) (IsGathered (timing_of l.p) (form_of (job_of l.p)) l.p.kinds earlier l.gathered);
       fronts : WhereTold (left l.fn.files) (left l.files) TookFronts;
       out : AreReadOut (files_of earlier) (left l.files);
       counts : CountsOfNames (left l.fn.files) (files_of earlier) (faults l.fn.files) (faults l.files);

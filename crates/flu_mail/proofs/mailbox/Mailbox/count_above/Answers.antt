@@ -1,11 +1,11 @@
-use Rattle.std.proofs.Common.{◌≡◌, List, take, subst, ◌∙◌, arith}
+use Rattle.std.proofs.Common.{◌≡◌, List, take, refl, subst, ◌∙◌, arith}
 use Rattle.std.specs.Prelude.{slice_index, slice_index_or}
 use Rattle.std.proofs.lemmas.List.{take_all}
 use Rattle.flu_model.specs.declared.events.Itag.{Itag}
 use Rattle.flu_model.specs.Owners.{ancestors_own}
 use Rattle.flu_tables.specs.Tables.{program_in, nodes_in}
 use Rattle.flu_mail.specs.Mailboxes.{counts_of}
-use Rattle.flu_mail.proofs.CountLemmas.{is_among, IsSetTo, set_all, no_less}
+use Rattle.flu_mail.proofs.CountLemmas.{is_among, IsSetTo, set_turn, set_all, no_less}
 use Rattle.flu_mail.proofs.ListLemmas.{listed_at}
 use Rattle.flu_mail.proofs.MailboxLemmas.{length-counts}
 use Rattle.flu_mail.proofs.mailbox.Mailbox.count_above.Goals as goal
@@ -59,6 +59,28 @@ set_count-requires-clause-there c =
     let one_each = c.requires.one_each in
     let all = c.requires.at.one_each in
     c.requires.there j (omega arith) at.0
+
+pub loop-i-preserved : goal.loop-i-preserved
+loop-i-preserved c =
+    let p = program_in c.args.t.now in
+    let m = c.args.self.now in
+    let above = c.above-above.result.now in
+    let k = c.loop-i.i-index in
+    let none : Itag = record { 0 = 0 } in
+    let at = listed_at p (ancestors_own p (nodes_in c.args.t.now) m.node) above k none c.above-above.ensures c.loop-i-test.true in
+    let here = at.1 in
+    let all = c.requires.at.one_each in
+    let size = length-counts c.loop-i.self in
+    let over = c.requires.over.one_each in
+    let later = c.loop-i.invariant.over.one_each in
+    record {
+      over = c.set_count.ensures.over;
+      at = λ q nodes h. c.set_count.ensures.at q nodes (c.loop-i.invariant.at q nodes h);
+      seen = c.set_count.ensures.seen ∙ c.loop-i.invariant.seen;
+      node = c.set_count.ensures.node ∙ c.loop-i.invariant.node;
+      counts = set_turn above k (slice_index_or above k none) none c.args.counts.now (counts_of m) (counts_of c.loop-i.self) _ c.loop-i-test.true refl
+          (omega arith) c.set_count.ensures.counts c.loop-i.invariant.counts;
+    }
 
 pub returns-clause-counts : goal.returns-clause-counts
 returns-clause-counts c =

@@ -1,9 +1,10 @@
 use Rattle.std.proofs.Common.{◌≡◌, Some, sym, ap, subst, ◌∙◌}
 use Rattle.flu_streams.specs.declared.border.Border.TheVariants.{At, Closed}
 use Rattle.flu_streams.specs.declared.held.Stage.TheVariants.{Filling, Filled, Over}
-use Rattle.flu_streams.specs.Holding.{Holding, Cuts}
+use Rattle.flu_streams.specs.Holding.{Holding, Cuts, HoldsAtMost, most_held}
 use Rattle.flu_streams.specs.Lists.{lists_in}
-use Rattle.flu_streams.proofs.Bounds.{holds_few, holds_most, still_caught_up, still_uncounted}
+use Rattle.flu_streams.specs.LoopHeld.{AreTimed}
+use Rattle.flu_streams.proofs.Bounds.{holds_few, holds_most, well_timed, still_caught_up, still_uncounted}
 use Rattle.flu_streams.proofs.Cuts.{well_filled, cuts_at, cuts_closed, dropped_well, cut_lists, closed_if_not}
 use Rattle.flu_streams.proofs.RoundOf.{holding}
 use Rattle.flu_streams.proofs.held.Held.cut.Goals as goal
@@ -62,6 +63,14 @@ lists_to-requires-clause-caught c =
     let well = well_filled h.program.value h.rows h.border h.stage c.args.b h.sources.items c.self.invariant stage_is in
     rw c.deref.ensures.value well.2
 
+pub lists_to-requires-clause-timed : goal.lists_to-requires-clause-timed
+lists_to-requires-clause-timed c =
+    let h = c.self.inside in
+    let stage_is : h.stage ≡ Filled c.args.b = ap (λ (v : Holding). v.stage) c.self.view_is ∙ c.requires.stage in
+    let program_is : h.program.value ≡ c.args.p.now = ap (λ (v : Holding). v.program) c.self.view_is ∙ c.requires.program in
+    let well = well_filled h.program.value h.rows h.border h.stage c.args.b h.sources.items c.self.invariant stage_is in
+    rw c.deref.ensures.value (subst (λ p. AreTimed p h.sources.items) program_is (well_timed h.program.value h.rows h.border h.sources.items well.0))
+
 pub lists_to-requires-clause-uncounted : goal.lists_to-requires-clause-uncounted
 lists_to-requires-clause-uncounted c = rw c.deref.ensures.value c.self.invariant.1
 
@@ -75,7 +84,11 @@ returns-in_default-clause-few c =
 pub returns-in_default-clause-most : goal.returns-in_default-clause-most
 returns-in_default-clause-most c =
     let h = c.self.inside in
-    holds_most h.program.value h.rows h.border Over h.sources.items c.self.invariant.1
+    let stage_is : h.stage ≡ Filled c.args.b = ap (λ (v : Holding). v.stage) c.self.view_is ∙ c.requires.stage in
+    let well = well_filled h.program.value h.rows h.border h.stage c.args.b h.sources.items c.self.invariant stage_is in
+    subst (λ (v : Holding). HoldsAtMost (most_held v.program) (holding h.program.value h.rows h.border Over h.sources.items)) c.self.view_is
+    (holds_most h.program.value h.rows h.border Over h.sources.items c.self.invariant.1
+    (well_timed h.program.value h.rows h.border h.sources.items well.0))
 
 pub returns-clause-few : goal.returns-clause-few
 returns-clause-few c =
@@ -91,10 +104,21 @@ returns-clause-few c =
 pub returns-clause-most : goal.returns-clause-most
 returns-clause-most c =
     let h = c.self.inside in
-    holds_most h.program.value h.rows (Some c.in-At.time) Filling c.drop_all.new.inlets.items
-    (still_uncounted c.in-At.time h.sources.items c.drop_all.new.inlets.items c.self.invariant.1 c.drop_all.ensures)
+    let t = c.in-At.time in
+    let news = c.drop_all.new.inlets.items in
+    let stage_is : h.stage ≡ Filled (At t) = ap (λ (v : Holding). v.stage) c.self.view_is ∙ c.requires.stage ∙ ap Filled c.in-At.is in
+    let well = well_filled h.program.value h.rows h.border h.stage (At t) h.sources.items c.self.invariant stage_is in
+    let now = dropped_well h.program.value h.rows t h.border h.sources.items news well.0 well.1 well.2 c.drop_all.ensures in
+    subst (λ (v : Holding). HoldsAtMost (most_held v.program) (holding h.program.value h.rows (Some t) Filling news)) c.self.view_is
+    (holds_most h.program.value h.rows (Some t) Filling news
+    (still_uncounted t h.sources.items news c.self.invariant.1 c.drop_all.ensures)
+    (well_timed h.program.value h.rows (Some t) news now))
 
 pub returns-in_err-lists-clause-most : goal.returns-in_err-lists-clause-most
 returns-in_err-lists-clause-most c =
     let h = c.self.inside in
-    holds_most h.program.value h.rows h.border Over h.sources.items c.self.invariant.1
+    let stage_is : h.stage ≡ Filled c.args.b = ap (λ (v : Holding). v.stage) c.self.view_is ∙ c.requires.stage in
+    let well = well_filled h.program.value h.rows h.border h.stage c.args.b h.sources.items c.self.invariant stage_is in
+    subst (λ (v : Holding). HoldsAtMost (most_held v.program) (holding h.program.value h.rows h.border Over h.sources.items)) c.self.view_is
+    (holds_most h.program.value h.rows h.border Over h.sources.items c.self.invariant.1
+    (well_timed h.program.value h.rows h.border h.sources.items well.0))

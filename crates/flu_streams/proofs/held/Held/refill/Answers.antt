@@ -3,9 +3,9 @@ use Rattle.flu_outside.specs.Taking.{TookFronts}
 use Rattle.flu_streams.specs.declared.border.Border.TheVariants.{Closed}
 use Rattle.flu_streams.specs.declared.faults.GatherFault.TheVariants.{ReadFault}
 use Rattle.flu_streams.specs.declared.held.Stage.TheVariants.{Filling, Filled, Over}
-use Rattle.flu_streams.specs.Holding.{Holding, AreHeldBehind, ClosedAreReadOut, Fills, IsNewBorder, IsRefillFault, HidesNoRoundFault}
-use Rattle.flu_streams.specs.LoopHeld.{AreWell, HasRefilled, StopsAtSource}
-use Rattle.flu_streams.proofs.Bounds.{holds_few, holds_most}
+use Rattle.flu_streams.specs.Holding.{Holding, AreHeldBehind, ClosedAreReadOut, Fills, IsNewBorder, IsRefillFault, HidesNoRoundFault, HoldsAtMost, most_held}
+use Rattle.flu_streams.specs.LoopHeld.{AreWell, AreTimed, HasRefilled, StopsAtSource}
+use Rattle.flu_streams.proofs.Bounds.{holds_few, holds_most, well_timed}
 use Rattle.flu_streams.proofs.Cuts.{well_filling}
 use Rattle.flu_streams.proofs.Gatherings.{err_same}
 use Rattle.flu_streams.proofs.RefillEnds.{refill_border, refill_well, refill_out, refill_closed, refill_fault, refill_hides}
@@ -21,6 +21,14 @@ refill_all-requires-clause-files g c =
     let here = subst (λ p. AreWell p h.rows h.border h.sources.items) program_is well in
     λ i s at inlet is. (here.each i s at inlet is).file
 
+pub refill_all-requires-clause-timed : goal.refill_all-requires-clause-timed
+refill_all-requires-clause-timed g c =
+    let h = c.self.inside in
+    let stage_is : h.stage ≡ Filling = ap (λ (v : Holding). v.stage) c.self.view_is ∙ c.requires.stage in
+    let program_is : h.program.value ≡ c.args.p.now = ap (λ (v : Holding). v.program) c.self.view_is ∙ c.requires.program in
+    let well = well_filling h.program.value h.rows h.border h.stage h.sources.items c.self.invariant stage_is in
+    subst (λ p. AreTimed p h.sources.items) program_is (well_timed h.program.value h.rows h.border h.sources.items well)
+
 pub refill_all-requires-clause-most : goal.refill_all-requires-clause-most
 refill_all-requires-clause-most g c =
     let h = c.self.inside in
@@ -30,12 +38,20 @@ refill_all-requires-clause-most g c =
 pub returns-in-Err-clause-most : goal.returns-in-Err-clause-most
 returns-in-Err-clause-most g c =
     let h = c.self.inside in
-    holds_most h.program.value h.rows h.border Over c.refill_all.new.inlets.items c.refill_all.ensures.uncounted
+    let news = c.refill_all.new.inlets.items in
+    let program_is : h.program.value ≡ c.args.p.now = ap (λ (v : Holding). v.program) c.self.view_is ∙ c.requires.program in
+    let timed = subst (λ p. AreTimed p news) (sym program_is) c.refill_all.ensures.timed in
+    subst (λ (v : Holding). HoldsAtMost (most_held v.program) (holding h.program.value h.rows h.border Over news)) c.self.view_is
+    (holds_most h.program.value h.rows h.border Over news c.refill_all.ensures.uncounted timed)
 
 pub returns-clause-most : goal.returns-clause-most
 returns-clause-most g c =
     let h = c.self.inside in
-    holds_most h.program.value h.rows h.border (Filled c.in-Ok.end) c.refill_all.new.inlets.items c.refill_all.ensures.uncounted
+    let news = c.refill_all.new.inlets.items in
+    let program_is : h.program.value ≡ c.args.p.now = ap (λ (v : Holding). v.program) c.self.view_is ∙ c.requires.program in
+    let timed = subst (λ p. AreTimed p news) (sym program_is) c.refill_all.ensures.timed in
+    subst (λ (v : Holding). HoldsAtMost (most_held v.program) (holding h.program.value h.rows h.border (Filled c.in-Ok.end) news)) c.self.view_is
+    (holds_most h.program.value h.rows h.border (Filled c.in-Ok.end) news c.refill_all.ensures.uncounted timed)
 
 pub returns-clause-few : goal.returns-clause-few
 returns-clause-few g c =
@@ -62,7 +78,8 @@ returns-in-Err-clause-fault g c =
     let is = g.F.Files.faults c.refill_all.new.files in
     let stop = subst (λ p. StopsAtSource p h.rows h.sources.items a b was is c.in-Err.fault) (sym program_is) c.in-Err.ensures.stop in
     subst (λ v. IsRefillFault v a b c.in-Err.fault) c.self.view_is
-    (refill_fault h.program.value h.rows h.border h.stage h.sources.items a b TookFronts c.in-Err.fault was is well.count c.self.invariant.1
+    (refill_fault h.program.value h.rows h.border h.stage h.sources.items a b TookFronts c.in-Err.fault was is well.count
+    (well_timed h.program.value h.rows h.border h.sources.items well) c.self.invariant.1
     c.in-Err.ensures.fronts stop)
 
 pub returns-in-Err-clause-hides : goal.returns-in-Err-clause-hides
@@ -77,7 +94,8 @@ returns-in-Err-clause-hides g c = λ is_fault before behind.
     let is = g.F.Files.faults c.refill_all.new.files in
     let stop = subst (λ p. StopsAtSource p h.rows h.sources.items a b was is c.in-Err.fault) (sym program_is) c.in-Err.ensures.stop in
     subst (λ v. HidesNoRoundFault v a b was is before) c.self.view_is
-    (refill_hides h.program.value h.rows h.border h.stage h.sources.items a b TookFronts c.in-Err.fault was is well.count well.forms c.in-Err.ensures.fronts stop
+    (refill_hides h.program.value h.rows h.border h.stage h.sources.items a b TookFronts c.in-Err.fault was is well.count
+    (well_timed h.program.value h.rows h.border h.sources.items well) well.forms c.in-Err.ensures.fronts stop
     (err_same (Err c.in-Err.fault) c.in-Err.fault ReadFault refl is_fault) before
     (subst (λ v. AreHeldBehind v before) (sym c.self.view_is) behind))
 
@@ -103,7 +121,8 @@ returns-clause-round g c = λ before behind.
     let well = well_filling h.program.value h.rows h.border h.stage h.sources.items c.self.invariant stage_is in
     let has = subst (λ p. HasRefilled p h.rows h.sources.items news a b c.in-Ok.end) (sym program_is) c.in-Ok.ensures.filled in
     subst (λ v. Fills v (holding h.program.value h.rows h.border (Filled c.in-Ok.end) news) a b c.in-Ok.end before) c.self.view_is
-    (fills h.program.value h.rows h.border h.stage (Filled c.in-Ok.end) h.sources.items news a b TookFronts c.in-Ok.end well.count c.in-Ok.ensures.fronts has
+    (fills h.program.value h.rows h.border h.stage (Filled c.in-Ok.end) h.sources.items news a b TookFronts c.in-Ok.end well.count
+    (well_timed h.program.value h.rows h.border h.sources.items well) c.in-Ok.ensures.fronts has
     before
     (subst (λ v. AreHeldBehind v before) (sym c.self.view_is) behind))
 

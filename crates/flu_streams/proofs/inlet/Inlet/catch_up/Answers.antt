@@ -1,8 +1,15 @@
 use Rattle.std.proofs.Common.{◌≡◌, ◌-◌, ◌<◌, ◌≤◌, ℕ, Option, None, Some, length, refl, sym, ap, ◌∙◌, arith}
 use Rattle.flu_lemmas.proofs.Tests.{not_both}
+use Rattle.std.specs.List.{filter}
+use Rattle.std.specs.Prelude.{nat_lt}
+use Rattle.flu_model.specs.declared.events.Item.{Item}
+use Rattle.flu_model.specs.Moments.{last_moment}
+use Rattle.flu_streams.specs.Holding.{most_of}
+use Rattle.flu_streams.specs.Lists.{item_time}
 use Rattle.flu_streams.specs.LoopHeld.{Stays, Drops, Comes}
 use Rattle.flu_streams.specs.Rounds.{settled}
-use Rattle.flu_streams.proofs.Bounds.{few_behind, few_at_first}
+use Rattle.flu_streams.specs.Tests.{margin}
+use Rattle.flu_streams.proofs.Bounds.{few_behind, few_at_first, margin_most}
 use Rattle.flu_streams.proofs.RoundLaws.{settled_is, settled_some}
 use Rattle.flu_streams.proofs.inlet.Inlet.catch_up.Goals as goal
 
@@ -26,6 +33,7 @@ pub returns-then-self : goal.returns-then-self
 returns-then-self c =
     let d = c.drop_until.ensures in
     record {
+      timing = d.timing;
       rows = d.rows;
       last = d.last;
       ended = d.ended;
@@ -40,58 +48,75 @@ returns-then-self c =
 pub returns-then-settled-goal : goal.returns-then-settled-goal
 returns-then-settled-goal c =
     let d = c.drop_until-then-settled-goal.ensures in
-    let le : c.args.slack ≤ c.in-Some-last.last = omega arith in
-    let at : settled c.args.slack c.args.self.now.last ≡ Some (c.in-Some-last.last - c.args.slack) =
-    settled_here c.args.slack c.in-Some-last.last c.args.self.now.last c.in-Some-last.is le in
-    let reached : c.in-Some.goal ≤ c.in-Some-last.last - c.args.slack = omega arith in
+    let h = c.args.self.now in
+    let l = c.in-Some-last.last in
+    let behind : c.margin-behind.result ≡ margin h.timing c.args.slack = c.margin-behind.ensures in
+    let le : margin h.timing c.args.slack ≤ l = omega (arith, behind, c.if-last-behind.false) in
+    let at : settled (margin h.timing c.args.slack) h.last ≡ Some (l - margin h.timing c.args.slack) =
+    settled_here (margin h.timing c.args.slack) l h.last c.in-Some-last.is le in
+    let reached : c.in-Some.goal ≤ l - margin h.timing c.args.slack = omega (arith, behind, c.if-settled-goal.true) in
     record {
+      timing = d.timing;
       rows = d.rows;
       last = d.last;
       ended = d.ended;
       closed = d.closed;
       held = d.held;
-      items = Comes c.in-Some.goal (λ goes. (c.in-Some-last.last - c.args.slack, at, reached)) c.in-Some.is refl d.items;
+      items = Comes c.in-Some.goal (λ goes. (l - margin h.timing c.args.slack, at, reached)) c.in-Some.is refl d.items;
       before = λ t u e at. no_goal t e;
       shut = λ closed. refl;
       room = λ t e. no_goal t e;
     }
 
-pub returns-then-len-ge-MOST_ITEMS : goal.returns-then-len-ge-MOST_ITEMS
-returns-then-len-ge-MOST_ITEMS c =
-    let d = c.drop_until-then-len-ge-MOST_ITEMS.ensures in
-    let le : c.args.slack ≤ c.in-Some-last.last = omega arith in
-    let at : settled c.args.slack c.args.self.now.last ≡ Some (c.in-Some-last.last - c.args.slack) =
-    settled_here c.args.slack c.in-Some-last.last c.args.self.now.last c.in-Some-last.is le in
-    let short : c.in-Some-last.last - c.args.slack < c.in-Some.goal = omega arith in
+pub returns-then-len-most_items : goal.returns-then-len-most_items
+returns-then-len-most_items c =
+    let d = c.drop_until-then-len-most_items.ensures in
+    let h = c.args.self.now in
+    let l = c.in-Some-last.last in
+    let behind : c.margin-behind.result ≡ margin h.timing c.args.slack = c.margin-behind.ensures in
+    let le : margin h.timing c.args.slack ≤ l = omega (arith, behind, c.if-last-behind.false) in
+    let time : l - c.margin-behind.result ≡ l - margin h.timing c.args.slack = ap (λ n. l - n) behind in
+    let at : settled (margin h.timing c.args.slack) h.last ≡ Some (l - margin h.timing c.args.slack) =
+    settled_here (margin h.timing c.args.slack) l h.last c.in-Some-last.is le in
+    let short : l - margin h.timing c.args.slack < c.in-Some.goal = omega (arith, behind, c.if-settled-goal.false) in
+    let left = d.items ∙ ap (λ t. filter (λ (item : Item). nat_lt (last_moment h.timing t) (item_time item)) h.items) time in
     record {
+      timing = d.timing;
       rows = d.rows;
       last = d.last;
       ended = d.ended;
       closed = d.closed;
       held = d.held;
-      items = Drops (c.in-Some-last.last - c.args.slack) c.in-Some.goal c.if-self.false at short c.in-Some.is (d.goal ∙ c.in-Some.is) d.items;
+      items = Drops (l - margin h.timing c.args.slack) c.in-Some.goal c.if-self.false at short c.in-Some.is (d.goal ∙ c.in-Some.is) left;
       before = λ t u e now.
           let goal_is : c.in-Some.goal ≡ t = same_of (sym c.in-Some.is ∙ sym d.goal ∙ e) in
-          let time_is : c.in-Some-last.last - c.args.slack ≡ u = same_of (sym at ∙ ap (settled c.args.slack) (sym d.last) ∙ now) in
+          let time_is : l - margin h.timing c.args.slack ≡ u = same_of (sym at ∙ (λ i. settled (margin (sym d.timing i) c.args.slack) (sym d.last i)) ∙ now) in
           omega (arith, short, goal_is, time_is);
-      shut = λ closed. absurd (not_both c.args.self.now.closed (sym d.closed ∙ closed) c.if-self.false);
+      shut = λ closed. absurd (not_both h.closed (sym d.closed ∙ closed) c.if-self.false);
       room = λ t e.
-          let few = few_behind c.args.slack c.in-Some-last.last c.args.self.now c.in-Some-last.is le in
-          let same = ap length d.items in
-          omega (arith, few, same, c.requires);
+          let few = few_behind (margin h.timing c.args.slack) l h c.in-Some-last.is le in
+          let same = ap length left in
+          let most = margin_most h.timing c.args.slack c.requires in
+          let bound = ap most_of d.timing in
+          omega (arith, few, same, most, bound);
     }
 
-pub returns-then-last-slack : goal.returns-then-last-slack
-returns-then-last-slack c =
-    let early : c.in-Some-last.last < c.args.slack = omega arith in
+pub returns-then-last-behind : goal.returns-then-last-behind
+returns-then-last-behind c =
+    let h = c.args.self.now in
+    let early : c.in-Some-last.last < margin h.timing c.args.slack = omega (arith, c.margin-behind.ensures, c.if-last-behind.true) in
     record {
+      timing = refl;
       rows = refl;
       last = refl;
       ended = refl;
       closed = refl;
       held = refl;
       items = Stays refl refl;
-      before = λ t u e at. absurd (none_early c.args.slack c.in-Some-last.last u c.args.self.now.last c.in-Some-last.is early at);
-      shut = λ closed. absurd (not_both c.args.self.now.closed closed c.if-self.false);
-      room = λ t e. let few = few_at_first c.args.slack c.in-Some-last.last c.args.self.now c.in-Some-last.is early in omega (arith, few, c.requires);
+      before = λ t u e at. absurd (none_early (margin h.timing c.args.slack) c.in-Some-last.last u h.last c.in-Some-last.is early at);
+      shut = λ closed. absurd (not_both h.closed closed c.if-self.false);
+      room = λ t e.
+          let few = few_at_first (margin h.timing c.args.slack) c.in-Some-last.last h c.in-Some-last.is early in
+          let most = margin_most h.timing c.args.slack c.requires in
+          omega (arith, few, most);
     }

@@ -18,12 +18,13 @@ loop-time-init g c =
     let left = g.F.Files.left c.args.files.now in
     let file = c.args.source.now.file in
     record {
+      timing = c.catch_up.ensures.timing;
       form = ap (λ place. place.form) c.catch_up.ensures.rows;
       file = ap (λ place. place.file) c.catch_up.ensures.rows ∙ c.requires.file;
       so_far = λ above before is. refilling_caught c.args.kinds.now c.args.source.now c.args.first c.args.rows above before
-          c.args.self.now c.args.self.now c.catch_up.new.self left left c.catch_up.ensures
+          c.args.self.now c.args.self.now c.catch_up.new.self left left refl c.catch_up.ensures
           (refilling_none c.args.kinds.now c.args.source.now c.args.first c.args.rows above before c.args.self.now left is);
-      well = λ border was. well_caught c.args.source.now border c.args.self.now c.catch_up.new.self c.catch_up.ensures was;
+      well = λ border was. well_caught c.args.self.now.timing c.args.source.now border c.args.self.now c.catch_up.new.self c.catch_up.ensures was;
       out = λ was closed. was (sym c.catch_up.ensures.closed ∙ closed);
       few = few_caught c.args.rows c.args.source.now c.args.self.now c.catch_up.new.self c.catch_up.ensures;
       room = c.catch_up.ensures.room;
@@ -41,14 +42,14 @@ returns-in-Some-clause-filled g c =
     let left = g.F.Files.left in
     refilled_open c.args.kinds.now c.args.source.now c.args.first c.in-Some.time c.args.rows c.args.self.now c.loop-time.self (left c.args.files.now)
     (left c.loop-time.files)
-    c.requires.some c.loop-time.invariant.so_far c.loop-time.invariant.well c.loop-time.invariant.out c.loop-time.invariant.few
+    c.requires.some c.loop-time.invariant.timing c.loop-time.invariant.so_far c.loop-time.invariant.well c.loop-time.invariant.out c.loop-time.invariant.few
     c.loop-time.invariant.form (sym c.in-Some.ensures)
 
 pub returns-then-self-clause-filled : goal.returns-then-self-clause-filled
 returns-then-self-clause-filled g c =
     let left = g.F.Files.left in
     refilled_shut c.args.kinds.now c.args.source.now c.args.first c.args.rows c.args.self.now c.loop-time.self (left c.args.files.now) (left c.loop-time.files)
-    c.requires.some c.loop-time.invariant.so_far c.loop-time.invariant.well c.loop-time.invariant.out c.loop-time.invariant.few
+    c.requires.some c.loop-time.invariant.timing c.loop-time.invariant.so_far c.loop-time.invariant.well c.loop-time.invariant.out c.loop-time.invariant.few
     c.loop-time.invariant.form (sym c.in_default.ensures, c.loop-time.invariant.before_goal) c.if-self.true (c.loop-time.invariant.shut c.if-self.true)
 
 pub returns-in-Err-clause-stop : goal.returns-in-Err-clause-stop
@@ -63,7 +64,7 @@ returns-in-Err-clause-stop g c =
     by_fault Failed e =
         rw (c.stop_of.ensures, e) (stops_behind c.args.kinds.now c.args.source.now c.args.first c.args.rows c.args.self.now c.loop-time.self c.next_row.new.self
         (g.F.Files.left c.args.files.now) (g.F.Files.left c.loop-time.files) (g.F.Files.left c.next_row.new.files)
-        c.requires.some c.loop-time.invariant.so_far c.if-self.false (sym c.in_default.ensures, c.loop-time.invariant.before_goal)
+        c.requires.some c.loop-time.invariant.timing c.loop-time.invariant.so_far c.if-self.false (sym c.in_default.ensures, c.loop-time.invariant.before_goal)
         (c.next_row.ensures.form ∙ c.loop-time.invariant.form) (c.next_row.ensures.same ∙ c.loop-time.invariant.file)
         (c.next_row.ensures.undecided (rw (c.in-Err.is, e) refl)) (c.next_row.ensures.kept (rw (c.in-Err.is, e) refl)))
     by_fault NoMemory e = rw (c.stop_of.ensures, e) tt
@@ -85,11 +86,14 @@ returns-in-Err-take-clause-stop g c =
     rw c.stop_at.ensures (refused_row c.args.kinds.now c.args.source.now c.args.first c.args.rows c.args.self.now c.loop-time.self
     (record c.loop-time.self { rows = c.next_row.new.self }) (left c.args.files.now) (left c.loop-time.files)
     (left c.next_row.new.files) c.in-Row.line c.in-Row.row c.in-Err-take.refusal
-    c.requires.some c.loop-time.invariant.so_far c.if-self.false
-    (sym c.in_default.ensures, c.loop-time.invariant.before_goal) refl refl refl refl told c.in-Err-take.ensures.refused)
+    c.requires.some c.loop-time.invariant.timing c.loop-time.invariant.so_far c.if-self.false
+    (sym c.in_default.ensures, c.loop-time.invariant.before_goal) refl refl refl refl refl told c.in-Err-take.ensures.refused)
 
 pub returns-in-Err-take-clause-counted : goal.returns-in-Err-take-clause-counted
 returns-in-Err-take-clause-counted g c = c.take.ensures.counted ∙ c.loop-time.invariant.counted
+
+pub returns-in-Err-take-clause-timing : goal.returns-in-Err-take-clause-timing
+returns-in-Err-take-clause-timing g c = c.take.ensures.timing ∙ c.loop-time.invariant.timing
 
 pub returns-in-Err-take-clause-taken : goal.returns-in-Err-take-clause-taken
 returns-in-Err-take-clause-taken g c = taken_then c.args.source.now.file (g.F.Files.left c.args.files.now) (g.F.Files.left c.loop-time.files)
@@ -110,21 +114,22 @@ loop-time-preserved g c =
     let catches = c.catch_up-in-Row.ensures in
     let caught = c.catch_up-in-Row.new.self in
     record {
+      timing = catches.timing ∙ puts.timing ∙ c.loop-time.invariant.timing;
       form = ap (λ place. place.form) catches.rows ∙ ap (λ place. place.form) puts.rows ∙ form_here;
       file = ap (λ place. place.file) catches.rows ∙ ap (λ place. place.file) puts.rows ∙ here;
       so_far = λ above before is. refilling_caught c.args.kinds.now c.args.source.now c.args.first c.args.rows above before
-          c.args.self.now c.take.new.self caught (left old) (left new) catches
+          c.args.self.now c.take.new.self caught (left old) (left new) (puts.timing ∙ c.loop-time.invariant.timing) catches
           (refilling_row c.args.kinds.now c.args.source.now c.args.first c.args.rows c.args.self.now c.loop-time.self _ c.take.new.self (left old)
           (left mid) (left new) c.in-Row.line c.in-Row.row
-          c.requires.some c.loop-time.invariant.so_far c.if-self.false
-          (sym c.in_default.ensures, c.loop-time.invariant.before_goal) refl refl refl refl refl refl here told puts above before is);
-      well = λ border was. well_caught c.args.source.now border c.take.new.self caught catches
-          (well_row c.args.kinds.now c.args.source.now c.args.first border c.loop-time.self _ c.take.new.self c.in-Row.row
-          (c.loop-time.invariant.well border was) c.if-self.false refl refl refl here puts);
+          c.requires.some c.loop-time.invariant.timing c.loop-time.invariant.so_far c.if-self.false
+          (sym c.in_default.ensures, c.loop-time.invariant.before_goal) refl refl refl refl refl refl refl here told puts above before is);
+      well = λ border was. well_caught c.args.self.now.timing c.args.source.now border c.take.new.self caught catches
+          (well_row c.args.self.now.timing c.args.self.now.fits c.args.kinds.now c.args.source.now c.args.first border c.loop-time.self _ c.take.new.self
+          c.in-Row.row (c.loop-time.invariant.well border was) refl c.if-self.false refl refl refl here puts);
       out = λ was closed. absurd (not_both caught.closed closed (catches.closed ∙ puts.closed ∙ c.if-self.false));
       few = λ was. few_caught c.args.rows c.args.source.now c.take.new.self caught catches
           (few_row c.args.rows c.args.kinds.now c.args.source.now c.args.first c.loop-time.self _ c.take.new.self c.in-Row.row c.requires.some
-          (sym c.in_default.ensures, c.loop-time.invariant.before_goal) refl refl puts);
+          (sym c.in_default.ensures, c.loop-time.invariant.before_goal) refl refl refl puts);
       room = catches.room;
       before_goal = catches.before;
       shut = catches.shut;
@@ -148,9 +153,10 @@ returns-in-Some-defect_behind g c =
       filled = tt;
       stop = meets_last c.args.kinds.now c.args.source.now c.args.first c.args.rows c.args.self.now c.loop-time.self c.next_row.new.self (left old) (left mid)
           (left new) c.in-Ok.next c.in-Some-defect_behind.row c.in-Some-defect_behind.why
-          c.requires.some c.loop-time.invariant.so_far c.if-self.false (sym c.in_default.ensures, c.loop-time.invariant.before_goal) c.in-Ok.ensures.told
-          c.in_default-next.not-Row (sym c.in-Some-defect_behind.ensures);
+          c.requires.some c.loop-time.invariant.timing c.loop-time.invariant.so_far c.if-self.false
+          (sym c.in_default.ensures, c.loop-time.invariant.before_goal) c.in-Ok.ensures.told c.in_default-next.not-Row (sym c.in-Some-defect_behind.ensures);
       counted = c.loop-time.invariant.counted;
+      timing = c.loop-time.invariant.timing;
       taken = taken_then file (left old) (left mid) (left new) c.loop-time.invariant.taken (rw c.loop-time.invariant.file at c.in-Ok.ensures.taken);
       counts = counts_then file (left old) (left mid) (faults old) (faults mid) (faults new) c.loop-time.invariant.taken c.loop-time.invariant.counts
           (rw c.loop-time.invariant.file at c.in-Ok.ensures.counts);
@@ -175,11 +181,12 @@ returns-in_default-next g c =
     record {
       filled = refilled_end c.args.kinds.now c.args.source.now c.args.first c.args.rows c.args.self.now c.loop-time.self _ c.catch_up-in_default-next.new.self
           (left old) (left mid) (left new) c.in-Ok.next
-          c.requires.some c.loop-time.invariant.so_far c.loop-time.invariant.well c.loop-time.invariant.few c.if-self.false
+          c.requires.some c.loop-time.invariant.timing c.loop-time.invariant.so_far c.loop-time.invariant.well c.loop-time.invariant.few c.if-self.false
           (sym c.in_default.ensures, c.loop-time.invariant.before_goal) c.in-Ok.ensures.told c.in_default-next.not-Row none out
-          refl refl refl refl refl refl form_here here c.catch_up-in_default-next.ensures;
+          refl refl refl refl refl refl refl form_here here c.catch_up-in_default-next.ensures;
       stop = tt;
       counted = ap is_some c.catch_up-in_default-next.ensures.held ∙ c.loop-time.invariant.counted;
+      timing = c.catch_up-in_default-next.ensures.timing ∙ c.loop-time.invariant.timing;
       taken = taken_then file (left old) (left mid) (left new) c.loop-time.invariant.taken (rw c.loop-time.invariant.file at c.in-Ok.ensures.taken);
       counts = counts_then file (left old) (left mid) (faults old) (faults mid) (faults new) c.loop-time.invariant.taken c.loop-time.invariant.counts
           (rw c.loop-time.invariant.file at c.in-Ok.ensures.counts);

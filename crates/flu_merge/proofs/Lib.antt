@@ -1,0 +1,4 @@
+mod Turns
+mod Spread
+mod Sound
+mod Files

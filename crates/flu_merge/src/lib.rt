@@ -1,0 +1,6 @@
+//! The order in which the rows of the files of a job are taken.
+#![tactic(auto)]
+
+mod laws;
+
+pub use laws::good_files_are_merged;
