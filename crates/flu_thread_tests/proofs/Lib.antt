@@ -1,3 +1,2 @@
 pub mod PassLemmas
 pub mod RowLemmas
-pub mod StepLemmas

@@ -1,5 +1,5 @@
 -- The case of the tests: two sources that add and one that reads, at the leaves and at the root of a plan.
-use Rattle.std.specs.Prelude.{◌≡◌, ℕ, ℤ, pos, ◌≤◌, true, false, List, [], ◌∷◌, length, slice_index_or, Some, None}
+use Rattle.std.specs.Prelude.{◌≡◌, ℕ, ℤ, pos, true, false, List, [], ◌∷◌, length, Some, None}
 use Rattle.flu_model.specs.declared.events.Event.{Event}
 use Rattle.flu_model.specs.declared.events.Item.{Item}
 use Rattle.flu_model.specs.declared.events.Item.TheVariants.{Event as ItemEvent, End}
@@ -43,17 +43,6 @@ pub record HasShape (k : Content) : Type 0 where
   pub right : owner_of (job k) (nodes k) (itag 1) ≡ Some 2
   pub reads : owner_of (job k) (nodes k) (itag 2) ≡ Some 0
   pub apart : are_related (nodes k) 2 1 ≡ false
-
--- the three streams have at least this many items
-pub record AreThere (k : Content) (a b c : ℕ) : Type 0 where
-  pub first : a ≤ length (slice_index_or (listed k.streams) 0 [])
-  pub second : b ≤ length (slice_index_or (listed k.streams) 1 [])
-  pub third : c ≤ length (slice_index_or (listed k.streams) 2 [])
-
--- one node has all
-pub record IsAlone (k : Content) : Type 0 where
-  pub itags : count_of_itags (job k) ≡ 3
-  pub count : length (nodes k) ≡ 1
 
 pub record IsRow (k : Content) : Type 0 where
   pub shape : HasShape k

@@ -6,7 +6,7 @@ ghost use Rattle.flu_model.specs.Itags.{count_of_itags};
 ghost use Rattle.flu_model.specs.Listed.{listed};
 ghost use Rattle.flu_deps.specs.Checking.{program_of};
 ghost use Rattle.flu_deps.specs.Validated.{IsValidFor};
-ghost use Rattle.flu_thread_tests.specs.Rows.{row, IsAlone, HasShape};
+ghost use Rattle.flu_thread_tests.specs.Rows.{row, HasShape};
 
 use flu_cells::State;
 use flu_check::check;
@@ -28,9 +28,6 @@ pub const COUNT: &str =
 
 /// Its plan with the reads at the root and each source that adds at a leaf.
 pub const TREE: &str = "node root: read -> l r\nnode l: inc@a\nnode r: inc@b\n";
-
-/// Its plan with one node.
-pub const ONE: &str = "node root: inc, read\n";
 
 /// An accepted job with three itags.
 pub fn checked(rt: &impl Abort, alloc: Global, job: &str) -> Checked
@@ -100,11 +97,4 @@ pub fn has_shape(case: &Case) -> bool
         && v.owner(Itag(1)) == 2
         && v.owner(Itag(2)) == 0
         && !v.related(2, 1)
-}
-
-/// Whether the plan has one node.
-pub fn is_alone(case: &Case) -> bool
-    ensures { result ≡ true → IsAlone case.now }
-{
-    itag_count(case.checked().program()) == 3 && case.valid().count() == 1
 }

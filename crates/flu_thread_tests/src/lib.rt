@@ -1,5 +1,4 @@
-//! Tests of lots, of mailboxes, of the links between workers, of the arrival words and of workers, in one thread and in several. It has no
-//! code of its own.
+//! Tests of lots, of mailboxes, of the links between workers and of the arrival words, in one thread and in several. It has no code of its own.
 #![tactic(auto)]
 
 #[cfg(test)]
@@ -16,7 +15,3 @@ mod lots;
 mod mailboxes;
 #[cfg(test)]
 mod passing;
-#[cfg(test)]
-mod steps;
-#[cfg(test)]
-mod workers;
