@@ -1,15 +1,10 @@
 //! The input of a demo.
 
-ghost use Rattle.std.specs.Prelude.{◌≡◌, ◌≤◌, ◌<◌, ◌^◌, length};
-ghost use Rattle.flu_model.specs.Itags.{count_of_itags};
-ghost use Rattle.flu_model.specs.Listed.{listed};
+ghost use Rattle.std.specs.Prelude.{◌≤◌, ◌<◌, ◌^◌};
 
-use flu_cells::State;
+use crate::outcomes::report;
 use flu_gen::{demo_job, demo_streams};
-use flu_model::{Program, Streams};
 use flu_parse::{print_job, read_job};
-use flu_report::report_text;
-use flu_seq::fold;
 use std::alloc::{AllocError, Global};
 use std::test::Fail;
 
@@ -29,15 +24,6 @@ source web \"web.csv\" rate 1000: view[0..9]
 source app \"app.csv\" rate 500: view[0..9], update[0..9]
 source clock \"clock.csv\" rate 1: tick
 ";
-
-/// The report of the fold of a job's streams, from the empty state.
-pub fn report(alloc: Global, p: &Program, streams: &Streams) -> Result<String, AllocError>
-    requires { length (listed streams.now) ≡ count_of_itags p.now }
-{
-    let (_, outs) = fold(alloc, p, State::new(alloc), streams)?;
-    let text = report_text(alloc, p, outs)?;
-    String::from_str(alloc, text.as_str())
-}
 
 /// The report of a demo.
 fn demo(alloc: Global, n: u32, seed: u32) -> Result<String, AllocError>

@@ -1,5 +1,5 @@
-//! Tests of what is read from outside, and of what is made of it: files and sinks, rows, the gathering of sources, merged lists, folds, reports,
-//! checkpoints, partials and demos.
+//! Tests of what is read from outside, and of what is made of it: files and sinks, rows, the gathering of sources, merged lists, updates, folds,
+//! reports, checkpoints, partials and demos.
 #![tactic(auto)]
 
 #[cfg(test)]
@@ -15,6 +15,8 @@ mod gathering;
 #[cfg(test)]
 mod host;
 #[cfg(test)]
+mod outcomes;
+#[cfg(test)]
 mod outside;
 #[cfg(test)]
 mod partials;
@@ -26,3 +28,5 @@ mod rows;
 mod slack;
 #[cfg(test)]
 mod tables;
+#[cfg(test)]
+mod updates;

@@ -1,12 +1,9 @@
 //! Sources whose rows may be late.
 
-use crate::demos::report;
-use crate::files::files_of;
-use crate::gathering::told;
+use crate::outcomes::outcome;
 use crate::tables::case_of;
 use flu_model::Program;
 use flu_parse::read_job;
-use flu_streams::gather;
 use std::alloc::{AllocError, Global};
 use std::test::Fail;
 
@@ -18,24 +15,20 @@ fn job(alloc: Global, slack: &str) -> Result<String, AllocError> {
 }
 
 /// The report of the job if these rows are in the file of the first source, or the fault of its sources.
-fn outcome(alloc: Global, p: &Program, rows: &str) -> Result<String, AllocError> {
+fn outcome_of(alloc: Global, p: &Program, rows: &str) -> Result<String, AllocError> {
     let named: [(&str, &[u8]); 3] = [
         ("a.csv", rows.as_bytes()),
         ("b.csv", b"2,inc,7\nend\n"),
         ("c.csv", b"3,read\n5,read\nend\n"),
     ];
-    let mut files = files_of(alloc, &named, 4096)?;
-    match gather(alloc, p, &mut files) {
-        Ok(streams) => report(alloc, p, &streams),
-        Err(fault) => told(alloc, fault),
-    }
+    outcome(alloc, p, &named)
 }
 
 /// The same on one line, with a slash for each line feed, in the rows and in the answer.
 fn told_of(alloc: Global, slack: &str, rows: &str) -> Result<String, Fail> {
     let p = read_job(alloc, job(alloc, slack)?.as_bytes())?;
     let rows = rows.replace(alloc, "/", "\n")?;
-    let got = outcome(alloc, &p, rows.as_str())?;
+    let got = outcome_of(alloc, &p, rows.as_str())?;
     let told = got.replace(alloc, "\n", "/")?;
     Ok(told)
 }
@@ -89,15 +82,15 @@ fn falling(alloc: Global, blocks: u32, size: u32, then: &str) -> Result<String, 
 fn falling_rows_are_sorted(rt: HostRuntime) -> Result<(), Fail> {
     let alloc = rt.alloc();
     let p = read_job(alloc, SHOWN.as_bytes())?;
-    let ordered = outcome(alloc, &p, falling(alloc, 300, 1, "")?.as_str())?;
+    let ordered = outcome_of(alloc, &p, falling(alloc, 300, 1, "")?.as_str())?;
     assert!(rt; ordered.starts_with("0,inc,0\n1,inc,1\n"), "{ordered}");
     for (blocks, size) in [(150, 2), (100, 3), (6, 50), (5, 60)] {
-        let got = outcome(alloc, &p, falling(alloc, blocks, size, "")?.as_str())?;
+        let got = outcome_of(alloc, &p, falling(alloc, blocks, size, "")?.as_str())?;
         assert_eq!(rt; got.as_str(), ordered.as_str(), "{size}");
     }
-    let low = outcome(alloc, &p, falling(alloc, 3, 100, "")?.as_str())?;
+    let low = outcome_of(alloc, &p, falling(alloc, 3, 100, "")?.as_str())?;
     assert_eq!(rt; low.as_str(), "0 61 Disordered { last: 99, got: 39 }");
-    let again = outcome(alloc, &p, falling(alloc, 5, 60, "270,inc,1\n")?.as_str())?;
+    let again = outcome_of(alloc, &p, falling(alloc, 5, 60, "270,inc,1\n")?.as_str())?;
     assert_eq!(rt; again.as_str(), "0 301 Disordered { last: 299, got: 270 }");
     Ok(())
 }
