@@ -234,7 +234,7 @@ fn write_row<E: Sink>(err: &mut E, name: &str, row: u64, why: &[u8]) -> Result<(
     )
 }
 
-// Writes the line of a row whose time is not greater than the last one.
+// Writes the line of a row that is late by more than it may be, or whose time an earlier row has.
 fn write_disordered<E: Sink>(
     err: &mut E,
     name: &str,
@@ -268,7 +268,7 @@ fn write_disordered<E: Sink>(
     )
 }
 
-// Writes the line of a row that makes too many items.
+// Writes the line of a row that is one too many.
 fn write_too_many<E: Sink>(err: &mut E, name: &str, row: u64, count: u64) -> Result<(), Failed>
     ensures { Writes (source_fault_line name.now row (Why.TooMany count)) (E.taken err.old) (E.taken err.new) (E.faults err.old) (E.faults err.new) result }
 {

@@ -166,7 +166,7 @@ pub record Fills (old new : Holding) (left left' : Option Contents) (end : Borde
   pub round : WhereTold left left' (λ was is. (whole : ℕ → List Next) → AreInAll old before was whole
       → IsRound old.program old.rows old.border whole before now end × AreInAll new now is whole)
 
--- a new border is above the one before it, and is a time that a row can have
+-- a new border is above the one before it, and below 2^63
 abbrev pub IsNewBorder : Option ℕ → Border → Type 0
 IsNewBorder above (At t) = (is_above above t ≡ true) × (t < 2 ^ 63)
 IsNewBorder above Closed = ⊤

@@ -11,13 +11,15 @@ pub enum Why {
     UnknownTag,
     /// The row names an item that its kind's list does not have.
     UnknownItem,
-    /// An earlier row has the same time, or the time is not above the greatest one so far, `last`, less the source's slack.
+    /// An earlier row has the same time, or the time is not above the greatest one so far, `last`, less the source's slack. In version 3 the time is
+    /// below that one less the slack.
     Disordered { last: u64, got: u64 },
     /// The file stops without `end`: the row is the one after its last line.
     Unclosed,
     /// There is a row after `end`.
     AfterEnd,
-    /// The sources have more items than may be held, or a file has more lines than it may have: the first count past the limit.
+    /// The sources have more items than may be held, a file has more lines than it may have, or in version 3 a source has more rows at one time than
+    /// it may have: the first count past the limit.
     TooMany { count: u64 },
 }
 

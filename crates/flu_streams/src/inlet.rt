@@ -30,9 +30,6 @@ use std::alloc::{AllocError, Global};
 /// How many rows a round needs of a source at most.
 const MOST_ROWS: u64 = 4096;
 
-/// The greatest slack of a source.
-const MOST_SLACK: u64 = 60_000;
-
 /// What is held of a source: the items with a time above the last border at their moments, in order; how its rows are numbered; its reader; the
 /// greatest time that was read; and whether `end` was, and all of its file. In a resumed run, `goal` is its border until the reading has reached it.
 ///
@@ -206,17 +203,18 @@ impl Inlet {
         if settled >= goal {
             self.drop_until(goal);
             self.goal = None;
-        } else if self.items.len() as u64 >= self.most_items() {
+        } else if self.items.len() as u64 >= self.most_items(slack) {
             self.drop_until(settled);
         }
     }
 
     // With this many items, a resumed run that has not reached its border yet drops settled ones: at most as many are not settled as the source may
-    // have at the times within the margin of the greatest slack, and a round needs at most some more.
-    fn most_items(&self) -> u64
-        ensures { result ≡ most_of self.now.timing }
+    // have at the times within its margin, and a round needs at most some more.
+    fn most_items(&self, slack: u64) -> u64
+        requires { slack ≤ 60000 }
+        ensures { result ≤ most_of self.now.timing }
     {
-        MOST_ROWS + margin(self.timing, MOST_SLACK) * self.timing.ties
+        MOST_ROWS + margin(self.timing, slack) * self.timing.ties
     }
 
     // The settled time, if this many of the items come no later.

@@ -20,8 +20,8 @@ use std::alloc::AllocError;
 /// The most items that are held at once, where they are counted.
 const MOST_ITEMS: u64 = 16_777_216;
 
-/// The moment of a row at a time behind the items that are held, or the rule that its time breaks: it is above the greatest one that was read,
-/// `last`, less the slack, or where rows may have one time, not below that, and not too many of them have it. Above `last` none of them is looked at.
+/// The moment of a row at a time after the items that are held, or the rule that its time breaks: it has to be above the greatest one that was read,
+/// `last`, less the slack, in version 3 not below that; and not too many rows may have it. Above `last` none of the items is looked at.
 pub(crate) fn moment_behind(
     items: &mut TimedItems,
     timing: Timing,

@@ -58,8 +58,8 @@ impl TimedItems {
         self.early.len() + self.late.len()
     }
 
-    /// How many come from a time on and before another. These follow one another, each later than the one before it by one, from the first
-    /// time on: so the last of them tells how many there are.
+    /// How many come from a moment on and before another. They are at consecutive moments from the first one on, so the last of them tells how many
+    /// there are.
     pub(crate) fn count_between(&mut self, from: u64, end: u64) -> Result<u64, AllocError>
         requires rising { IsTrue (rises_from item_time 0 self.old) }
         requires order { from < end }
