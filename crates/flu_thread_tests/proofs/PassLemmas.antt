@@ -9,7 +9,7 @@ use Rattle.flu_fork.specs.Laws.{no_counts}
 use Rattle.flu_fork.specs.Lots.{job, nodes, setting_of, LotFits}
 use Rattle.flu_fork.specs.Serving.{LotCounts, AsksAbove, LeavesServe, Served, counts_of, ContentsAreSettings}
 use Rattle.flu_fork.specs.Streams.{IsClearOf}
-use Rattle.flu_link.specs.Notes.{UpperNote, LowerNote, upper_start, lower_start}
+use Rattle.flu_link.specs.Notes.{UpperNote, LowerNote, upper_start, lower_start, after_give}
 use Rattle.flu_thread_tests.specs.Passing.{IsFree, IsOut, MayGo, IsTaken, IsBelow, Holds}
 use Rattle.flu_thread_tests.specs.Rows.{IsRow, first_read, IsUnused, IsServed}
 use Rattle.flu_thread_tests.proofs.RowLemmas.{none, one, read, zeros, asks, there, clear}
@@ -54,6 +54,9 @@ goes_again u lot t upto = record {
 }
 
 -- ---- below
+
+pub stays_below : (l m : LowerNote) (lot : Lot) → IsBelow l → m ≡ after_give l lot → IsBelow m
+stays_below l m lot at is = subst IsBelow (sym is) (record { row = at.row; lower = at.lower })
 
 pub first_fits : (k : Content) (l : LowerNote) (first : Lot) → l.case ≡ k → IsServed k first → LotFits l.case 1 first
 first_fits k l first case s = subst (λ (c : Content). LotFits c 1 first) (sym case) s.fits

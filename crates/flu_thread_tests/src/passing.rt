@@ -151,6 +151,7 @@ fn hears<R: Wait + Abort>(rt: &R, low: &mut Lower)
 }
 
 /// Gives the lot for the first read, once that is asked for.
+#[tactic(auto, using(crate::proofs::PassLemmas::stays_below))]
 fn gives<R: Wait + Abort>(rt: &R, low: &mut Lower, lot: Lot)
     requires at { IsBelow low.old }
     requires fits { LotFits low.old.case 1 lot }
