@@ -141,9 +141,11 @@ TIED = "version 3 ties 2\n" + RIDES
 job(TIED, north_csv=NORTH.replace("545", "530"))
 need(folder.call("fold", "rides.job")[0] == 0, "two rows at one time")
 job(TIED.replace(" ties 2", ""), north_csv=NORTH.replace("545", "530"))
-mistake(["fold", "rides.job"], 6, "flumina: source north row 3: too many, 2\n", "  at most 1 row of a source may have one time; the first line of the job says how many, as: version 3 ties 1000\n")
+mistake(["fold", "rides.job"], 6, "flumina: source north row 3: too many, 2\n", "  at most 1 row of a source may share a time; the first line of the job sets the limit, for example: version 3 ties 1000\n")
+job(TIED, north_csv="9223372036854775807,ride[1],12\nend\n")
+mistake(["fold", "rides.job"], 6, "flumina: source north row 1: bad row\n", "  the time is too great")
 job(TIED, north_csv=NORTH.replace("545", "500"))
-mistake(["fold", "rides.job"], 6, "flumina: source north row 3: disordered, last 530, got 500\n", "  the row is late by 30: slack 30 on the source takes it\n")
+mistake(["fold", "rides.job"], 6, "flumina: source north row 3: disordered, last 530, got 500\n", "  the row is late by 30: slack 30 on the source takes it, unless 2 earlier rows have its time\n")
 job(TIED.replace('"north.csv":', '"north.csv" slack 30:'), north_csv=NORTH.replace("545", "500"))
 need(folder.call("fold", "rides.job")[0] == 0, "the slack that the hint names takes the row in version 3")
 # The dependencies: one that is missing, all that are missing, and one at equal keys.

@@ -2,7 +2,7 @@
 
 use crate::places::push_line;
 use flu_calendar::{read_time, times_end};
-use flu_model::{Keys, NameList, Program, Source, TagRef, Unit};
+use flu_model::{Keys, NameList, Program, Source, TagRef, Unit, moments_a_time};
 use flu_streams::Why;
 use std::alloc::{AllocError, Global};
 
@@ -29,9 +29,7 @@ pub fn push_reason(
     row: Option<&str>,
 ) -> Result<(), AllocError> {
     match why {
-        Why::Disordered { last, got } => {
-            push_lateness(alloc, told, program.version == 3, last, got)
-        }
+        Why::Disordered { last, got } => { push_lateness(alloc, told, program, last, got) }
         Why::Unclosed => push_line(told, "the last line of a source is: end"),
         Why::AfterEnd => push_line(told, "only blank lines may follow the line: end"),
         Why::UnknownTag => push_tags(alloc, told, program, source),
@@ -54,11 +52,12 @@ pub fn push_reason(
     }
 }
 
-// Appends how late a row is after the greatest time so far, and the slack with which it would not be, where rows may have one time or not.
+// Appends how late a row is after the greatest time so far, and the slack with which it would not be. Before version 3 a row that is late by the slack is
+// `disordered`.
 fn push_lateness(
     alloc: Global,
     told: &mut String,
-    several: bool,
+    program: &Program,
     last: u64,
     got: u64,
 ) -> Result<(), AllocError> {
@@ -69,17 +68,19 @@ fn push_lateness(
             "an earlier row of this source has the same time; times of a source are all different",
         );
     }
-    let (slack, unless) = if several {
-        (late, "")
+    let slack = if program.version == 3 {
+        late
     } else {
-        (
-            late.saturating_add(1),
-            ", unless an earlier row has its time",
-        )
+        late.saturating_add(1)
     };
-    let advice = if slack <= GREATEST_SLACK {
+    let ties = program.ties;
+    let advice = if slack <= GREATEST_SLACK && ties == 1 {
         format!(in alloc;
-            "the row is late by {late}: slack {slack} on the source takes it{unless}"
+            "the row is late by {late}: slack {slack} on the source takes it, unless an earlier row has its time"
+        )?
+    } else if slack <= GREATEST_SLACK {
+        format!(in alloc;
+            "the row is late by {late}: slack {slack} on the source takes it, unless {ties} earlier rows have its time"
         )?
     } else {
         format!(in alloc;
@@ -89,11 +90,11 @@ fn push_lateness(
     push_line(told, advice.as_str())
 }
 
-// Appends how many rows of a source may have one time, and where a job says so.
+// Appends how many rows of a source may share a time, and where a job says so.
 fn push_ties(alloc: Global, told: &mut String, ties: u32) -> Result<(), AllocError> {
     let rows = if ties == 1 { "row" } else { "rows" };
     let most = format!(in alloc;
-        "at most {ties} {rows} of a source may have one time; the first line of the job says how many, as: version 3 ties 1000"
+        "at most {ties} {rows} of a source may share a time; the first line of the job sets the limit, for example: version 3 ties 1000"
     )?;
     push_line(told, most.as_str())
 }
@@ -187,7 +188,27 @@ fn bad_row_reason(program: &Program, row: &str) -> Option<&'static str> {
         Some(unit) => time_reason_in(unit, time),
         None => time_reason(time),
     };
+    if reason.is_none() && is_too_late(program, time) {
+        return Some(
+            "the time is too great: 2^63, divided by the sources and by ties, is the limit; a smaller number of ties or a coarser unit raises it",
+        );
+    }
     reason.or_else(|| rest_reason(program.version, rest))
+}
+
+// Whether a time that has a form has moments of 2^63 or more.
+fn is_too_late(program: &Program, time: &str) -> bool {
+    let number = if is_digits(time) {
+        time.parse::<u64>().ok()
+    } else {
+        program
+            .iso
+            .and_then(|unit| read_time(unit, time.as_bytes()))
+    };
+    match number {
+        Some(number) => number >= (1 << 63) / moments_a_time(program),
+        None => false,
+    }
 }
 
 // What makes a time none where it may be a text.
