@@ -24,6 +24,8 @@ pub struct Case {
     pub plan: &'static str,
     /// Lists of nodes, none within another.
     pub apart: &'static [&'static [u32]],
+    /// How many rows of a source have one time, one or more.
+    pub ties: u32,
     pub sources: &'static [Source],
 }
 
@@ -47,6 +49,7 @@ node left: ride@north
 node right: ride@south
 ",
     apart: &[&[1], &[2], &[1, 2], &[0]],
+    ties: 1,
     sources: &[
         ("north", "ride[1],#"),
         ("south", "ride[2],#\nride[3],#"),
@@ -54,9 +57,9 @@ node right: ride@south
     ],
 };
 
-/// Maxima and sums by item, which two sources add to, and a third one prints.
+/// Maxima and sums by item, which two sources add to, and a third one prints; each source has three rows at a time.
 pub const ITEMS: Case = Case {
-    job: "version 3
+    job: "version 3 ties 3
 cell hits keyed sum
 cell top keyed max
 tag hit item int
@@ -74,6 +77,7 @@ node l: hit@a
 node r: hit@b
 ",
     apart: &[&[1], &[1, 2]],
+    ties: 3,
     sources: &[
         ("a", "hit,0,#\nhit,63,#\nhit,65535,#"),
         ("b", "hit,0,#\nhit,64,#"),
@@ -105,6 +109,7 @@ node mine: update@app
 node views: view@app
 ",
     apart: &[&[1], &[2], &[1, 3, 4], &[1, 2], &[3]],
+    ties: 1,
     sources: &[
         ("web", "view[0],#\nview[3],#\nupdate[0],#\nupdate[1],#"),
         ("app", "view[1],#\nview[3],#\nupdate[2],#\nupdate[3],#"),
@@ -135,7 +140,7 @@ pub fn files_of(alloc: Global, case: Case, seed: u32) -> Result<HonestFiles, All
     let mut files = HonestFiles::new(alloc);
     let mut draws = Draws { last: seed };
     for (name, lines) in case.sources {
-        let text = rows(alloc, &mut draws, lines)?;
+        let text = rows(alloc, &mut draws, case.ties, lines)?;
         files.add(name, text.as_bytes().to_vec(alloc)?)?;
     }
     Ok(files)
@@ -156,13 +161,15 @@ impl Draws {
     }
 }
 
-// The rows of a source, with times that rise, some beats among them, and the end.
-fn rows(alloc: Global, draws: &mut Draws, lines: &str) -> Result<String, AllocError> {
+// The rows of a source, this many at a time, with times that rise, some beats among them, and the end.
+fn rows(alloc: Global, draws: &mut Draws, ties: u32, lines: &str) -> Result<String, AllocError> {
     let mut text = String::new(alloc);
     let mut time = 0u32;
     let count = draws.below(24);
-    for _ in 0..count {
-        time = time.saturating_add(draws.below(4)).saturating_add(1);
+    for number in 0..count {
+        if number.checked_rem(ties) == Some(0) {
+            time = time.saturating_add(draws.below(4)).saturating_add(1);
+        }
         push_row(&mut text, draws, time, lines)?;
     }
     text.push_str("end\n")?;

@@ -143,10 +143,18 @@ end & 5,tick/4,tick/end => 1 2 Disordered { last: 5, got: 4 }
 2305843009213693952,inc,1/end & end => 0 1 BadRow
 2305843009213693952,nope,1/end & end => 0 1 BadRow";
 
+/// A job of one source that may have three rows at one time: 2^63 is no multiple of three, and a time is refused if one of its moments is not below it.
+const TRIPLE_JOB: &str = "version 3 ties 3 tag inc int source a \"a\": inc";
+
+const TRIPLES: &str =
+    "3074457345618258601,inc,1/3074457345618258601,inc,2/3074457345618258601,inc,3/end => 0:9223372036854775803=1 0:9223372036854775804=2 0:9223372036854775805=3 end |
+3074457345618258602,inc,1/end => 0 1 BadRow";
+
 #[test]
 fn rows_at_one_time_have_their_moments(rt: HostRuntime) -> Result<(), Fail> {
     let alloc = rt.alloc();
-    expect_all(&rt, alloc, TIED_JOB, TIED)
+    expect_all(&rt, alloc, TIED_JOB, TIED)?;
+    expect_all(&rt, alloc, TRIPLE_JOB, TRIPLES)
 }
 
 /// A job whose source lists `ride`, which has items by a list and a value, and `stop`, which has items by another list and none.

@@ -293,8 +293,8 @@ fn rows_with_items(rt: HostRuntime) -> Result<(), Fail> {
     play(&rt, rt.alloc(), ROWS)
 }
 
-/// Several rows of a source at one time: at one time sources come in the order in which they are declared, times of fractions that are cut off may be
-/// the same, and one row more than may have a time is too many.
+/// Several rows of a source at one time: at one time sources come in the order in which they are declared, a border of a run that is resumed separates no
+/// rows of one time, times of fractions that are cut off may be the same, and one row more than may have a time is too many.
 const TIED: &str = "@ J
 version 3 ties 2
 cell rides keyed sum
@@ -341,19 +341,130 @@ depends ride day
 depends day day
 on ride: add rides[item] 1
 on day: flush rides \"station {key}: {cell} rides at {time}\"
+source north \"north.csv\": ride
+source south \"south.csv\" slack 2: ride
+source clock \"days.csv\": day
+@ north.csv
+5,ride,1
+end
+@ south.csv
+7,ride,2
+5,ride,1
+7,beat
+5,ride,2
+9,ride,3
+9,ride,2
+end
+@ days.csv
+5,day
+9,day
+9,day
+end
+@ s
+{\"border\":5,\"cells\":[],\"job\":\"version 3 ties 2\\ncell rides keyed sum\\ntag ride item none\\ntag day none\\ndepends ride day\\ndepends day day\\non ride: add rides[item] 1\\non day: flush rides \\\"station {key}: {cell} rides at {time}\\\"\\nsource north \\\"north.csv\\\" rate 1: ride\\nsource south \\\"south.csv\\\" rate 1 slack 2: ride\\nsource clock \\\"days.csv\\\" rate 1: day\\n\"}
+@ $ run J --resume s
+@ $ run J --round 1 --resume s
+@ = 0
+9,day,station 2: 2 rides at 9
+9,day,station 3: 1 rides at 9
+@ J
+version 3 ties 2
+cell rides keyed sum
+tag ride item none
+tag day none
+depends ride day
+depends day day
+on ride: add rides[item] 1
+on day: flush rides \"station {key}: {cell} rides at {time}\"
+source north \"north.csv\": ride
+source south \"south.csv\" slack 2: ride
+source clock \"days.csv\": day
+@ north.csv
+5,ride,1
+end
+@ south.csv
+7,ride,2
+5,ride,1
+7,beat
+5,ride,2
+9,ride,3
+9,ride,2
+end
+@ days.csv
+5,day
+9,day
+9,day
+end
+@ s
+{\"border\":7,\"cells\":[[\"rides\",2,\"1\"]],\"job\":\"version 3 ties 2\\ncell rides keyed sum\\ntag ride item none\\ntag day none\\ndepends ride day\\ndepends day day\\non ride: add rides[item] 1\\non day: flush rides \\\"station {key}: {cell} rides at {time}\\\"\\nsource north \\\"north.csv\\\" rate 1: ride\\nsource south \\\"south.csv\\\" rate 1 slack 2: ride\\nsource clock \\\"days.csv\\\" rate 1: day\\n\"}
+@ $ run J --resume s
+@ $ run J --round 1 --resume s
+@ = 0
+9,day,station 2: 2 rides at 9
+9,day,station 3: 1 rides at 9
+@ J
+version 3 ties 2
+cell rides keyed sum
+tag ride item none
+tag day none
+depends ride day
+depends day day
+on ride: add rides[item] 1
+on day: flush rides \"station {key}: {cell} rides at {time}\"
 source clock \"days.csv\": day
 source north \"north.csv\": ride
 source south \"south.csv\" slack 2: ride
+@ north.csv
+5,ride,1
+end
+@ south.csv
+7,ride,2
+5,ride,1
+7,beat
+5,ride,2
+9,ride,3
+9,ride,2
+end
+@ days.csv
+5,day
+9,day
+9,day
+end
 @ $ fold J
 @ $ run J
 @ $ run J --round 1
 @ = 0
 9,day,station 1: 2 rides at 9
 9,day,station 2: 2 rides at 9
+@ J
+version 3 ties 2
+cell rides keyed sum
+tag ride item none
+tag day none
+depends ride day
+depends day day
+on ride: add rides[item] 1
+on day: flush rides \"station {key}: {cell} rides at {time}\"
+source north \"north.csv\": ride
+source south \"south.csv\" slack 2: ride
+source clock \"days.csv\": day
 @ north.csv
 5,ride,1
 5,ride,1
 5,ride,2
+end
+@ south.csv
+7,ride,2
+5,ride,1
+7,beat
+5,ride,2
+9,ride,3
+9,ride,2
+end
+@ days.csv
+5,day
+9,day
+9,day
 end
 @ $ fold J
 @ $ run J --round 2
