@@ -1,8 +1,10 @@
--- The events of the files of good sources stand in turn, and are those of their lists.
+-- The events of the files of good sources at their moments stand in turn, and are those of their lists. So the merged list is their merge by moments.
 use Rattle.std.proofs.Common.{◌≡◌, ℕ, ◌+◌, ◌*◌, ◌≤◌, ◌<◌, max, Bool, true, false, Option, Some, None, List, [], ◌∷◌, ◌++◌, map, length}
 use Rattle.std.proofs.Common.{refl, sym, ap, subst, ◌∙◌, arith, length-append}
 use Rattle.std.specs.Prelude.{◌==◌, if◌then◌else◌, unwrap_or, sum_by, IsPermutation}
 use Rattle.std.specs.List.{flat_map, AllByRecursion}
+use Rattle.std.specs.List.Sorted.{IsStableByKey}
+use Rattle.std.specs.Ordering.{nat_cmp, is_lt}
 use Rattle.std.proofs.lemmas.Grind.{flat_map-append}
 use Rattle.std.proofs.lemmas.List.Sorted.{IsPermutation-refl, IsPermutation-trans, IsPermutation-append}
 use Rattle.std.proofs.lemmas.List.Sums.{sum_by-append}
@@ -26,14 +28,13 @@ use Rattle.flu_rows.specs.declared.row.Row.TheVariants.{Event, Beat, End}
 use Rattle.flu_rows.specs.Reading.{read_file}
 use Rattle.flu_rows.specs.Row.{form_of}
 use Rattle.flu_streams.specs.declared.faults.SourceFault.{SourceFault}
-use Rattle.flu_streams.specs.Before.{with_before, first_some}
-use Rattle.flu_streams.specs.Good.{rows_in, items_held, fault_of_source, event_of, at_moments, lists_of_rows, lists_of}
+use Rattle.flu_streams.specs.Before.{with_before, each_with_before, first_some}
+use Rattle.flu_streams.specs.Good.{rows_in, items_held, fault_of_source, event_of, at_moments, AreGood, lists_of_rows, lists_of}
 use Rattle.flu_streams.specs.Holding.{item_of}
 use Rattle.flu_streams.specs.Tags.{place_named, given_to, width}
 use Rattle.flu_streams.specs.Tests.{first_defect}
 use Rattle.flu_streams.proofs.Moments.{product_le, time_up, timing_fits}
 use Rattle.flu_streams.proofs.RoundLaws.{or_else-none, no_option}
-use Rattle.flu_merge.specs.Merge.{events_of_rows, events_of_files, GoodFilesAreMerged}
 use Rattle.flu_merge.proofs.Sound.{AreSound, good_sound, all_listed, few_earlier}
 use Rattle.flu_merge.proofs.Spread.{IsListed, in_lists}
 use Rattle.flu_merge.proofs.Turns.{Later, InTurn, in_turn-append, before_by_time, before_by_itag, before_ranks, turn_stays, rising_keys}
@@ -191,8 +192,9 @@ module _ (p : Program) where
     abbrev rows : Source → List Row
     rows s = rows_in (form_of (job_of p)) left s
 
-    abbrev events_in : List Source × Source → List EventOf
-    events_in e = events_of_rows (timing_of p (length e.0)) p.kinds e.1 (sum_by width e.0) (rows e.1)
+    -- the events of a source at their moments
+    abbrev pub events_in : List Source × Source → List EventOf
+    events_in e = events_of (map (item_of p.kinds e.1 (sum_by width e.0)) (at_moments (timing_of p (length e.0)) [] (rows e.1)))
 
     abbrev lists_in : List Source × Source → List (List Item)
     lists_in e = lists_of_rows (timing_of p (length e.0)) p.kinds e.1 (sum_by width e.0) (rows e.1)
@@ -290,10 +292,17 @@ module _ (p : Program) where
         (λ y from. across (length before) (sum_by width before) past x y inside of from) others)
         (all_of s (length before) (sum_by width before) inside [] (rows s) sound listed))
 
--- THE MERGED LIST of good sources is the stable merge of their files
-pub good_merged : GoodFilesAreMerged
-good_merged p left good =
-    let given : List EventOf = events_of_files p left in
+-- in the merged list are the events of the files at their moments, in order of time, and those at one time in the order of the files
+pub record IsMergeByMoments (p : Program) (events merged' : List EventOf) : Type 0 where
+  pub all : IsPermutation events merged'
+  pub by_time : IsRising (λ (x y : EventOf). is_lt (nat_cmp (time_of_moment p x.time) (time_of_moment p y.time))) merged'
+  pub stable : IsStableByKey (λ (x : EventOf). time_of_moment p x.time) nat_cmp events merged'
+
+-- THE MERGED LIST of good sources at their moments
+pub merged_by_moments : (p : Program) (left : Contents) → AreGood p left
+    → IsMergeByMoments p (flat_map (events_in p left) (each_with_before p.sources)) (merged (lists_of p left))
+merged_by_moments p left good =
+    let given : List EventOf = flat_map (events_in p left) (each_with_before p.sources) in
     let listed : List EventOf = all_events (lists_of p left) in
     let moved : IsPermutation given (merged (lists_of p left)) =
     IsPermutation-trans given listed (merged (lists_of p left)) (same_events p left [] p.sources good) (in_order-permutation is_before listed) in

@@ -1,4 +1,6 @@
+mod Moments
 mod Turns
 mod Spread
 mod Sound
 mod Files
+mod Times

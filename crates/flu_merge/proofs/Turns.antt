@@ -1,6 +1,6 @@
 -- Events that stand in turn: of two that tie the first is before the second. Their merged list keeps the order of those that tie.
 use Rattle.std.proofs.Common.{◌≡◌, ℕ, ◌≤◌, ◌<◌, Bool, true, false, cond, List, [], ◌∷◌, ◌++◌, inl, inr, refl, sym, ap, ◌∙◌, arith}
-use Rattle.std.specs.Prelude.{⊤, not, ◌&&◌, Contains, IsPermutation, IsSortedByKey, sum_by}
+use Rattle.std.specs.Prelude.{⊤, not, ◌&&◌, Contains, IsPermutation, sum_by}
 use Rattle.std.specs.Cmp.{IsStrictWeakOrder}
 use Rattle.std.specs.List.{filter, AllByRecursion}
 use Rattle.std.specs.List.Sorted.{ties, IsStableByKey}
@@ -13,7 +13,7 @@ use Rattle.std.proofs.lemmas.List.Sums.{sum_by-cons}
 use Rattle.flu_lemmas.proofs.Containing.{contains_cases, contains_none}
 use Rattle.flu_lemmas.proofs.Elements.{all_map, all_append, all_filter}
 use Rattle.flu_lemmas.proofs.InTime.{earlier-ranks}
-use Rattle.flu_lemmas.proofs.Sorting.{IsRising, only_rising, sorted_from_rising}
+use Rattle.flu_lemmas.proofs.Sorting.{IsRising, only_rising}
 use Rattle.flu_model.specs.declared.events.Event.{Event}
 use Rattle.flu_model.specs.Merging.{is_before}
 
@@ -141,14 +141,12 @@ module _ (key : Event → ℕ) where
       (rising_passing is_before (tied w) ys up) (turn_rising w xs turn)
       (λ f. sum_of_passing (tied w) f ys ∙ sum_by-IsPermutation (counted (tied w) f) xs ys moved ∙ sym (sum_of_passing (tied w) f xs))
 
-  -- and are in order of a key that does not fall as times rise
-  pub rising_keys : ((x y : Event) → x.time ≤ y.time → key x ≤ key y) → (xs : List Event) → IsRising is_before xs → IsSortedByKey key nat_cmp xs
-  rising_keys grows xs up = sorted_from_rising (λ (x y : Event). is_lt (nat_cmp (key x) (key y))) xs (by xs up)
-    where
-      by : (xs : List Event) → IsRising is_before xs → IsRising (λ (x y : Event). is_lt (nat_cmp (key x) (key y))) xs
-      by [] up = tt
-      by (x ∷ xs) up = (
-        all_map (λ y. is_before y x ≡ false) (λ y. is_lt (nat_cmp (key y) (key x)) ≡ false) xs
-            (λ y e. not_less (key x) (key y) (grows x y (not_before x y e))) up.0,
-        by xs up.1,
-      )
+  -- and rise by a key that does not fall as times rise
+  pub rising_keys : ((x y : Event) → x.time ≤ y.time → key x ≤ key y) → (xs : List Event) → IsRising is_before xs
+      → IsRising (λ (x y : Event). is_lt (nat_cmp (key x) (key y))) xs
+  rising_keys grows [] up = tt
+  rising_keys grows (x ∷ xs) up = (
+    all_map (λ y. is_before y x ≡ false) (λ y. is_lt (nat_cmp (key y) (key x)) ≡ false) xs
+        (λ y e. not_less (key x) (key y) (grows x y (not_before x y e))) up.0,
+    rising_keys grows xs up.1,
+  )

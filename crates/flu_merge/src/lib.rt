@@ -3,4 +3,4 @@
 
 mod laws;
 
-pub use laws::good_files_are_merged;
+pub use laws::{good_files_are_merged, rows_have_their_moments};
