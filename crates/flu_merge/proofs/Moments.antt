@@ -39,6 +39,6 @@ time_of_row p i t n inside = time_of-moment (timing_of p i) (timing_fits p i ins
 pub rows_at_moments : RowsHaveTheirMoments
 rows_at_moments = record {
   numbered = λ p i t n third inside few. numbered_by (p.version == 3) (length p.sources) p.ties i t n (ap (λ v. v == 3) third) inside few;
-  older = λ p i t n other inside. older_moment p i t n other;
+  older = older_moment;
   time = λ p i t n inside. time_of_row p i t n inside;
 }

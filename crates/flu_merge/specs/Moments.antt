@@ -10,6 +10,6 @@ pub record RowsHaveTheirMoments : Type 0 where
   pub numbered : (p : Program) (i t n : ℕ) → p.version ≡ 3 → i < length p.sources → n < p.ties
       → moment_at (timing_of p i) t n ≡ moment (length p.sources) p.ties t i n
   -- before version 3 it is the row's time
-  pub older : (p : Program) (i t n : ℕ) → p.version ≢ 3 → i < length p.sources → moment_at (timing_of p i) t n ≡ t
+  pub older : (p : Program) (i t n : ℕ) → p.version ≢ 3 → moment_at (timing_of p i) t n ≡ t
   -- and in each version its time is the row's
   pub time : (p : Program) (i t n : ℕ) → i < length p.sources → time_of_moment p (moment_at (timing_of p i) t n) ≡ t
