@@ -287,6 +287,9 @@ def go_on(page, folder):
     folder.write("report.csv", report + "1772")
     folder.quiet(page.block("test -z"))
     same(folder.read("report.csv"), report, "the report without its truncated last line")
+    dated = page.block("border=$(date")
+    for border, wanted in ("1772582400", "2026-03-04T00:00:00Z"), (page.says("9223372036854775807"), "9999-12-31T23:59:59Z"):
+        same(folder.quiet(f"border={border}\n{dated}echo $border\n"), f"{wanted}\n", "a border as a date")
 
 
 def how_far(page, folder):
