@@ -624,15 +624,15 @@ laws_of going state next last defect defect_state others one_more counts o = rec
 }
 
 -- a result that `?` gives of an error
-pub given_err : {T : Type 0} (r : Result T RunFault) (f : RunFault) → IsErrAnd r (λ (e : RunFault). e ≡ f) → r ≡ Err f
+pub given_err : {T F : Type 0} (r : Result T F) (f : F) → IsErrAnd r (λ (e : F). e ≡ f) → r ≡ Err f
 given_err (Ok done) f is = absurd is
 given_err (Err e) f is = ap Err is
 
 -- the error that `?` was given is none that it did not give
-pub none_given : {T E : Type 0} (r : Result T RunFault) (s : Result E RunFault) (f other : RunFault) → s ≡ Err f
-    → IsErrAnd r (λ (e : RunFault). e ≡ f) → r ≢ Err other → s ≢ Err other
-none_given {T} {E} r s f other from is differs same =
-    let both = sym from ∙ same in differs (given_err r f is ∙ ap Err (ap (λ (e : Result E RunFault). unwrap_or (result_err e) f) both))
+pub none_given : {T E F : Type 0} (r : Result T F) (s : Result E F) (f other : F) → s ≡ Err f
+    → IsErrAnd r (λ (e : F). e ≡ f) → r ≢ Err other → s ≢ Err other
+none_given {T} {E} {F} r s f other from is differs same =
+    let both = sym from ∙ same in differs (given_err r f is ∙ ap Err (ap (λ (e : Result E F). unwrap_or (result_err e) f) both))
 
 pub closed_is : (b : Border) → ((t : ℕ) → b ≡ At t → ⊥) → b ≡ Closed
 closed_is (At t) other = absurd (other t refl)

@@ -1,10 +1,12 @@
 use Rattle.std.proofs.Common.{refl, sym, ap, ◌∙◌, subst, None, Ok, Err}
 use Rattle.flu_model.specs.declared.jobs.Program.{Program}
 use Rattle.flu_deps.specs.Checking.{program_of}
+use Rattle.flu_rounds.specs.declared.faults.RoundsFault.TheVariants.{ReadFault, WriteFault}
 use Rattle.flu_rounds.specs.Standing.{IsFirstFrom}
+use Rattle.flu_top.specs.declared.running.RunFault.TheVariants.{Round}
 use Rattle.flu_top.specs.Ending.{call}
 use Rattle.flu_top.specs.Running.{EndsRounds, plain_opening}
-use Rattle.flu_top.proofs.Roundings.{rounds_start, some_at_start, given_err, closed_is}
+use Rattle.flu_top.proofs.Roundings.{rounds_start, some_at_start, given_err, none_given, closed_is}
 use Rattle.flu_top.proofs.ahead.rounds_ahead.Goals as goal
 
 pub returns-in_err-engine-clause-ends : goal.returns-in_err-engine-clause-ends
@@ -131,6 +133,16 @@ returns-in_err-begun-2-clause-within g c =
     (c.in_err-begun-2.ensures.steps c.args.adapts p o (left c.args.files.now) (counts c.args.files.now) (puts c.args.files.now) (taken c.args.out.now)
     (count c.args.out.now) c.in-At.field-0 c.in-At.is c.loop-begun.invariant.has).1
 
+pub returns-in_err-begun-2-clause-quiet : goal.returns-in_err-begun-2-clause-quiet
+returns-in_err-begun-2-clause-quiet g c = λ differs n.
+    c.in_err-begun-2.ensures.quiet (none_given c.from_residual-in_err-begun-2.result (Err c.in_err-begun-2.field-0.0) c.in_err-begun-2.field-0.0
+    (Round ReadFault) refl c.from_residual-in_err-begun-2.ensures.1 differs) n ∙ c.loop-begun.invariant.quiet n
+
+pub returns-in_err-begun-2-clause-written_quiet : goal.returns-in_err-begun-2-clause-written_quiet
+returns-in_err-begun-2-clause-written_quiet g c = λ differs.
+    c.in_err-begun-2.ensures.written_quiet (none_given c.from_residual-in_err-begun-2.result (Err c.in_err-begun-2.field-0.0) c.in_err-begun-2.field-0.0
+    (Round WriteFault) refl c.from_residual-in_err-begun-2.ensures.1 differs) ∙ c.loop-begun.invariant.written_quiet
+
 pub loop-begun-smaller : goal.loop-begun-smaller
 loop-begun-smaller g c =
     let p = program_of c.args.checked.now in
@@ -183,3 +195,6 @@ returns-clause-within g c =
     let count = g.K.Sink.faults in
     (c.last_round.ensures.ends c.args.adapts p o (left c.args.files.now) (counts c.args.files.now) (puts c.args.files.now) (taken c.args.out.now)
     (count c.args.out.now) (closed_is c.loop-begun.begun.border c.in_default.not-At) c.loop-begun.invariant.has).1
+
+pub returns-clause-written_quiet : goal.returns-clause-written_quiet
+returns-clause-written_quiet g c = λ differs. c.last_round.ensures.written_quiet differs ∙ c.loop-begun.invariant.written_quiet

@@ -1,4 +1,4 @@
-use Rattle.std.proofs.Common.{◌≡◌, sym, ap, ◌∙◌, subst, Result, Ok, Err}
+use Rattle.std.proofs.Common.{◌≡◌, refl, sym, ap, ◌∙◌, subst, Result, Ok, Err}
 use Rattle.std.specs.Result.{IsErrAnd}
 use Rattle.flu_model.specs.declared.jobs.Program.{Program}
 use Rattle.flu_model.specs.Listed.{listed}
@@ -10,9 +10,16 @@ use Rattle.flu_streams.specs.declared.border.Border.TheVariants.{Closed}
 use Rattle.flu_streams.specs.Counts.{grown}
 use Rattle.flu_streams.specs.Holding.{Holding, AreClosed}
 use Rattle.flu_rounds.specs.declared.faults.RoundsFault.{RoundsFault}
+use Rattle.flu_rounds.specs.declared.faults.RoundsFault.TheVariants.{ReadFault}
 use Rattle.flu_rounds.specs.Halves.{Begins, AppendsReport, AppendsPartOfReport}
+use Rattle.flu_top.proofs.Roundings.{none_given}
 use Rattle.flu_top.proofs.RunReports.{round_of_halves}
 use Rattle.flu_top.proofs.running.round.Goals as goal
+
+pub returns-in_err-border-clause-quiet : goal.returns-in_err-border-clause-quiet
+returns-in_err-border-clause-quiet g c = λ differs n.
+    c.in_err-border.ensures.quiet (none_given c.from_residual.result (Err c.in_err-border.field-0.0) c.in_err-border.field-0.0 ReadFault refl
+    c.from_residual.ensures.1 differs) n
 
 pub returns-in_err-finish-clause-part : goal.returns-in_err-finish-clause-part
 returns-in_err-finish-clause-part g c = λ failed.
