@@ -188,7 +188,7 @@ def log_to_report(page, folder):
     need(rows.startswith(page.block("1772438700,north")), f"the first rows of seconds.csv\n{rows}")
     folder.quiet(page.block("awk -F, -v OFS=, '!($3"))
     same(folder.read("stations.csv"), "".join(page.code(it) + "\n" for it in ("1,harbour", "2,mill", "3,market")), "stations.csv")
-    folder.quiet(page.block("awk -F, -v OFS=, '{ $1"))
+    folder.quiet(page.block("awk -F, -v OFS=, 'n[$1] > 999"))
     folder.quiet(page.block("awk -F, '{ file"))
     same(folder.read("north.csv"), page.block("1772438700000,ride[1]"), "north.csv")
     need(folder.read("south.csv").endswith("\nend\n"), "south.csv has its end")
