@@ -1,5 +1,5 @@
 pub mod Unique
 pub mod Runs
 pub mod Turns
-pub mod InRange
+pub mod Folds
 pub mod Kept

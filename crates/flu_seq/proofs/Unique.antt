@@ -1,6 +1,6 @@
 -- Events in strict order are the only merged list of these events.
 use Rattle.std.proofs.Common.{◌≡◌, ℕ, Bool, true, false, List, [], ◌∷◌, ◌++◌, refl, sym, ap, subst, ◌∙◌, arith}
-use Rattle.std.specs.Prelude.{◌==◌, ◌&&◌, ◌||◌, ⊤}
+use Rattle.std.specs.Prelude.{◌==◌, ◌&&◌, ◌||◌}
 use Rattle.std.specs.Cmp.{IsStrictWeakOrder}
 use Rattle.std.specs.Ordering.{int_eq, is_lt}
 use Rattle.std.specs.List.{list_any, AllByRecursion}
@@ -16,6 +16,7 @@ use Rattle.flu_lemmas.proofs.InTime.{earlier-cmp, earlier-ranks}
 use Rattle.flu_model.specs.declared.events.Event.{Event}
 use Rattle.flu_model.specs.declared.events.Item.{Item}
 use Rattle.flu_model.specs.Merging.{is_before, event_cmp, all_events, merged, IsMerged}
+use Rattle.flu_seq.specs.LoopHeads.{Strict}
 
 -- ---- the order of events
 is_before-cmp : (λ x y. is_lt (event_cmp x y)) ≡ is_before
@@ -26,11 +27,6 @@ is_before-weak = earlier-ranks (λ (x : Event). x.time) (λ x. x.itag.0)
 
 pub before_trans : (x y z : Event) → is_before x y ≡ true → is_before y z ≡ true → is_before x z ≡ true
 before_trans x y z e f = grind (arith, common_steps)
-
--- each event is before all later ones
-abbrev pub Strict : List Event → Type 0
-Strict [] = ⊤
-Strict (x ∷ xs) = AllByRecursion (λ y. is_before x y ≡ true) xs × Strict xs
 
 pub strict-push : (done : List Event) (x : Event) → Strict done → AllByRecursion (λ (m : Event). is_before m x ≡ true) done → Strict (done ++ x ∷ [])
 strict-push [] x s all = (tt, tt)

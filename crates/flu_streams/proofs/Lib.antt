@@ -3,6 +3,7 @@ pub mod Growing
 pub mod Befores
 pub mod Taken
 pub mod Moments
+pub mod Moved
 pub mod Ranges
 pub mod Gatherings
 pub mod Streamings

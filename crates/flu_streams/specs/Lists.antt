@@ -1,5 +1,5 @@
 -- Lists of items.
-use Rattle.std.specs.Prelude.{ℕ, List, [], map, slice_index_or, Vec, Option, Some, None, ◌==◌, if◌then◌else◌}
+use Rattle.std.specs.Prelude.{ℕ, Bool, true, false, List, [], map, slice_index_or, Vec, Option, Some, None, ◌==◌, if◌then◌else◌}
 use Rattle.std.specs.Global.{Global}
 use Rattle.flu_model.specs.declared.events.Item.{Item}
 use Rattle.flu_model.specs.declared.events.Item.TheVariants.{Event as EventItem, Beat as BeatItem, End as EndItem}
@@ -25,3 +25,9 @@ abbrev pub item_for : ℕ → Item → Option Item
 item_for itag (EventItem x) = if x.itag.0 == itag then Some (EventItem x) else None
 item_for itag (BeatItem t) = Some (BeatItem t)
 item_for itag EndItem = None
+
+-- the item is an event of the itag with this number, or a heartbeat
+abbrev pub is_own : ℕ → Item → Bool
+is_own itag (EventItem x) = x.itag.0 == itag
+is_own itag (BeatItem t) = true
+is_own itag EndItem = false

@@ -171,6 +171,30 @@ impl Inlet {
         Ok(lists)
     }
 
+    /// For each itag of the source, the first of which has the number `first`, all its items, and the end. The items of a source with one itag are
+    /// moved out of what is held.
+    pub(crate) fn take_lists(
+        &mut self,
+        alloc: Global,
+        first: u32,
+        width: u32,
+    ) -> Result<Vec<Vec<Item>>, AllocError>
+        requires { first + width ≤ 256 }
+        ensures len { IfOk result (λ lists. vec_len lists ≡ width) }
+        ensures each { IfOk result (λ lists. (i : ℕ) → i < width
+            → items_of_list lists i ≡ filter_map (item_for (first + i)) (taken_by Border.Closed self.old.items) ++ Item.End ∷ []) }
+        ensures counted { self.new.held ≡ self.old.held }
+    {
+        if width == 1 {
+            if let Some(list) = self.items.take_list(alloc, first)? {
+                let mut lists = Vec::new(alloc);
+                lists.push(list)?;
+                return Ok(lists);
+            }
+        }
+        self.lists(alloc, first, width, Border::Closed)
+    }
+
     /// Drops the items up to a time.
     pub(crate) fn drop_until(&mut self, time: u64)
         ensures { DropsTo time self.old self.new }

@@ -1,9 +1,9 @@
 //! Items in order of time, and lists of items that grow.
 
 ghost use Rattle.std.specs.Prelude.{◌≡◌, ◌≢◌, ℕ, ◌+◌, ◌<◌, ◌≤◌, ◌++◌, [], ◌∷◌, None, Some, length, slice_index_or, vec_len, IsTrue, IfOk, IfErr, OnOk};
-ghost use Rattle.std.specs.List.{filter_map};
+ghost use Rattle.std.specs.List.{filter_map, list_all};
 ghost use Rattle.flu_lemmas.specs.Late.{rises_from};
-ghost use Rattle.flu_streams.specs.Lists.{items_of_list, item_time, item_for};
+ghost use Rattle.flu_streams.specs.Lists.{items_of_list, item_time, item_for, is_own};
 
 use flu_model::Item;
 use std::alloc::{AllocError, Global};
@@ -31,6 +31,24 @@ pub(crate) fn count_until(items: &[Item], time: u64) -> usize
         count -= 1;
     }
     count
+}
+
+/// Whether each of some items is an event of the itag with this number, or a heartbeat.
+pub(crate) fn are_own(items: &[Item], itag: u32) -> bool
+    ensures { result ≡ list_all (is_own itag) items.now }
+{
+    items.iter().all(|item| is_own(item, itag))
+}
+
+// Whether an item is an event of the itag with this number, or a heartbeat.
+fn is_own(item: &Item, itag: u32) -> bool
+    ensures { result ≡ is_own itag item.now }
+{
+    match item {
+        Item::Event(event) => event.itag.0 == itag,
+        Item::Beat(_) => true,
+        Item::End => false,
+    }
 }
 
 /// This many empty lists.

@@ -12,7 +12,6 @@ ghost use Rattle.flu_streams.specs.LoopGathering.{AddsSource, IsFaultOf, HidesNo
 ghost use Rattle.flu_streams.specs.Good.{AreGood, lists_of};
 ghost use Rattle.flu_streams.specs.Tags.{width};
 
-use crate::border::Border;
 use crate::faults::GatherFault;
 use crate::gathered::Gathered;
 use crate::inlet::Inlet;
@@ -103,7 +102,7 @@ fn add_source<F: Files>(
         return Err(fault_of(gathered.number, stop));
     }
     let width = tag_count(source.tags.items());
-    let Ok(mut lists) = inlet.lists(alloc, first, width, Border::Closed) else {
+    let Ok(mut lists) = inlet.take_lists(alloc, first, width) else {
         return Err(GatherFault::NoMemory);
     };
     if gathered.lists.append(&mut lists).is_err() {

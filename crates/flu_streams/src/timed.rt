@@ -1,7 +1,7 @@
 //! Items in order of time, into which late ones are inserted.
 
 ghost use Rattle.std.specs.Prelude.{◌≡◌, ◌++◌, ◌+◌, ◌^◌, ◌<◌, ◌≤◌, ◌==◌, ℕ, [], ◌∷◌, false, length, nat_le, nat_lt};
-ghost use Rattle.std.specs.Prelude.{slice_index_or, vec_len, IsTrue, OnOk, OnErr, IfOk};
+ghost use Rattle.std.specs.Prelude.{slice_index_or, vec_len, IsTrue, OnOk, OnErr, IfOk, IfSome, IfNone, ◌⊎◌};
 ghost use Rattle.std.specs.List.{filter, filter_map, list_any};
 ghost use Rattle.std.specs.BTreeMap.{keys, values};
 ghost use Rattle.flu_lemmas.specs.Late.{put_late, rises_from};
@@ -11,11 +11,12 @@ ghost use Rattle.flu_streams.specs.LoopMoments.{Follow, between};
 ghost use Rattle.flu_streams.specs.Rounds.{is_up_to};
 
 use crate::border::Border;
-use crate::items::{count_until, push_each, push_item, push_items, time_of};
+use crate::items::{are_own, count_until, push_each, push_item, push_items, time_of};
 use flu_model::Item;
 use std::alloc::{AllocError, Global};
 use std::collections::BTreeMap;
 use std::marker::Model;
+use std::mem;
 
 /// Some items in order of time: those in a vector, and then those in a map under their times. An item that is in order is appended
 /// to the vector. Those after an item that is inserted late are moved to the map, and back once no item can come before them any
@@ -125,6 +126,27 @@ impl TimedItems {
         let count = count_until(self.early.as_slice(), time);
         self.early.drain(..count);
         drop_late(&mut self.late, time);
+    }
+
+    /// Moves all of them out as the list of an itag, and the end behind them, if each is the itag's own or a heartbeat. Else they stay, and none
+    /// is answered.
+    pub(crate) fn take_list(
+        &mut self,
+        alloc: Global,
+        itag: u32,
+    ) -> Result<Option<Vec<Item>>, AllocError>
+        ensures list { IfOk result (λ list. IfSome list (λ own. own.items ≡ filter_map (item_for itag) self.old ++ Item.End ∷ [])) }
+        ensures moved { IfOk result (λ list. IfSome list (λ own. self.new ≡ [])) }
+        ensures kept { IfOk result (λ list. IfNone list (self.new ≡ self.old)) }
+        ensures failed { OnErr result ((self.new ≡ self.old) ⊎ (self.new ≡ [])) }
+    {
+        move_back(&mut self.early, &mut self.late, u64::MAX)?;
+        if !self.late.is_empty() || !are_own(self.early.as_slice(), itag) {
+            return Ok(None);
+        }
+        let mut list = mem::replace(&mut self.early, Vec::new(alloc));
+        list.push(Item::End)?;
+        Ok(Some(list))
     }
 
     /// Gives each itag, the first of which has the number `first`, those up to a border that are its own, and the end.

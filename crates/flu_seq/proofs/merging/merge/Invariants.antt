@@ -1,16 +1,9 @@
-use Rattle.std.specs.BinaryHeap.{heap_items}
-use Rattle.flu_model.specs.declared.events.Event.{Event}
-use Rattle.flu_model.specs.Listed.{listed}
-use Rattle.flu_lemmas.specs.Totals.{total}
-use Rattle.flu_seq.specs.LoopHeads.{pending}
-use Rattle.flu_seq.proofs.Turns.{Begun, SoFar}
+use Rattle.std.proofs.Common.{◌≡◌}
+use Rattle.flu_seq.specs.LoopHeads.{IsBehind, left_in}
 use Rattle.flu_seq.proofs.merging.merge.Given as goal
 
-abbrev pub invariant-loop-i : goal.invariant-loop-i
-invariant-loop-i l = Begun (listed l.s) l.i (heap_items l.heads)
+abbrev pub invariant-loop-events : goal.invariant-loop-events
+invariant-loop-events l = (l.coming.streams.now ≡ l.s) × IsBehind l.events.items l.coming
 
-abbrev pub invariant-loop-head : goal.invariant-loop-head
-invariant-loop-head l = SoFar (listed l.s) l.events.items (heap_items l.heads)
-
-abbrev pub decreases-loop-head : goal.decreases-loop-head
-decreases-loop-head l = total (λ (e : Event). 1) (pending (listed l.s) (heap_items l.heads))
+abbrev pub decreases-loop-events : goal.decreases-loop-events
+decreases-loop-events l = left_in l.coming

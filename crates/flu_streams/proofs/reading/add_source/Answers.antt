@@ -4,7 +4,6 @@ use Rattle.std.specs.List.{flat_map}
 use Rattle.std.proofs.lemmas.Bool.{false≢true}
 use Rattle.std.proofs.lemmas.Grind.{common_steps}
 use Rattle.std.proofs.lemmas.List.{map-append}
-use Rattle.flu_model.specs.declared.moments.Timing.{Timing}
 use Rattle.flu_model.specs.Listing.{listed_tags}
 use Rattle.flu_streams.specs.declared.border.Border.TheVariants.{Closed}
 use Rattle.flu_streams.specs.declared.faults.GatherFault.TheVariants.{ReadFault as ReadFaulty}
@@ -12,11 +11,10 @@ use Rattle.flu_streams.specs.Good.{lists_of_rows}
 use Rattle.flu_streams.specs.Holding.{HeldSource}
 use Rattle.flu_streams.specs.Lists.{lists_in}
 use Rattle.flu_streams.specs.LoopHeld.{held_with}
-use Rattle.flu_streams.specs.LoopMoments.{end_moment}
 use Rattle.flu_streams.specs.Tags.{width}
 use Rattle.flu_streams.specs.Tests.{rows_of, items_of}
 use Rattle.flu_streams.proofs.Counted.{fits_now}
-use Rattle.flu_streams.proofs.Cuts.{own_items, own_lists, own_streams}
+use Rattle.flu_streams.proofs.Cuts.{own_lists, own_streams}
 use Rattle.flu_streams.proofs.Gatherings.{err_same}
 use Rattle.flu_streams.proofs.RoundEnds.{whole_rows}
 use Rattle.flu_streams.proofs.Whole.{passes_whole, is_closed, read_stop, whole_reads, whole_told, whole_fault, whole_hides}
@@ -40,13 +38,12 @@ returns-clause-added g c =
     let r = whole_reads timing c.args.form.now kinds s first c.in-Ok.inlet now (left c.args.files.now) (left c.refill.new.files) _
     c.in-Ok.ensures.timing c.in-Ok.ensures.source c.in_default-refill.ensures.filled in
     let read = r.so_far.more in
-    let more : c.append.new.self.items ≡ old.lists.items ++ c.in-Ok-lists.lists.items = grind (arith, common_steps) in
-    let len : vec_len c.append.new.self ≡ vec_len old.lists + vec_len c.in-Ok-lists.lists = grind (arith, common_steps) in
-    let now_timed : now.timing ≡ timing = c.in_default-refill.ensures.filled.timing ∙ c.in-Ok.ensures.timing in
+    let more : c.append.new.self.items ≡ old.lists.items ++ c.in-Ok-take_lists.lists.items = grind (arith, common_steps) in
+    let len : vec_len c.append.new.self ≡ vec_len old.lists + vec_len c.in-Ok-take_lists.lists = grind (arith, common_steps) in
     let w : c.tag_count-width.result ≡ width s = c.tag_count-width.ensures ∙ ap (λ tags. length (flat_map listed_tags tags)) c.items.ensures in
-    let own : lists_in c.in-Ok-lists.lists ≡ lists_of_rows timing kinds s first (rows_of read) =
-    own_lists timing c.requires.fits c.in-Ok-lists.lists kinds s first None Closed read now (c.in-Ok-lists.ensures.len ∙ w)
-    (λ i lt. c.in-Ok-lists.ensures.each i (rw w lt) ∙ ap (λ (t : Timing). own_items first (end_moment t Closed) now.items i) now_timed) r.so_far.behind c.in_default-refill.ensures.filled.caught
+    let own : lists_in c.in-Ok-take_lists.lists ≡ lists_of_rows timing kinds s first (rows_of read) =
+    own_lists timing c.requires.fits c.in-Ok-take_lists.lists kinds s first None Closed read now (c.in-Ok-take_lists.ensures.len ∙ w)
+    (λ i lt. c.in-Ok-take_lists.ensures.each i (rw w lt)) r.so_far.behind c.in_default-refill.ensures.filled.caught
     ∙ whole_rows timing kinds s first read r.so_far.behind.sound in
     let counted = r.so_far.held in
     let start : c.in-Ok.inlet.held ≡ Some old.held = c.in-Ok.ensures.held in
@@ -56,12 +53,12 @@ returns-clause-added g c =
       read = read;
       passes = passes_whole timing kinds s old.held read r.so_far.behind.sound (fits_now s read c.in-Ok.inlet now counted old.held start);
       told = whole_told timing c.args.form.now kinds s first c.in-Ok.inlet now (left c.args.files.now) (left c.refill.new.files) _ c.in-Ok.ensures.source r;
-      lists = ap (map (λ v. v.items)) more ∙ map-append (λ v. v.items) old.lists.items c.in-Ok-lists.lists.items
+      lists = ap (map (λ v. v.items)) more ∙ map-append (λ v. v.items) old.lists.items c.in-Ok-take_lists.lists.items
           ∙ ap (λ rest. lists_in old.lists ++ rest) (own ∙ ap (λ n. lists_of_rows timing kinds s n (rows_of read)) c.len-first.ensures);
-      streams = rw (← c.len-first.ensures, ← own) (own_streams c.in-Ok-lists.lists first c.tag_count-width.result (end_moment now.timing Closed) now.items
-          c.in-Ok-lists.ensures.len c.in-Ok-lists.ensures.each now.rising);
-      len = omega (arith, len, w, c.in-Ok-lists.ensures.len);
-      held = c.unwrap_or-gathered.ensures ∙ ap (λ o. unwrap_or o 0) sum;
+      streams = rw (← c.len-first.ensures, ← own) (own_streams c.in-Ok-take_lists.lists first c.tag_count-width.result Closed now.items
+          c.in-Ok-take_lists.ensures.len c.in-Ok-take_lists.ensures.each now.rising);
+      len = omega (arith, len, w, c.in-Ok-take_lists.ensures.len);
+      held = c.unwrap_or-gathered.ensures ∙ ap (λ o. unwrap_or o 0) (c.take_lists.ensures.counted ∙ sum);
       number = refl;
     }
 
