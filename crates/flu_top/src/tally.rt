@@ -85,22 +85,39 @@ fn last_time(outs: &[Out]) -> Option<u64> {
     last
 }
 
-// The events after a time, or all events if none is given, of the items of an itag, whose moments rise; a time has this many moments.
+// The events after a time, or all events if none is given, of the items of an itag, whose moments rise; a time has this many moments. Moments are
+// compared, and divided only at the end, since a division takes longer than all else that is done for an event here.
 fn span_behind(items: &[Item], scale: u64, time: Option<u64>) -> Span
     requires { 0 < scale }
 {
+    let from = match time {
+        Some(time) => time.saturating_add(1).saturating_mul(scale),
+        None => 0,
+    };
     let mut span = Span::NONE;
     for item in items.iter().rev() {
         if let Item::Event(event) = item {
-            if let Some(time) = time {
-                if event.time / scale <= time {
-                    break;
-                }
+            if event.time < from {
+                break;
             }
-            span = span.and(at(event.time / scale, 1));
+            span = span.and(at(event.time, 1));
         }
     }
-    span
+    by_times(span, scale)
+}
+
+// Events by their times, where their moments are given; a time has this many moments.
+fn by_times(span: Span, scale: u64) -> Span
+    requires { 0 < scale }
+{
+    if span.first > span.last {
+        return span;
+    }
+    Span {
+        events: span.events,
+        first: span.first / scale,
+        last: span.last / scale,
+    }
 }
 
 // The times of the first and the last event of an itag, as a span of no event; a time has this many moments.
@@ -110,19 +127,19 @@ fn ends_of(items: &[Item], scale: u64) -> Span
     let mut ends = Span::NONE;
     for item in items {
         if let Item::Event(event) = item {
-            ends = at(event.time / scale, 0);
+            ends = at(event.time, 0);
             break;
         }
     }
     for item in items.iter().rev() {
         if let Item::Event(event) = item {
-            return ends.and(at(event.time / scale, 0));
+            return by_times(ends.and(at(event.time, 0)), scale);
         }
     }
     ends
 }
 
-// This many events at one time.
+// This many events at one time or moment.
 fn at(time: u64, events: u64) -> Span {
     Span {
         events,
