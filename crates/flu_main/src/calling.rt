@@ -194,14 +194,14 @@ fn failure_of<'f>(
     }
 }
 
-/// Answers words: those that ask for help or for the version here; all others go to the proved call as they are.
-pub(crate) fn answer<
-    'w,
-    R: rt::Files + AllocGlobal + Threads + Wait + Sync,
-    F: Files,
-    O: Sink,
-    E: Sink,
->(rt: &R, words: &'w [String], files: &mut F, out: &mut O, err: &mut E) -> Answer<'w> {
+/// Answers words over any files and sinks: those that ask for help or for the version here; all others go to the proved call as they are.
+pub fn answer<'w, R: rt::Files + AllocGlobal + Threads + Wait + Sync, F: Files, O: Sink, E: Sink>(
+    rt: &R,
+    words: &'w [String],
+    files: &mut F,
+    out: &mut O,
+    err: &mut E,
+) -> Answer<'w> {
     if let Some(text) = help::told(words) {
         return Answer::Command(help::tell(text, out, err));
     }

@@ -5,9 +5,8 @@ mod asking;
 mod calling;
 mod help;
 mod progress;
-#[cfg(test)]
-mod tests;
 mod watched;
 mod words;
 
-pub use calling::answer_call;
+pub use calling::{answer, answer_call};
+pub use help::{HELP, VERSION};

@@ -1,9 +1,7 @@
-mod files;
-mod stopped;
+//! Calls over real files: a fold, partials and what is combined of them, help and the version.
 
-use crate::calling::answer;
-use crate::help;
 use flu_adapt::{HostFiles, HostSink};
+use flu_main::{HELP, VERSION, answer};
 use std::io::Write;
 use std::sync::Wait;
 use std::test::Fail;
@@ -11,11 +9,12 @@ use std::thread::Threads;
 use std::{fs, rt};
 
 /// Answers words over the files of the system, and writers of any kind.
-pub(crate) fn run<
-    R: rt::Files + AllocGlobal + Threads + Wait + Sync,
-    O: Write + Drop,
-    E: Write + Drop,
->(rt: &R, words: &[String], out: O, err: E) -> u8 {
+pub fn run<R: rt::Files + AllocGlobal + Threads + Wait + Sync, O: Write + Drop, E: Write + Drop>(
+    rt: &R,
+    words: &[String],
+    out: O,
+    err: E,
+) -> u8 {
     let ended = answer(
         rt,
         words,
@@ -143,9 +142,9 @@ fn partials_of_two_nodes_are_combined(rt: HostRuntime) -> Result<(), Fail> {
 #[test]
 fn help_and_version_are_words_of_their_own(rt: HostRuntime) -> Result<(), Fail> {
     let cases = [
-        ("--help", help::HELP, "", 0),
-        ("--version", help::VERSION, "", 0),
-        ("-h", help::HELP, "", 0),
+        ("--help", HELP, "", 0),
+        ("--version", VERSION, "", 0),
+        ("-h", HELP, "", 0),
         ("-v", "", "flumina: bad words at 0\n", 2),
     ];
     for (word, text, line, wanted) in cases {

@@ -1,6 +1,6 @@
 //! Runs over real files that are stopped after a round, and resume from their checkpoints.
 
-use crate::tests::run;
+use crate::calls::run;
 use flu_lines::Status;
 use std::alloc::{AllocError, Global};
 use std::process::Abort;
