@@ -4,3 +4,4 @@ mod Spread
 mod Sound
 mod Files
 mod Times
+mod Ticks

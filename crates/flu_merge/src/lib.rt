@@ -3,4 +3,4 @@
 
 mod laws;
 
-pub use laws::{good_files_are_merged, rows_have_their_moments};
+pub use laws::{good_files_are_merged, rounds_tell_ticks, rows_have_their_moments};

@@ -24,7 +24,7 @@ least_of m (x ∷ xs) =
       )
     ]
 
-greatest_of : (m : ℕ) (ms : List ℕ) → (last : ℕ) × Contains (m ∷ ms) last × All (λ x. x ≤ last) (m ∷ ms)
+pub greatest_of : (m : ℕ) (ms : List ℕ) → (last : ℕ) × Contains (m ∷ ms) last × All (λ x. x ≤ last) (m ∷ ms)
 greatest_of m [] = (m, contains_here m [], All-cons (λ x. x ≤ m) m [] (omega arith) (All-nil (λ x. x ≤ m)))
 greatest_of m (x ∷ xs) =
     let r = greatest_of x xs in

@@ -1,4 +1,7 @@
+pub mod BetweenLemmas
+pub mod ComputedLemmas
 pub mod FollowLemmas
+pub mod FrontLemmas
 pub mod MergeLemmas
 pub mod MomentLemmas
 pub mod NextLemmas

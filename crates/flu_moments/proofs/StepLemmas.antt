@@ -68,7 +68,7 @@ is_step first every (suc count) (suc k) less =
     subst (Contains (steps first every (suc count))) there
     (contains_later first (first + every + k * every) (steps (first + every) every count) (is_step (first + every) every count k (omega arith)))
 
-less_by_cmp : (x y : ℕ) → x < y → nat_cmp x y ≡ Less
+pub less_by_cmp : (x y : ℕ) → x < y → nat_cmp x y ≡ Less
 less_by_cmp x y less = grind (arith, nat_tests)
 
 cmp_by_less : (x y : ℕ) → nat_cmp x y ≡ Less → x < y

@@ -1,6 +1,8 @@
 -- Laws of ticks.
-use Rattle.std.specs.Prelude.{◌≡◌, ℕ, ◌+◌, ◌<◌, ◌≤◌, List, [], length, slice_index, All, Any}
-use Rattle.flu_moments.specs.Clocks.{tick_moment, IsNextTick, IsTicks}
+use Rattle.std.specs.Prelude.{◌≡◌, ◌↔◌, ℕ, ◌+◌, ◌<◌, ◌≤◌, nat_le, List, [], ◌++◌, length, slice_index, All, Any, Contains}
+use Rattle.std.specs.List.{filter}
+use Rattle.flu_moments.specs.Clocks.{tick_moment, IsNextTick, IsTick, IsTicks, IsSpan, AreBetween, ticks_among}
+use Rattle.flu_moments.specs.Moments.{border}
 
 -- there is one next tick after each moment, and one list of ticks for each list of rows
 pub record TicksAreDetermined : Type 0 where
@@ -25,3 +27,45 @@ abbrev pub TicksFollowRows : Type 0
 TicksFollowRows =
     (sources ties every clock : ℕ) (rows ticks : List ℕ) → 0 < ties → clock < sources → 0 < every → IsTicks sources ties every clock rows ticks
     → FollowsRows sources ties every clock rows ticks
+
+-- the ticks between two moments are one list. A moment between the two parts it.
+pub record MomentsPartTicks : Type 0 where
+  pub determined : (sources ties every clock low high : ℕ) (ticks ticks' : List ℕ) → AreBetween sources ties every clock low high ticks
+      → AreBetween sources ties every clock low high ticks' → ticks ≡ ticks'
+  pub some : (sources ties every clock low high : ℕ) → 0 < ties → clock < sources → 0 < every
+      → (ticks : List ℕ) × AreBetween sources ties every clock low high ticks
+  pub joined : (sources ties every clock low between high : ℕ) (early late : List ℕ) → low ≤ between → between ≤ high
+      → AreBetween sources ties every clock low between early → AreBetween sources ties every clock between high late
+      → AreBetween sources ties every clock low high (early ++ late)
+
+-- the ticks among rows are those between the first row and the tick that follows the last row; so where some row is behind a border, the
+-- ticks up to the border are those between the first row and the border, whatever rows come behind it
+pub record RowsTellTicks : Type 0 where
+  pub all : (sources ties every clock first last to : ℕ) (rows ticks : List ℕ) → 0 < ties → clock < sources → 0 < every → IsSpan first last rows
+      → IsNextTick sources ties every clock last to → IsTicks sources ties every clock rows ticks
+      → AreBetween sources ties every clock first (tick_moment sources ties clock to) ticks
+  pub front : (sources ties every clock first border : ℕ) (rows ticks early : List ℕ) → 0 < ties → clock < sources → 0 < every → Contains rows first
+      → All (λ m. first ≤ m) rows → Any (λ m. border < m) rows → IsTicks sources ties every clock rows ticks
+      → AreBetween sources ties every clock first border early
+      → (late : List ℕ) × (ticks ≡ early ++ late) × All (λ time. border < tick_moment sources ties clock time) late
+
+-- a front of the rows has all rows up to a border, and one behind it
+pub record IsFrontAt (at : ℕ) (rows front : List ℕ) : Type 0 where
+  pub within : All (Contains rows) front
+  pub whole : All (λ m. m ≤ at → Contains front m) rows
+  pub behind : Any (λ m. at < m) front
+
+-- the ticks up to the border of a time are then those among the front
+pub record FrontsTellTicks : Type 0 where
+  pub each : (sources ties every clock at time : ℕ) (rows front : List ℕ) → IsFrontAt at rows front → tick_moment sources ties clock time ≤ at
+      → IsTick sources ties every clock rows time ↔ IsTick sources ties every clock front time
+  pub lists : (sources ties every clock last : ℕ) (rows front : List ℕ) → 0 < ties → clock < sources → 0 < every
+      → IsFrontAt (border sources ties last) rows front
+      → filter (λ time. nat_le time last) (ticks_among sources ties every clock rows)
+      ≡ filter (λ time. nat_le time last) (ticks_among sources ties every clock front)
+
+-- the ticks among rows are those that are computed from the first and the last row
+abbrev pub TicksAreComputed : Type 0
+TicksAreComputed =
+    (sources ties every clock : ℕ) (rows : List ℕ) → 0 < ties → clock < sources → 0 < every
+    → IsTicks sources ties every clock rows (ticks_among sources ties every clock rows)

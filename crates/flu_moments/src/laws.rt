@@ -2,7 +2,7 @@
 
 ghost use Rattle.flu_moments.specs.Laws.{MomentsAreApart, MomentsAreInOrder, BordersPartTimes, AllowedTimesFit, OneRowAtATime};
 ghost use Rattle.flu_moments.specs.MergeLaws.{MomentsMerge, MergeIsStableSort};
-ghost use Rattle.flu_moments.specs.TickLaws.{TicksAreDetermined, TicksFollowRows};
+ghost use Rattle.flu_moments.specs.TickLaws.{TicksAreDetermined, TicksFollowRows, TicksAreComputed, MomentsPartTicks, RowsTellTicks, FrontsTellTicks};
 
 /// Moments are one to one, and their order is that of the rows: by time, then by source, then by place.
 pub fn moments_order_rows()
@@ -18,10 +18,20 @@ pub fn borders_part_times()
     ensures one { OneRowAtATime }
 {}
 
-/// A clock has one next tick after each moment and one list of ticks for each list of rows, and the ticks follow the rows.
+/// A clock has one next tick after each moment and one list of ticks for each list of rows, which the first and the last row tell, and the
+/// ticks follow the rows.
 pub fn ticks_follow_rows()
     ensures determined { TicksAreDetermined }
     ensures follow { TicksFollowRows }
+    ensures computed { TicksAreComputed }
+{}
+
+/// A clock has one list of ticks between two moments, which a moment between them parts, and the ticks up to a border that some row is behind
+/// are those between the first row and the border, and those among any front of the rows that has all rows up to the border and one behind it.
+pub fn moments_part_ticks()
+    ensures part { MomentsPartTicks }
+    ensures rows { RowsTellTicks }
+    ensures fronts { FrontsTellTicks }
 {}
 
 /// Rows in the order of their moments are the merge of the files: all their rows, file after file, in a stable sort by time.

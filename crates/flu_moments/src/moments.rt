@@ -1,7 +1,7 @@
 //! The moments of rows, what of a row is in a moment, and the ticks of clocks among moments.
 
 ghost use Rattle.std.specs.Prelude.{◌≡◌, ◌↔◌, ℕ, ◌*◌, ◌^◌, ◌<◌, ◌≤◌, List, length, IsSome, IfSome, IfNone};
-ghost use Rattle.flu_moments.specs.Clocks.{tick_moment, IsNextTick, IsTicks, IsSpan};
+ghost use Rattle.flu_moments.specs.Clocks.{tick_moment, IsNextTick, IsTicks, IsSpan, AreBetween};
 ghost use Rattle.flu_moments.specs.Moments.{moment, time_of, source_of, place_of, border, greatest_time};
 
 use crate::ticks::Ticks;
@@ -134,6 +134,25 @@ impl Moments {
     {
         let ticks = self.ticks(every, clock, first, last)?;
         Some(ticks.count())
+    }
+
+    /// The ticks of a clock above one moment and not above another.
+    pub fn ticks_between(self, every: u64, clock: u64, low: u64, high: u64) -> Ticks
+        requires every { 0 < every }
+        requires clock { clock < self.sources }
+        requires low { low < 2 ^ 63 }
+        requires high { high < 2 ^ 63 }
+        ensures { AreBetween self.sources self.ties every clock low high result }
+    {
+        let end = self.first_time(clock, high);
+        let Some(from) = self.first_time(clock, low).checked_next_multiple_of(every) else {
+            return Ticks::new(0, every, 0);
+        };
+        if from < end {
+            Ticks::new(from, every, (end - 1 - from) / every + 1)
+        } else {
+            Ticks::new(0, every, 0)
+        }
     }
 
     // The first time at which a tick of the clock is above a moment.

@@ -1,3 +1,4 @@
+use Rattle.flu_moments.proofs.ComputedLemmas.{ticks_are_computed}
 use Rattle.flu_moments.proofs.FollowLemmas.{some_ticks, ticks_follow}
 use Rattle.flu_moments.proofs.NextLemmas.{next_tick_exists}
 use Rattle.flu_moments.proofs.TickLemmas.{only_next_tick, only_ticks}
@@ -13,3 +14,6 @@ returns-clause-determined c = record {
 
 pub returns-clause-follow : goal.returns-clause-follow
 returns-clause-follow c = λ sources ties every clock rows ticks any at some. ticks_follow sources ties every clock any at some rows ticks
+
+pub returns-clause-computed : goal.returns-clause-computed
+returns-clause-computed c = ticks_are_computed
