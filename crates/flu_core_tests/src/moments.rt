@@ -1,159 +1,126 @@
-use flu_moments::Moments;
-use std::alloc::Global;
+//! Moments and ticks, by a table of calls.
+
+use flu_moments::{Moments, Ticks};
+use std::alloc::{AllocError, Global};
 use std::test::Fail;
 
-/// The moment of a row, if it has one.
-fn moment_at(m: Moments, time: u64, source: u64, place: u64) -> Option<u64> {
-    if time <= m.greatest_time() && source < m.sources && place < m.ties {
-        Some(m.moment(time, source, place))
-    } else {
-        None
-    }
-}
+/// The sources and the ties of a numbering, a call with its numbers, and behind an arrow what it gives, which is nothing where the call is
+/// not allowed or gives none. Moments are told by time, source and place; ticks and their count by the period, the clock, and the first and the
+/// last moment. With two sources and two rows at a time, the row at 3 of source 0 has the moment 12, its second one at 10 has 41, and the
+/// rows at 3 and 10 of source 1 have 14 and 42.
+const CALLS: &str = "0 1 greatest =>
+1 0 greatest =>
+1 1 greatest => 9223372036854775807
+3 2 greatest => 1537228672809129300
+4294967296 2147483648 greatest => 0
+4294967296 2147483649 greatest =>
+18446744073709551615 18446744073709551615 greatest =>
+3 2 moment 0 0 0 => 0
+3 2 moment 0 0 1 => 1
+3 2 moment 0 1 0 => 2
+3 2 moment 0 2 1 => 5
+3 2 moment 1 0 0 => 6
+3 2 moment 5 1 1 => 33
+3 2 moment 1537228672809129300 2 1 => 9223372036854775805
+3 2 moment 5 3 0 =>
+3 2 moment 5 0 2 =>
+1 1 moment 7 0 0 => 7
+3 2 time 33 => 5
+3 2 source 33 => 1
+3 2 place 33 => 1
+3 2 border 0 => 5
+3 2 border 5 => 35
+1 1 border 7 => 7
+2 2 next 1 1 9223372036854775804 => 2305843009213693951
+2 2 next 10 1 9223372036854775804 =>
+2 2 next 1 1 9223372036854775807 =>
+2 2 next 18446744073709551615 1 0 => 0
+2 2 next 18446744073709551615 1 4 =>
+2 2 count 10 1 12 41 => 1
+2 2 count 10 0 14 42 => 2
+2 2 count 10 1 0 100 => 4
+2 2 count 10 1 0 9223372036854775804 =>
+2 2 ticks 10 1 12 41 => 10
+2 2 ticks 10 0 14 42 => 10 20
+2 2 ticks 10 1 0 100 => 0 10 20 30
+2 2 between 10 1 0 100 => 0 10 20
+2 2 between 10 1 2 42 => 10
+2 2 between 10 1 42 41 =>
+1 1 between 18446744073709551615 0 5 9223372036854775807 =>";
 
-/// The border of a time, if it is allowed.
-fn border_of(m: Moments, time: u64) -> Option<u64> {
-    if time <= m.greatest_time() {
-        Some(m.border(time))
-    } else {
-        None
-    }
-}
-
-/// The next tick of a clock, with the test of what it requires.
-fn next_tick(m: Moments, every: u64, clock: u64, moment: u64) -> Option<u64> {
-    if every > 0 && clock < m.sources && moment < 1 << 63 {
-        m.next_tick(every, clock, moment)
-    } else {
-        None
-    }
-}
-
-/// The first seven ticks of a clock among rows with these first and last moments.
-fn ticks_of(
-    alloc: Global,
-    m: Moments,
-    every: u64,
-    clock: u64,
-    first: u64,
-    last: u64,
-) -> Result<Vec<u64>, Fail> {
-    let mut times = Vec::new(alloc);
-    if every > 0 && clock < m.sources && first <= last && last < 1 << 63 {
-        let mut ticks = m.ticks(every, clock, first, last).ok_or("no ticks")?;
-        for _ in 0..7 {
-            if let Some(time) = ticks.next() {
-                times.push(time)?;
-            }
+/// The numbers of a call, and 0 behind the last one.
+fn numbers(words: &str) -> [u64; 4] {
+    let mut numbers = [0; 4];
+    let mut count = 0;
+    for word in words.split(' ') {
+        if count < 4 {
+            numbers[count] = word.parse::<u64>().unwrap_or(0);
+            count += 1;
         }
     }
-    Ok(times)
+    numbers
 }
 
-/// How many ticks there are in all.
-fn count_of_ticks(m: Moments, every: u64, clock: u64, first: u64, last: u64) -> Option<u64> {
-    if every > 0 && clock < m.sources && first <= last && last < 1 << 63 {
-        m.count_of_ticks(every, clock, first, last)
-    } else {
-        None
+fn number_of(m: Moments, call: &str, numbers: [u64; 4]) -> Option<u64> {
+    let [a, b, c, d] = numbers;
+    match call {
+        "greatest" => Some(m.greatest_time()),
+        "moment" if a <= m.greatest_time() && b < m.sources && c < m.ties => Some(m.moment(
+            a, b, c,
+        )),
+        "time" => Some(m.time_of(a)),
+        "source" => Some(m.source_of(a)),
+        "place" => Some(m.place_of(a)),
+        "border" if a <= m.greatest_time() => Some(m.border(a)),
+        "next" if a > 0 && b < m.sources && c < 1 << 63 => m.next_tick(a, b, c),
+        "count" if a > 0 && b < m.sources && c <= d && d < 1 << 63 => m.count_of_ticks(a, b, c, d),
+        _ => None,
     }
 }
 
-#[test]
-fn a_numbering_has_its_limits(rt: HostRuntime) {
-    // sources, ties, the greatest time
-    let cases = [
-        (0, 1, None),
-        (1, 0, None),
-        (1, 1, Some(9_223_372_036_854_775_807)),
-        (3, 2, Some(1_537_228_672_809_129_300)),
-        (4_294_967_296, 2_147_483_648, Some(0)),
-        (4_294_967_296, 2_147_483_649, None),
-        (u64::MAX, u64::MAX, None),
-    ];
-    for (sources, ties, want) in cases {
-        let got = Moments::new(sources, ties).map(|m| m.greatest_time());
-        assert_eq!(rt; got, want, "{sources} {ties}");
+fn ticks_of(m: Moments, call: &str, numbers: [u64; 4]) -> Option<Ticks> {
+    let [a, b, c, d] = numbers;
+    if a == 0 || b >= m.sources || c >= 1 << 63 || d >= 1 << 63 {
+        return None;
+    }
+    match call {
+        "ticks" if c <= d => m.ticks(a, b, c, d),
+        "between" => Some(m.ticks_between(a, b, c, d)),
+        _ => None,
     }
 }
 
-#[test]
-fn moments_go_by_time_source_and_place(rt: HostRuntime) -> Result<(), Fail> {
-    let m = Moments::new(3, 2).ok_or("in range")?;
-    // a time, a source, a place, and the moment
-    let cases = [
-        (0, 0, 0, Some(0)),
-        (0, 0, 1, Some(1)),
-        (0, 1, 0, Some(2)),
-        (0, 2, 1, Some(5)),
-        (1, 0, 0, Some(6)),
-        (5, 1, 1, Some(33)),
-        (
-            1_537_228_672_809_129_300,
-            2,
-            1,
-            Some(9_223_372_036_854_775_805),
-        ),
-        (5, 3, 0, None),
-        (5, 0, 2, None),
-    ];
-    for (time, source, place, want) in cases {
-        assert_eq!(rt;
-            moment_at(m, time, source, place),
-            want,
-            "{time} {source} {place}"
-        );
+/// What a call gives: a number, or the first ticks with blanks between them.
+fn told(alloc: Global, m: Moments, call: &str, numbers: [u64; 4]) -> Result<String, AllocError> {
+    let mut text = String::new(alloc);
+    if let Some(number) = number_of(m, call, numbers) {
+        write!(text, "{number}")?;
     }
-    assert_eq!(rt; m.time_of(33), 5);
-    assert_eq!(rt; m.source_of(33), 1);
-    assert_eq!(rt; m.place_of(33), 1);
-    assert_eq!(rt; border_of(m, 0), Some(5));
-    assert_eq!(rt; border_of(m, 5), Some(35));
-    let single = Moments::new(1, 1).ok_or("in range")?;
-    assert_eq!(rt; moment_at(single, 7, 0, 0), Some(7));
-    assert_eq!(rt; border_of(single, 7), Some(7));
-    Ok(())
+    if let Some(mut ticks) = ticks_of(m, call, numbers) {
+        for place in 0..7 {
+            let Some(time) = ticks.next() else {
+                return Ok(text);
+            };
+            let blank = if place > 0 { " " } else { "" };
+            write!(text, "{blank}{time}")?;
+        }
+    }
+    Ok(text)
 }
 
 #[test]
-fn clocks_tick_after_rows(rt: HostRuntime) -> Result<(), Fail> {
-    let m = Moments::new(2, 2).ok_or("in range")?;
-    // the clock is declared after the source of the rows: rows at 3 and, the second there, at 10
-    assert_eq!(rt;
-        ticks_of(rt.alloc(), m, 10, 1, 12, 41)?.as_slice(),
-        [10].as_slice()
-    );
-    assert_eq!(rt; count_of_ticks(m, 10, 1, 12, 41), Some(1));
-    // the clock is declared before it: rows at 3 and 10
-    assert_eq!(rt;
-        ticks_of(rt.alloc(), m, 10, 0, 14, 42)?.as_slice(),
-        [10, 20].as_slice()
-    );
-    assert_eq!(rt; count_of_ticks(m, 10, 0, 14, 42), Some(2));
-    // rows at 0 and 25 before a clock
-    assert_eq!(rt;
-        ticks_of(rt.alloc(), m, 10, 1, 0, 100)?.as_slice(),
-        [0, 10, 20, 30].as_slice()
-    );
-    assert_eq!(rt; count_of_ticks(m, 10, 1, 0, 100), Some(4));
-    Ok(())
-}
-
-#[test]
-fn the_last_tick_is_in_range(rt: HostRuntime) -> Result<(), Fail> {
-    let m = Moments::new(2, 2).ok_or("in range")?;
-    let last = 9_223_372_036_854_775_804;
-    // how often a clock ticks, a moment, and the next tick after it
-    let cases = [
-        (1, last, Some(2_305_843_009_213_693_951)),
-        (10, last, None),
-        (1, 9_223_372_036_854_775_807, None),
-        (u64::MAX, 0, Some(0)),
-        (u64::MAX, 4, None),
-    ];
-    for (every, moment, want) in cases {
-        assert_eq!(rt; next_tick(m, every, 1, moment), want, "{every} {moment}");
+fn moments_and_ticks_are_those_of_the_table(rt: HostRuntime) -> Result<(), Fail> {
+    for line in CALLS.split('\n') {
+        let (left, wanted) = line.split_once(" =>").unwrap_or((line, ""));
+        let (sources, rest) = left.split_once(' ').unwrap_or((left, ""));
+        let (ties, rest) = rest.split_once(' ').unwrap_or((rest, ""));
+        let (call, words) = rest.split_once(' ').unwrap_or((rest, ""));
+        let made = Moments::new(sources.parse::<u64>()?, ties.parse::<u64>()?);
+        let text = match made {
+            Some(m) => told(rt.alloc(), m, call, numbers(words))?,
+            None => String::new(rt.alloc()),
+        };
+        assert_eq!(rt; text.as_str(), wanted.trim(), "{line}");
     }
-    assert_eq!(rt; count_of_ticks(m, 10, 1, 0, last), None);
     Ok(())
 }
