@@ -3,6 +3,7 @@
 use flu_adapt::{HostFiles, HostSink};
 use flu_main::{HELP, VERSION, answer};
 use std::io::Write;
+use std::process::Abort;
 use std::sync::Wait;
 use std::test::Fail;
 use std::thread::Threads;
@@ -40,6 +41,41 @@ fn call<R: rt::Files + AllocGlobal + Threads + Wait + Sync>(
     Ok((status, out, err))
 }
 
+/// Compares the status of a call, and what it writes to out and err.
+fn expect<R: rt::Files + AllocGlobal + Threads + Wait + Sync + Abort>(
+    rt: &R,
+    words: &[&str],
+    report: &str,
+    line: &str,
+    wanted: u8,
+) -> Result<(), Fail> {
+    let (status, out, err) = call(rt, words)?;
+    assert_eq!(rt; status, wanted, "{words:?}");
+    assert_eq!(rt; out.as_slice(), report.as_bytes());
+    assert_eq!(rt; err.as_slice(), line.as_bytes());
+    Ok(())
+}
+
+/// Writes a call's report to a file.
+fn keep<R: rt::Files + AllocGlobal + Threads + Wait + Sync + Abort>(
+    rt: &R,
+    words: &[&str],
+    name: &str,
+) -> Result<(), Fail> {
+    let (status, out, err) = call(rt, words)?;
+    assert_eq!(rt; status, 0, "{words:?}");
+    assert!(rt; err.is_empty());
+    fs::write(rt, name, out.as_slice())?;
+    Ok(())
+}
+
+fn write_files<R: rt::Files + AllocGlobal>(rt: &R, files: &[(&str, &str)]) -> Result<(), Fail> {
+    for (name, text) in files {
+        fs::write(rt, name, *text)?;
+    }
+    Ok(())
+}
+
 const COUNTS: &str = "cell count sum\n\
     tag inc int\n\
     tag read none\n\
@@ -51,90 +87,42 @@ const COUNTS: &str = "cell count sum\n\
     source b \"b.csv\" rate 1000: inc\n\
     source c \"c.csv\" rate 1: read\n";
 
+const PLAN: &str = "node root: read -> left right\nnode left: inc@a\nnode right: inc@b\n";
+
+const FILES: [(&str, &str); 5] = [
+    ("counts.job", COUNTS),
+    ("parted.plan", PLAN),
+    ("a.csv", "1,inc,5\n4,inc,2\nend\n"),
+    ("b.csv", "2,inc,7\nend\n"),
+    ("c.csv", "3,read\n5,read\nend\n"),
+];
+
+const REPORT: &str = "3,read,count 12\n5,read,count 2\n";
+
 #[test]
 fn two_sources_add_and_a_third_reads(rt: HostRuntime) -> Result<(), Fail> {
-    let files = [
-        ("counts.job", COUNTS),
-        ("a.csv", "1,inc,5\n4,inc,2\nend\n"),
-        ("b.csv", "2,inc,7\nend\n"),
-        ("c.csv", "3,read\n5,read\nend\n"),
-    ];
-    for (name, text) in files {
-        assert!(rt; fs::write(&rt, name, text).is_ok(), "{name}");
-    }
-    let fold = String::from_str(rt.alloc(), "fold")?;
-    let job = String::from_str(rt.alloc(), "counts.job")?;
-    let mut out = Vec::new(rt.alloc());
-    let mut err = Vec::new(rt.alloc());
-    let status = run(&rt, &[fold, job], &mut out, &mut err);
-    assert_eq!(rt; status, 0);
-    assert_eq!(rt;
-        out.as_slice(),
-        b"3,read,count 12\n5,read,count 2\n".as_slice()
-    );
-    assert!(rt; err.is_empty());
-    Ok(())
+    write_files(&rt, &FILES)?;
+    expect(&rt, &["fold", "counts.job"], REPORT, "", 0)
 }
 
 #[test]
 fn partials_of_two_nodes_are_combined(rt: HostRuntime) -> Result<(), Fail> {
-    let plan = "node root: read -> left right\nnode left: inc@a\nnode right: inc@b\n";
-    let files = [
-        ("parted.job", COUNTS),
-        ("parted.plan", plan),
-        ("a.csv", "1,inc,5\n4,inc,2\nend\n"),
-        ("b.csv", "2,inc,7\nend\n"),
-        ("c.csv", "3,read\n5,read\nend\n"),
-    ];
-    for (name, text) in files {
-        assert!(rt; fs::write(&rt, name, text).is_ok(), "{name}");
-    }
+    write_files(&rt, &FILES)?;
     for node in ["left", "right"] {
-        let (status, out, err) = call(&rt, &["partial", "parted.job", "parted.plan", node])?;
-        assert_eq!(rt; status, 0);
-        assert!(rt; err.is_empty());
-        assert!(rt; fs::write(&rt, node, out.as_slice()).is_ok(), "{node}");
+        keep(&rt, &["partial", "counts.job", "parted.plan", node], node)?;
     }
+    // the command, its last two words, and what it writes to out and err
+    let bad = "flumina: bad words at 4\n";
+    let same = "flumina: partial a.csv: same as source a\n";
     let cases = [
-        (
-            "combine",
-            "left",
-            "right",
-            "3,read,count 12\n5,read,count 2\n",
-            "",
-            0,
-        ),
-        (
-            "combine",
-            "right",
-            "a.csv",
-            "",
-            "flumina: partial a.csv: same as source a\n",
-            14,
-        ),
-        (
-            "combine",
-            "right",
-            "right",
-            "",
-            "flumina: bad words at 4\n",
-            2,
-        ),
-        (
-            "partial",
-            "left",
-            "right",
-            "",
-            "flumina: bad words at 4\n",
-            2,
-        ),
+        ("combine", "left", "right", REPORT, "", 0),
+        ("combine", "right", "a.csv", "", same, 14),
+        ("combine", "right", "right", "", bad, 2),
+        ("partial", "left", "right", "", bad, 2),
     ];
     for (command, first, second, report, line, wanted) in cases {
-        let words = [command, "parted.job", "parted.plan", first, second];
-        let (status, out, err) = call(&rt, &words)?;
-        assert_eq!(rt; status, wanted);
-        assert_eq!(rt; out.as_slice(), report.as_bytes());
-        assert_eq!(rt; err.as_slice(), line.as_bytes());
+        let words = [command, "counts.job", "parted.plan", first, second];
+        expect(&rt, &words, report, line, wanted)?;
     }
     Ok(())
 }
@@ -148,13 +136,7 @@ fn help_and_version_are_words_of_their_own(rt: HostRuntime) -> Result<(), Fail> 
         ("-v", "", "flumina: bad words at 0\n", 2),
     ];
     for (word, text, line, wanted) in cases {
-        let word = String::from_str(rt.alloc(), word)?;
-        let mut out = Vec::new(rt.alloc());
-        let mut err = Vec::new(rt.alloc());
-        let status = run(&rt, &[word], &mut out, &mut err);
-        assert_eq!(rt; status, wanted);
-        assert_eq!(rt; out.as_slice(), text.as_bytes());
-        assert_eq!(rt; err.as_slice(), line.as_bytes());
+        expect(&rt, &[word], text, line, wanted)?;
     }
     Ok(())
 }

@@ -154,16 +154,21 @@ fn write<R: rt::Files + AllocGlobal + Abort>(
     Ok(())
 }
 
+fn prepare<R: rt::Files + AllocGlobal + Abort>(rt: &R, folder: &str) -> Result<(), Fail> {
+    let alloc = rt.alloc();
+    fs::create_dir(rt, folder)?;
+    write(rt, folder, "job", &job(alloc, folder)?)?;
+    write(rt, folder, "web", &views(alloc)?)?;
+    write(rt, folder, "clock", &ticks(alloc)?)
+}
+
 #[test]
 fn stopped_runs_go_on(rt: HostRuntime) -> Result<(), Fail> {
     let alloc = rt.alloc();
     let number = process::id(rt.process());
     let above = env::temp_dir(&rt)?;
     let folder = format!(in alloc; "{}/flumina-stopped-{number}", above.as_str())?;
-    fs::create_dir(&rt, folder.as_str())?;
-    write(&rt, &folder, "job", &job(alloc, &folder)?)?;
-    write(&rt, &folder, "web", &views(alloc)?)?;
-    write(&rt, &folder, "clock", &ticks(alloc)?)?;
+    prepare(&rt, &folder)?;
     let whole = report_of(&rt, &folder, "fold @job")?;
     let run = report_of(&rt, &folder, "run @job")?;
     assert!(rt; run.as_slice() == whole.as_slice());
