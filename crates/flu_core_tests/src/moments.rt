@@ -46,14 +46,21 @@ const CALLS: &str = "0 1 greatest =>
 2 2 between 10 1 0 100 => 0 10 20
 2 2 between 10 1 2 42 => 10
 2 2 between 10 1 42 41 =>
-1 1 between 18446744073709551615 0 5 9223372036854775807 =>";
+1 1 between 18446744073709551615 0 5 9223372036854775807 =>
+2 2 inside 10 1 0 100 5 25 => 10 20
+2 2 inside 10 1 0 100 0 30 => 10 20 30
+2 2 inside 10 1 0 100 29 18446744073709551615 => 30
+2 2 inside 10 1 0 100 30 99 =>
+2 2 inside 10 1 0 100 11 19 =>
+2 2 at 10 1 0 100 3 => 30
+2 2 at 10 1 0 100 4 =>";
 
 /// The numbers of a call, and 0 behind the last one.
-fn numbers(words: &str) -> [u64; 4] {
-    let mut numbers = [0; 4];
+fn numbers(words: &str) -> [u64; 6] {
+    let mut numbers = [0; 6];
     let mut count = 0;
     for word in words.split(' ') {
-        if count < 4 {
+        if count < 6 {
             numbers[count] = word.parse::<u64>().unwrap_or(0);
             count += 1;
         }
@@ -61,8 +68,8 @@ fn numbers(words: &str) -> [u64; 4] {
     numbers
 }
 
-fn number_of(m: Moments, call: &str, numbers: [u64; 4]) -> Option<u64> {
-    let [a, b, c, d] = numbers;
+fn number_of(m: Moments, call: &str, numbers: [u64; 6]) -> Option<u64> {
+    let [a, b, c, d, e, _] = numbers;
     match call {
         "greatest" => Some(m.greatest_time()),
         "moment" if a <= m.greatest_time() && b < m.sources && c < m.ties => Some(m.moment(
@@ -74,24 +81,26 @@ fn number_of(m: Moments, call: &str, numbers: [u64; 4]) -> Option<u64> {
         "border" if a <= m.greatest_time() => Some(m.border(a)),
         "next" if a > 0 && b < m.sources && c < 1 << 63 => m.next_tick(a, b, c),
         "count" if a > 0 && b < m.sources && c <= d && d < 1 << 63 => m.count_of_ticks(a, b, c, d),
+        "at" if a > 0 && b < m.sources && c <= d && d < 1 << 63 => m.ticks(a, b, c, d)?.get(e),
         _ => None,
     }
 }
 
-fn ticks_of(m: Moments, call: &str, numbers: [u64; 4]) -> Option<Ticks> {
-    let [a, b, c, d] = numbers;
+fn ticks_of(m: Moments, call: &str, numbers: [u64; 6]) -> Option<Ticks> {
+    let [a, b, c, d, e, f] = numbers;
     if a == 0 || b >= m.sources || c >= 1 << 63 || d >= 1 << 63 {
         return None;
     }
     match call {
         "ticks" if c <= d => m.ticks(a, b, c, d),
         "between" => Some(m.ticks_between(a, b, c, d)),
+        "inside" if c <= d => m.ticks_inside(a, b, c, d, Some(e), Some(f)),
         _ => None,
     }
 }
 
 /// What a call gives: a number, or the first ticks with blanks between them.
-fn told(alloc: Global, m: Moments, call: &str, numbers: [u64; 4]) -> Result<String, AllocError> {
+fn told(alloc: Global, m: Moments, call: &str, numbers: [u64; 6]) -> Result<String, AllocError> {
     let mut text = String::new(alloc);
     if let Some(number) = number_of(m, call, numbers) {
         write!(text, "{number}")?;

@@ -173,13 +173,13 @@ module _ (sources ties every clock : ℕ) (any : 0 < ties) (at : clock < sources
       ]
 
   -- ---- the ticks among rows
-  tick_moment-strict : (a b : ℕ) → a < b → tick_moment sources ties clock a < tick_moment sources ties clock b
+  pub tick_moment-strict : (a b : ℕ) → a < b → tick_moment sources ties clock a < tick_moment sources ties clock b
   tick_moment-strict a b less =
       let lines = product_le (a + 1) b sources (omega arith) in
       let places = product_le (a * sources + clock + 1) (b * sources + clock) ties (omega arith) in
       omega arith
 
-  all_between : (first last to : ℕ) (rows ticks : List ℕ) → IsSpan first last rows → IsNextTick sources ties every clock last to
+  pub all_between : (first last to : ℕ) (rows ticks : List ℕ) → IsSpan first last rows → IsNextTick sources ties every clock last to
       → IsTicks sources ties every clock rows ticks → AreBetween sources ties every clock first (tick_moment sources ties clock to) ticks
   all_between first last to rows ticks span end is = record {
     rising = is.rising;

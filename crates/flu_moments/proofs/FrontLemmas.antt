@@ -44,7 +44,7 @@ module _ (sources ties every clock at time : ℕ) (rows front : List ℕ) (is : 
   }
 
 -- ---- what a filter keeps
-kept : (p : ℕ → Bool) (xs : List ℕ) (k : ℕ) → Contains (filter p xs) k → Contains xs k × (p k ≡ true)
+pub kept : (p : ℕ → Bool) (xs : List ℕ) (k : ℕ) → Contains (filter p xs) k → Contains xs k × (p k ≡ true)
 kept p [] k there = absurd (contains_none k there)
 kept p (x ∷ xs) k there =
     elim (p x) as (λ b. p x ≡ b → Contains (cond b (x ∷ filter p xs) (filter p xs)) k → Contains (x ∷ xs) k × (p k ≡ true)) [
@@ -56,7 +56,7 @@ kept p (x ∷ xs) k there =
       | false ↦ λ fails here. (let rest = kept p xs k here in (contains_later x k xs rest.0, rest.1))
     ] refl there
 
-is_kept : (p : ℕ → Bool) (xs : List ℕ) (k : ℕ) → Contains xs k → p k ≡ true → Contains (filter p xs) k
+pub is_kept : (p : ℕ → Bool) (xs : List ℕ) (k : ℕ) → Contains xs k → p k ≡ true → Contains (filter p xs) k
 is_kept p [] k there passes = absurd (contains_none k there)
 is_kept p (x ∷ xs) k there passes =
     elim (p x) as (λ b. p x ≡ b → Contains (cond b (x ∷ filter p xs) (filter p xs)) k) [

@@ -2,8 +2,10 @@ pub mod BetweenLemmas
 pub mod ComputedLemmas
 pub mod FollowLemmas
 pub mod FrontLemmas
+pub mod InsideLemmas
 pub mod MergeLemmas
 pub mod MomentLemmas
+pub mod NearLemmas
 pub mod NextLemmas
 pub mod StableLemmas
 pub mod StepLemmas

@@ -1,6 +1,6 @@
 -- Numbers at equal steps, multiples, and rising lists with the same numbers.
-use Rattle.std.proofs.Common.{◌≡◌, ◌↔◌, ℕ, zero, suc, ◌+◌, ◌-◌, ◌*◌, ◌/◌, ◌%◌, ◌<◌, ◌≤◌, List, [], ◌∷◌, length, inl, inr, refl, sym, ap, subst, ◌∙◌, arith}
-use Rattle.std.specs.Prelude.{Contains}
+use Rattle.std.proofs.Common.{◌≡◌, ◌↔◌, ℕ, zero, suc, ◌+◌, ◌-◌, ◌*◌, ◌/◌, ◌%◌, ◌<◌, ◌≤◌, List, [], ◌∷◌, length, Some, None, inl, inr, refl, sym, ap, subst, ◌∙◌, arith}
+use Rattle.std.specs.Prelude.{slice_get, Contains}
 use Rattle.std.specs.List.{AllByRecursion}
 use Rattle.std.specs.List.Sorted.{IsStrictlyIncreasing, IsStrictlySortedBy}
 use Rattle.std.specs.Ordering.{nat_cmp}
@@ -67,6 +67,16 @@ is_step first every (suc count) (suc k) less =
     let there : first + every + k * every ≡ first + suc k * every = omega arith in
     subst (Contains (steps first every (suc count))) there
     (contains_later first (first + every + k * every) (steps (first + every) every count) (is_step (first + every) every count k (omega arith)))
+
+pub step_at : (first every count k : ℕ) → k < count → slice_get (steps first every count) k ≡ Some (first + k * every)
+step_at first every zero k less = absurd (omega arith)
+step_at first every (suc count) zero less = ap Some (omega arith)
+step_at first every (suc count) (suc k) less = step_at (first + every) every count k (omega arith) ∙ ap Some (omega arith)
+
+pub no_step_at : (first every count k : ℕ) → count ≤ k → slice_get (steps first every count) k ≡ None
+no_step_at first every zero k le = refl
+no_step_at first every (suc count) zero le = absurd (omega arith)
+no_step_at first every (suc count) (suc k) le = no_step_at (first + every) every count k (omega arith)
 
 pub less_by_cmp : (x y : ℕ) → x < y → nat_cmp x y ≡ Less
 less_by_cmp x y less = grind (arith, nat_tests)

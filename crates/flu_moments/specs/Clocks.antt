@@ -1,5 +1,5 @@
 -- CLOCKS: a clock is one of the sources. It ticks at times that are multiples of `every`, one or more, once at a time.
-use Rattle.std.specs.Prelude.{◌≡◌, ◌↔◌, ℕ, zero, suc, ◌+◌, ◌-◌, ◌/◌, ◌%◌, ◌<◌, ◌≤◌, min, max, nat_lt, if◌then◌else◌, List, [], ◌∷◌, All, Any, Contains}
+use Rattle.std.specs.Prelude.{◌≡◌, ◌↔◌, ℕ, zero, suc, ◌+◌, ◌-◌, ◌/◌, ◌%◌, ◌<◌, ◌≤◌, min, max, Bool, true, nat_lt, nat_le, ◌&&◌, Option, Some, None, if◌then◌else◌, List, [], ◌∷◌, All, Any, Contains}
 use Rattle.std.specs.Int.{next_multiple_of}
 use Rattle.std.specs.List.Sorted.{IsStrictlyIncreasing}
 use Rattle.flu_moments.specs.Moments.{moment, time_of}
@@ -35,6 +35,18 @@ pub record IsBetween (sources ties every clock low high time : ℕ) : Type 0 whe
 pub record AreBetween (sources ties every clock low high : ℕ) (ticks : List ℕ) : Type 0 where
   pub rising : IsStrictlyIncreasing ticks
   pub each : (time : ℕ) → Contains ticks time ↔ IsBetween sources ties every clock low high time
+
+-- a time above one, if there is one, and up to another, if there is one
+abbrev pub is_after : Option ℕ → ℕ → Bool
+is_after None time = true
+is_after (Some above) time = nat_lt above time
+
+abbrev pub is_until : Option ℕ → ℕ → Bool
+is_until None time = true
+is_until (Some end) time = nat_le time end
+
+abbrev pub is_inside : Option ℕ → Option ℕ → ℕ → Bool
+is_inside above end time = is_after above time && is_until end time
 
 -- the moments of some rows, of which these are the first and the last in order
 pub record IsSpan (first last : ℕ) (rows : List ℕ) : Type 0 where

@@ -2,7 +2,7 @@
 use Rattle.std.specs.Prelude.{◌≡◌, ◌↔◌, ℕ, ◌+◌, ◌<◌, ◌≤◌, nat_le, List, [], ◌++◌, length, slice_index, All, Any, Contains}
 use Rattle.std.specs.List.{filter}
 use Rattle.flu_moments.specs.Clocks.{tick_moment, IsNextTick, IsTick, IsTicks, IsSpan, AreBetween, ticks_among}
-use Rattle.flu_moments.specs.Moments.{border}
+use Rattle.flu_moments.specs.Moments.{time_of, border}
 
 -- there is one next tick after each moment, and one list of ticks for each list of rows
 pub record TicksAreDetermined : Type 0 where
@@ -63,6 +63,13 @@ pub record FrontsTellTicks : Type 0 where
       → IsFrontAt (border sources ties last) rows front
       → filter (λ time. nat_le time last) (ticks_among sources ties every clock rows)
       ≡ filter (λ time. nat_le time last) (ticks_among sources ties every clock front)
+
+-- the next tick after a moment is at most a period behind its time, and so are all ticks among rows behind the time of the last row
+pub record TicksAreNear : Type 0 where
+  pub next : (sources ties every clock m time : ℕ) → 0 < ties → clock < sources → 0 < every → IsNextTick sources ties every clock m time
+      → time ≤ time_of sources ties m + every
+  pub all : (sources ties every clock first last : ℕ) (rows : List ℕ) → 0 < ties → clock < sources → 0 < every → IsSpan first last rows
+      → All (λ time. time ≤ time_of sources ties last + every) (ticks_among sources ties every clock rows)
 
 -- the ticks among rows are those that are computed from the first and the last row
 abbrev pub TicksAreComputed : Type 0

@@ -2,7 +2,7 @@
 
 ghost use Rattle.flu_moments.specs.Laws.{MomentsAreApart, MomentsAreInOrder, BordersPartTimes, AllowedTimesFit, OneRowAtATime};
 ghost use Rattle.flu_moments.specs.MergeLaws.{MomentsMerge, MergeIsStableSort};
-ghost use Rattle.flu_moments.specs.TickLaws.{TicksAreDetermined, TicksFollowRows, TicksAreComputed, MomentsPartTicks, RowsTellTicks, FrontsTellTicks};
+ghost use Rattle.flu_moments.specs.TickLaws.{TicksAreDetermined, TicksFollowRows, TicksAreComputed, TicksAreNear, MomentsPartTicks, RowsTellTicks, FrontsTellTicks};
 
 /// Moments are one to one, and their order is that of the rows: by time, then by source, then by place.
 pub fn moments_order_rows()
@@ -24,6 +24,7 @@ pub fn ticks_follow_rows()
     ensures determined { TicksAreDetermined }
     ensures follow { TicksFollowRows }
     ensures computed { TicksAreComputed }
+    ensures near { TicksAreNear }
 {}
 
 /// A clock has one list of ticks between two moments, which a moment between them parts, and the ticks up to a border that some row is behind

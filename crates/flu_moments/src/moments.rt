@@ -1,7 +1,8 @@
 //! The moments of rows, what of a row is in a moment, and the ticks of clocks among moments.
 
 ghost use Rattle.std.specs.Prelude.{◌≡◌, ◌↔◌, ℕ, ◌*◌, ◌^◌, ◌<◌, ◌≤◌, List, length, IsSome, IfSome, IfNone};
-ghost use Rattle.flu_moments.specs.Clocks.{tick_moment, IsNextTick, IsTicks, IsSpan, AreBetween};
+ghost use Rattle.std.specs.List.{filter};
+ghost use Rattle.flu_moments.specs.Clocks.{tick_moment, IsNextTick, IsTicks, IsSpan, AreBetween, ticks_among, is_inside};
 ghost use Rattle.flu_moments.specs.Moments.{moment, time_of, source_of, place_of, border, greatest_time};
 
 use crate::ticks::Ticks;
@@ -153,6 +154,41 @@ impl Moments {
         } else {
             Ticks::new(0, every, 0)
         }
+    }
+
+    /// Of the ticks of a clock among rows whose first and last moments in order are these, those above one time and up to another, where these are
+    /// given; none where the time of the last tick among the rows is above the greatest.
+    pub fn ticks_inside(
+        self,
+        every: u64,
+        clock: u64,
+        first: u64,
+        last: u64,
+        above: Option<u64>,
+        end: Option<u64>,
+    ) -> Option<Ticks>
+        requires every { 0 < every }
+        requires clock { clock < self.sources }
+        requires order { first ≤ last }
+        requires last { last < 2 ^ 63 }
+        ensures some { IfSome result (λ ticks. (rows : List ℕ) → IsSpan first last rows
+            → ticks ≡ filter (is_inside above end) (ticks_among self.sources self.ties every clock rows)) }
+        ensures none { IfNone result ((time : ℕ) → IsNextTick self.sources self.ties every clock last time
+            → greatest_time self.sources self.ties < time) }
+    {
+        let to = self.next_tick(every, clock, last)?;
+        let low = match above {
+            None => first,
+            Some(time) => {
+                if time >= to {
+                    return Some(Ticks::new(0, every, 0));
+                }
+                first.max(self.border(time))
+            }
+        };
+        let until = end.unwrap_or(to).min(to);
+        let high = self.moment(until, clock, 0);
+        Some(self.ticks_between(every, clock, low, high))
     }
 
     // The first time at which a tick of the clock is above a moment.

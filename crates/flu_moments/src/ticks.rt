@@ -1,6 +1,6 @@
 //! The ticks of a clock, one by one.
 
-ghost use Rattle.std.specs.Prelude.{◌≡◌, ◌+◌, ◌-◌, ◌*◌, ◌^◌, ◌<◌, [], ◌∷◌, length, IfSome, IfNone};
+ghost use Rattle.std.specs.Prelude.{◌≡◌, ◌+◌, ◌-◌, ◌*◌, ◌^◌, ◌<◌, [], ◌∷◌, length, slice_get, IfSome, IfNone};
 ghost use Rattle.flu_moments.specs.Clocks.{steps};
 
 use std::marker::Model;
@@ -37,11 +37,29 @@ impl Ticks {
         }
     }
 
+    /// No ticks.
+    pub fn none() -> Ticks
+        ensures { result ≡ [] }
+    {
+        Ticks::new(0, 1, 0)
+    }
+
     /// How many ticks are left.
     pub fn count(&self) -> u64
         ensures { result ≡ length self.now }
     {
         self.left
+    }
+
+    /// The time of the tick behind this many others; none where there are no more.
+    pub fn get(&self, number: u64) -> Option<u64>
+        ensures { result ≡ slice_get self.now number }
+    {
+        if number < self.left {
+            Some(self.time + number * self.every)
+        } else {
+            None
+        }
     }
 
     /// The time of the next tick, which is then no longer left; none where none is left.

@@ -1,3 +1,4 @@
+use Rattle.flu_moments.proofs.NearLemmas.{ticks_are_near}
 use Rattle.flu_moments.proofs.ComputedLemmas.{ticks_are_computed}
 use Rattle.flu_moments.proofs.FollowLemmas.{some_ticks, ticks_follow}
 use Rattle.flu_moments.proofs.NextLemmas.{next_tick_exists}
@@ -17,3 +18,6 @@ returns-clause-follow c = λ sources ties every clock rows ticks any at some. ti
 
 pub returns-clause-computed : goal.returns-clause-computed
 returns-clause-computed c = ticks_are_computed
+
+pub returns-clause-near : goal.returns-clause-near
+returns-clause-near c = ticks_are_near
