@@ -46,6 +46,10 @@ class Job:
             if rng.random() < 0.4:
                 actions.append(self.emit(kind[1], kind[3]))
         self.sources = [(f"s{i}", rng.randint(1, 50), self.listed()) for i in range(rng.randint(1, 3))]
+        # A clock has a kind that has no key, no item and no value, and is declared in front of some source or behind all.
+        plain = [i for i, kind in enumerate(self.kinds) if not any(kind[1:])]
+        clocks = range(rng.randint(0, 2) * (self.version == 3 and bool(plain)))
+        self.clocks = [(f"t{i}", rng.choice([1, 3, 10, 40, 1000]), rng.choice(plain), rng.randint(0, len(self.sources))) for i in clocks]
 
     def listed(self):
         """What a source lists: kinds, the keyed ones with a range of keys."""
@@ -103,10 +107,16 @@ class Job:
         ]
         lines += [f"depends {self.kinds[a][0]} {self.kinds[b][0]}{' same' if same else ''}" for a, b, same in sorted(self.depends)]
         lines += [f"on {kind[0]}: {'; '.join(actions)}" for kind, actions in zip(self.kinds, self.actions)]
-        for name, rate, tags in self.sources:
+        for number, (name, rate, tags) in enumerate(self.sources):
+            lines += self.clock_lines(number)
             listed = ", ".join(self.kinds[k][0] + (f"[{low}..{high}]" if self.kinds[k][1] else "") for k, low, high in tags)
             lines.append(f'source {name} "{name}.csv" rate {rate}: {listed}')
+        lines += self.clock_lines(len(self.sources))
         return "\n".join(lines) + "\n"
+
+    def clock_lines(self, place):
+        """The lines of the clocks that are declared in front of the source at a place."""
+        return [f"clock {name} every {period}: {self.kinds[kind][0]}" for name, period, kind, before in self.clocks if before == place]
 
     def by(self, name):
         """Which list names the keys of a family or the items of a kind, as its declaration says it."""
@@ -135,7 +145,8 @@ class Job:
 
     def itags(self):
         """Each itag as its kind, its key and its source."""
-        return [(kind, key, name) for name, _, tags in self.sources for kind, low, high in tags for key in range(low, high + 1)]
+        of_rows = [(kind, key, name) for name, _, tags in self.sources for kind, low, high in tags for key in range(low, high + 1)]
+        return of_rows + [(kind, 0, name) for name, _, kind, _ in self.clocks]
 
     def dependent(self, i, j):
         """Whether two itags depend on each other."""

@@ -77,7 +77,7 @@ module _ (p : Program) (nodes : List Node) (w : ℕ) where
       any_in_range (λ k. inside p nodes w k && needs (mode_at p k c)) 0 (count_of_itags p) i (omega arith) (omega arith)
       (both (inside p nodes w i) (needs (mode_at p i c)) there needed) in
       class_kept (is_used p nodes w c) (is_kept p nodes w c) (is_contributed p nodes w c) some
-      (second (some_has p needs (inside p nodes w) c) (is_kept p nodes w c) (apart i c lt there used) some_needs)
+      (second (some_has p needs (inside p nodes w) c) (is_kept p nodes w c) (apart.shares_none i c lt there used) some_needs)
 
   -- no tag outside uses what is kept
   kept_is_unused : (i : ℕ) (c : Cell) → i < count_of_itags p → inside p nodes w i ≡ false → class_of p nodes w c ≡ Kept → uses (mode_at p i c) ≡ true → ⊥

@@ -4,3 +4,5 @@ pub mod SearchLemmas
 pub mod TableLemmas
 pub mod SortLemmas
 pub mod LawLemmas
+pub mod ClockLemmas
+pub mod ReasonLemmas

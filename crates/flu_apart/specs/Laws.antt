@@ -1,5 +1,6 @@
 -- What the events of a node's subtree and the events outside it do to the cells of each class.
 use Rattle.std.specs.Prelude.{◌≡◌, ◌≢◌, ◌⊎◌, ℕ, ◌<◌, true, false, List}
+use Rattle.std.specs.List.{list_any}
 use Rattle.flu_model.specs.declared.events.Cell.{Cell}
 use Rattle.flu_model.specs.declared.events.Event.{Event}
 use Rattle.flu_model.specs.declared.jobs.Program.{Program}
@@ -9,12 +10,14 @@ use Rattle.flu_model.specs.declared.plans.Node.{Node}
 use Rattle.flu_model.specs.Contents.{Contents, joined_worth}
 use Rattle.flu_model.specs.Itags.{count_of_itags}
 use Rattle.flu_model.specs.Modes.{uses}
+use Rattle.flu_model.specs.Rules.{is_clock}
 use Rattle.flu_model.specs.Sorts.{IsStateOf}
 use Rattle.flu_model.specs.Updates.{effect_of}
 use Rattle.flu_laws.specs.Changes.{change_of}
 use Rattle.flu_laws.specs.Lawful.{amount_of}
 use Rattle.flu_apart.specs.declared.classes.Class.TheVariants.{Kept}
-use Rattle.flu_apart.specs.Apart.{MayBeApart}
+use Rattle.flu_apart.specs.declared.reason.Reason.{Reason}
+use Rattle.flu_apart.specs.Apart.{MayBeApart, IsFirstReason}
 use Rattle.flu_apart.specs.Classes.{mode_at, inside, is_contributed, class_of}
 
 -- an event of the subtree, and one outside it
@@ -49,6 +52,18 @@ pub record LeavesKept (p : Program) (nodes : List Node) (w : ℕ) : Type 0 where
   pub texts : (s t : Contents) (x : Event) → IsOutside p nodes w x → AgreeOnOthers p nodes w s t → (effect_of p s x).texts ≡ (effect_of p t x).texts
   pub changes : (s t : Contents) (x : Event) (c : Cell) → IsOutside p nodes w x → AgreeOnOthers p nodes w s t
       → change_of p s x c ≡ change_of p t x c
+
+-- NO CLOCKS: where a node may be apart no source of the job is a clock
+abbrev pub ApartWithoutClocks : Type 0
+ApartWithoutClocks = (p : Program) (nodes : List Node) (w : ℕ) → MayBeApart p nodes w → list_any is_clock p.sources ≡ false
+
+-- ONE REASON: there is one first reason why a node may not be apart, and none where it may be
+pub record HasOneReason (p : Program) (nodes : List Node) (w : ℕ) : Type 0 where
+  pub one : (r s : Reason) → IsFirstReason p nodes w r → IsFirstReason p nodes w s → r ≡ s
+  pub none : (r : Reason) → MayBeApart p nodes w → IsFirstReason p nodes w r → ⊥
+
+abbrev pub ReasonsAreOne : Type 0
+ReasonsAreOne = (p : Program) (nodes : List Node) (w : ℕ) → HasOneReason p nodes w
 
 -- where a node may be apart its subtree contributes
 abbrev pub SubtreesContribute : Type 0

@@ -1,4 +1,4 @@
--- The search for the first reason, over the cells that the actions of all tags name. Where a family is used as a whole, its first cell is
+-- The search for the first shared use, over the cells that the actions of all tags name. Where a family is used as a whole, its first cell is
 -- named: it stands for all those that nothing else names. No theorem's meaning depends on these.
 use Rattle.std.specs.Prelude.{ℕ, zero, suc, Bool, true, false, ◌&&◌, Option, Some, None, List, [], ◌∷◌, ◌++◌, if◌then◌else◌, slice_get}
 use Rattle.std.specs.Ordering.{is_lt}
@@ -12,8 +12,8 @@ use Rattle.flu_model.specs.Updates.{actions_of}
 use Rattle.flu_deps.specs.LoopNamed.{actions_cells}
 use Rattle.flu_apart.specs.declared.classes.Class.{Class}
 use Rattle.flu_apart.specs.declared.classes.Class.TheVariants.{Unused, Kept, Contributed, Shared}
-use Rattle.flu_apart.specs.declared.reason.Reason.{Reason}
-use Rattle.flu_apart.specs.Apart.{reason_cmp}
+use Rattle.flu_apart.specs.declared.reason.SharedUse.{SharedUse}
+use Rattle.flu_apart.specs.Apart.{use_cmp}
 use Rattle.flu_apart.specs.Classes.{tag_at, mode_at, inside, class_of}
 
 abbrev pub is_shared : Class → Bool
@@ -22,30 +22,30 @@ is_shared Kept = false
 is_shared Contributed = false
 is_shared Shared = true
 
--- no reason, or one after this one
-abbrev pub is_before_best : Reason → Option Reason → Bool
+-- no shared use, or one after this one
+abbrev pub is_before_best : SharedUse → Option SharedUse → Bool
 is_before_best r None = true
-is_before_best r (Some best) = is_lt (reason_cmp r.tag r.cell best.tag best.cell)
+is_before_best r (Some best) = is_lt (use_cmp r.tag r.cell best.tag best.cell)
 
-abbrev pub reason : Tag → Cell → Reason
-reason t c = record { tag = t; cell = c }
+abbrev pub shared_use : Tag → Cell → SharedUse
+shared_use t c = record { tag = t; cell = c }
 
 -- the best so far, or itag i with the cell if it is of the subtree, uses the cell, and is before that
-abbrev pub better : Program → List Node → ℕ → Cell → Option Reason → ℕ → Option Reason
+abbrev pub better : Program → List Node → ℕ → Cell → Option SharedUse → ℕ → Option SharedUse
 better p nodes w c best i =
-    if (inside p nodes w i && uses (mode_at p i c)) && is_before_best (reason (tag_at p i) c) best then Some (reason (tag_at p i) c) else best
+    if (inside p nodes w i && uses (mode_at p i c)) && is_before_best (shared_use (tag_at p i) c) best then Some (shared_use (tag_at p i) c) else best
 
 -- the best of the itags before n
-abbrev pub best_upto : Program → List Node → ℕ → Cell → Option Reason → ℕ → Option Reason
+abbrev pub best_upto : Program → List Node → ℕ → Cell → Option SharedUse → ℕ → Option SharedUse
 best_upto p nodes w c best zero = best
 best_upto p nodes w c best (suc n) = better p nodes w c (best_upto p nodes w c best n) n
 
 -- of all itags, if the cell is shared
-abbrev pub best_at : Program → List Node → ℕ → Option Reason → Cell → Option Reason
+abbrev pub best_at : Program → List Node → ℕ → Option SharedUse → Cell → Option SharedUse
 best_at p nodes w best c = if is_shared (class_of p nodes w c) then best_upto p nodes w c best (count_of_itags p) else best
 
 -- of all these cells
-abbrev pub best_among : Program → List Node → ℕ → Option Reason → List Cell → Option Reason
+abbrev pub best_among : Program → List Node → ℕ → Option SharedUse → List Cell → Option SharedUse
 best_among p nodes w best [] = best
 best_among p nodes w best (c ∷ cs) = best_among p nodes w (best_at p nodes w best c) cs
 

@@ -1,6 +1,16 @@
 //! Laws of the subtrees of nodes, on which running them apart rests. Each law is the contract of a function that does nothing.
 
-ghost use Rattle.flu_apart.specs.Laws.{ContributedInOneMode, SubtreesContribute, KeptIsLeft};
+ghost use Rattle.flu_apart.specs.Laws.{ApartWithoutClocks, ReasonsAreOne, ContributedInOneMode, SubtreesContribute, KeptIsLeft};
+
+/// Where a node may be apart, each source of the job has a file: none is a clock.
+pub fn apart_without_clocks()
+    ensures { ApartWithoutClocks }
+{}
+
+/// A node has one first reason why it may not be apart, and none if it may.
+pub fn reasons_are_one()
+    ensures { ReasonsAreOne }
+{}
 
 /// An event of the subtree of a node that may be apart changes a cell that the subtree does not keep only by adding to it or raising it,
 /// and reads none of them: what it emits and what it does to each cell depend on the kept cells alone.

@@ -2,9 +2,19 @@
 
 use flu_model::{Cell, Tag};
 
-/// A tag of a node's subtree, and a cell that it uses, on which the node can't be apart.
+/// A tag of a node's subtree, and a cell that it uses and the subtree neither contributes to nor keeps.
 #[derive(Clone, Copy, PartialEq, Eq, Debug)]
-pub struct Reason {
+pub struct SharedUse {
     pub tag: Tag,
     pub cell: Cell,
+}
+
+/// Why a node can't be apart.
+#[derive(Clone, Copy, PartialEq, Eq, Debug)]
+pub enum Reason {
+    /// The job has a clock: the number of the first one among its sources. Its ticks stand behind the rows of all files, which no node
+    /// that is apart reads.
+    Clock(u32),
+    /// A tag of the node's subtree uses a cell that is shared.
+    Shared(SharedUse),
 }

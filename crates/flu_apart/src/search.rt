@@ -1,37 +1,65 @@
-//! The first reason why a node may not be apart.
+//! The first reason why a node may not be apart: the first clock of the job, or the first shared use.
 
-ghost use Rattle.std.specs.Prelude.{◌≡◌, ◌<◌, IfSome, IfNone, ◌&&◌, None};
+ghost use Rattle.std.specs.Prelude.{◌≡◌, ◌<◌, IfSome, IfNone, ◌&&◌, None, length};
+ghost use Rattle.std.specs.List.{position};
 ghost use Rattle.flu_model.specs.Itags.{count_of_itags};
 ghost use Rattle.flu_model.specs.Contents.{cell};
+ghost use Rattle.flu_model.specs.Rules.{is_clock};
 ghost use Rattle.flu_deps.specs.Checking.{program_of};
 ghost use Rattle.flu_deps.specs.Validated.{plan_of, IsValidFor};
 ghost use Rattle.flu_deps.specs.LoopNamed.{expr_cells, guard_cells, piece_cells, pieces_cells, act_cells, action_cells, actions_cells};
-ghost use Rattle.flu_apart.specs.Apart.{MayBeApart, IsFirstReason};
+ghost use Rattle.flu_apart.specs.Apart.{SharesNone, MayBeApart, IsFirstUse, IsFirstReason};
 ghost use Rattle.flu_apart.specs.Classes.{class_of};
 ghost use Rattle.flu_apart.specs.LoopSearch as search;
 ghost use Rattle.flu_apart.specs.Subtrees.{job, nodes, node, IsSubtree};
 
 use crate::classes::{Class, Subtree};
-use crate::reason::Reason;
+use crate::reason::{Reason, SharedUse};
 use flu_deps::{Checked, Valid};
-use flu_model::{Act, Action, Cell, Expr, Piece, actions_of, cell_of, itag_count};
+use flu_model::{Act, Action, Cell, Expr, Piece, Program, actions_of, cell_of, itag_count};
 
 /// The first reason why a node of a plan may not be apart; none if it may.
 pub fn first_reason(c: &Checked, v: &Valid, w: u32) -> Option<Reason>
     requires { IsValidFor (program_of c.now) v.now }
-    ensures first { IfSome result (λ r. IsFirstReason (program_of c.now) (plan_of v.now).nodes w r.tag r.cell) }
+    ensures first { IfSome result (IsFirstReason (program_of c.now) (plan_of v.now).nodes w) }
     ensures some { IfSome result (λ r. MayBeApart (program_of c.now) (plan_of v.now).nodes w → ⊥) }
     ensures none { IfNone result (MayBeApart (program_of c.now) (plan_of v.now).nodes w) }
+{
+    match first_clock(c.program()) {
+        Some(number) => Some(Reason::Clock(number as u32)),
+        None => match first_use(c, v, w) {
+            Some(shared) => Some(Reason::Shared(shared)),
+            None => None,
+        },
+    }
+}
+
+// The first source of a job that is a clock.
+fn first_clock(p: &Program) -> Option<usize>
+    ensures first { result ≡ position is_clock p.now.sources }
+    ensures within { IfSome result (λ number. number < length p.now.sources) }
+{
+    p.sources
+        .items()
+        .iter()
+        .position(|source| source.every.is_some())
+}
+
+// The first shared use of the subtree of a node.
+fn first_use(c: &Checked, v: &Valid, w: u32) -> Option<SharedUse>
+    requires { IsValidFor (program_of c.now) v.now }
+    ensures first { IfSome result (λ u. IsFirstUse (program_of c.now) (plan_of v.now).nodes w u.tag u.cell) }
+    ensures none { IfNone result (SharesNone (program_of c.now) (plan_of v.now).nodes w) }
 {
     let subtree = Subtree::of(c, v, w);
     first_of(&subtree)
 }
 
-// The first reason why the node of a subtree may not be apart.
-fn first_of(s: &Subtree) -> Option<Reason>
+// The first shared use of a subtree.
+fn first_of(s: &Subtree) -> Option<SharedUse>
     requires { IsSubtree s.now }
-    ensures first { IfSome result (λ r. IsFirstReason (job s.now) (nodes s.now) (node s.now) r.tag r.cell) }
-    ensures none { IfNone result (MayBeApart (job s.now) (nodes s.now) (node s.now)) }
+    ensures first { IfSome result (λ u. IsFirstUse (job s.now) (nodes s.now) (node s.now) u.tag u.cell) }
+    ensures none { IfNone result (SharesNone (job s.now) (nodes s.now) (node s.now)) }
 {
     let mut best = None;
     for i in 0..itag_count(s.program) {
@@ -42,11 +70,16 @@ fn first_of(s: &Subtree) -> Option<Reason>
     best
 }
 
-// Each of the functions below returns the first of the reason so far and the reasons on the cells that its last argument names, for a
+// Each of the functions below returns the first of the shared use so far and the shared uses of the cells that its last argument names, for a
 // tag with the key. A reference by the event's item names the first cell of its family, that of item 0: it means them all, and the
 // first stands for those that nothing else names.
 
-fn among_actions(s: &Subtree, best: Option<Reason>, key: u32, actions: &[Action]) -> Option<Reason>
+fn among_actions(
+    s: &Subtree,
+    best: Option<SharedUse>,
+    key: u32,
+    actions: &[Action],
+) -> Option<SharedUse>
     requires { IsSubtree s.now }
     ensures { result ≡ search.best_among (job s.now) (nodes s.now) (node s.now) best (actions_cells key actions.now) }
 {
@@ -58,7 +91,12 @@ fn among_actions(s: &Subtree, best: Option<Reason>, key: u32, actions: &[Action]
 }
 
 #[tactic(auto, using(crate::proofs::BestLemmas::appended))]
-fn among_action(s: &Subtree, best: Option<Reason>, key: u32, action: &Action) -> Option<Reason>
+fn among_action(
+    s: &Subtree,
+    best: Option<SharedUse>,
+    key: u32,
+    action: &Action,
+) -> Option<SharedUse>
     requires { IsSubtree s.now }
     ensures { result ≡ search.best_among (job s.now) (nodes s.now) (node s.now) best (action_cells key action.now) }
 {
@@ -66,7 +104,12 @@ fn among_action(s: &Subtree, best: Option<Reason>, key: u32, action: &Action) ->
     among_act(s, best, key, &action.act)
 }
 
-fn among_guard(s: &Subtree, best: Option<Reason>, key: u32, guard: &Option<Expr>) -> Option<Reason>
+fn among_guard(
+    s: &Subtree,
+    best: Option<SharedUse>,
+    key: u32,
+    guard: &Option<Expr>,
+) -> Option<SharedUse>
     requires { IsSubtree s.now }
     ensures { result ≡ search.best_among (job s.now) (nodes s.now) (node s.now) best (guard_cells key guard.now) }
 {
@@ -76,7 +119,7 @@ fn among_guard(s: &Subtree, best: Option<Reason>, key: u32, guard: &Option<Expr>
     }
 }
 
-fn among_act(s: &Subtree, best: Option<Reason>, key: u32, act: &Act) -> Option<Reason>
+fn among_act(s: &Subtree, best: Option<SharedUse>, key: u32, act: &Act) -> Option<SharedUse>
     requires { IsSubtree s.now }
     ensures { result ≡ search.best_among (job s.now) (nodes s.now) (node s.now) best (act_cells key act.now) }
 {
@@ -95,7 +138,12 @@ fn among_act(s: &Subtree, best: Option<Reason>, key: u32, act: &Act) -> Option<R
     }
 }
 
-fn among_pieces(s: &Subtree, best: Option<Reason>, key: u32, pieces: &[Piece]) -> Option<Reason>
+fn among_pieces(
+    s: &Subtree,
+    best: Option<SharedUse>,
+    key: u32,
+    pieces: &[Piece],
+) -> Option<SharedUse>
     requires { IsSubtree s.now }
     ensures { result ≡ search.best_among (job s.now) (nodes s.now) (node s.now) best (pieces_cells key pieces.now) }
 {
@@ -106,7 +154,7 @@ fn among_pieces(s: &Subtree, best: Option<Reason>, key: u32, pieces: &[Piece]) -
     best
 }
 
-fn among_piece(s: &Subtree, best: Option<Reason>, key: u32, piece: &Piece) -> Option<Reason>
+fn among_piece(s: &Subtree, best: Option<SharedUse>, key: u32, piece: &Piece) -> Option<SharedUse>
     requires { IsSubtree s.now }
     ensures { result ≡ search.best_among (job s.now) (nodes s.now) (node s.now) best (piece_cells key piece.now) }
 {
@@ -123,7 +171,7 @@ fn among_piece(s: &Subtree, best: Option<Reason>, key: u32, piece: &Piece) -> Op
 }
 
 #[tactic(auto, using(crate::proofs::BestLemmas::appended))]
-fn among_expr(s: &Subtree, best: Option<Reason>, key: u32, e: &Expr) -> Option<Reason>
+fn among_expr(s: &Subtree, best: Option<SharedUse>, key: u32, e: &Expr) -> Option<SharedUse>
     requires { IsSubtree s.now }
     ensures { result ≡ search.best_among (job s.now) (nodes s.now) (node s.now) best (expr_cells key e.now) }
 {
@@ -145,8 +193,8 @@ fn first_cell(family: u32) -> Cell
     Cell { family, key: 0 }
 }
 
-// The first of the reason so far and the reasons on a cell.
-fn best_at(s: &Subtree, best: Option<Reason>, c: Cell) -> Option<Reason>
+// The first of the shared use so far and the shared uses of a cell.
+fn best_at(s: &Subtree, best: Option<SharedUse>, c: Cell) -> Option<SharedUse>
     requires { IsSubtree s.now }
     ensures { result ≡ search.best_at (job s.now) (nodes s.now) (node s.now) best c }
 {
@@ -163,8 +211,8 @@ fn is_shared(class: Class) -> bool
     matches!(class, Class::Shared)
 }
 
-// The first of the reason so far and each tag of the subtree that uses the cell, with it.
-fn best_of_itags(s: &Subtree, best: Option<Reason>, c: Cell) -> Option<Reason>
+// The first of the shared use so far and each tag of the subtree that uses the cell, with it.
+fn best_of_itags(s: &Subtree, best: Option<SharedUse>, c: Cell) -> Option<SharedUse>
     requires { IsSubtree s.now }
     ensures { result ≡ search.best_upto (job s.now) (nodes s.now) (node s.now) c best (count_of_itags (job s.now)) }
 {
@@ -175,31 +223,31 @@ fn best_of_itags(s: &Subtree, best: Option<Reason>, c: Cell) -> Option<Reason>
     best
 }
 
-// The reason so far, or an itag's tag with the cell if it is of the subtree, uses the cell, and is before that.
-fn better(s: &Subtree, best: Option<Reason>, i: u32, c: Cell) -> Option<Reason>
+// The shared use so far, or an itag's tag with the cell if it is of the subtree, uses the cell, and is before that.
+fn better(s: &Subtree, best: Option<SharedUse>, i: u32, c: Cell) -> Option<SharedUse>
     requires subtree { IsSubtree s.now }
     requires in_range { i < count_of_itags (job s.now) }
     ensures { result ≡ search.better (job s.now) (nodes s.now) (node s.now) c best i }
 {
-    let reason = Reason {
+    let shared = SharedUse {
         tag: s.tag(i),
         cell: c,
     };
-    if s.has_user(i, c) && is_before_best(reason, best) {
-        Some(reason)
+    if s.has_user(i, c) && is_before_best(shared, best) {
+        Some(shared)
     } else {
         best
     }
 }
 
-fn is_before_best(reason: Reason, best: Option<Reason>) -> bool
-    ensures { result ≡ search.is_before_best reason best }
+fn is_before_best(shared: SharedUse, best: Option<SharedUse>) -> bool
+    ensures { result ≡ search.is_before_best shared best }
 {
     match best {
-        Some(best) => reason
+        Some(best) => shared
             .tag
             .cmp(&best.tag)
-            .then(reason.cell.cmp(&best.cell))
+            .then(shared.cell.cmp(&best.cell))
             .is_lt(),
         None => true,
     }

@@ -1,5 +1,5 @@
 -- Partials, and the sources beside them.
-use Rattle.std.proofs.Common.{◌≡◌, inr, ℕ, zero, suc, ◌<◌, Bool, true, false, Option, Some, None, List, [], ◌∷◌, length, refl, sym, ap, subst, ◌∙◌, cond}
+use Rattle.std.proofs.Common.{◌≡◌, ◌≢◌, inr, ℕ, zero, suc, ◌<◌, Bool, true, false, Option, Some, None, List, [], ◌∷◌, length, refl, sym, ap, subst, ◌∙◌, cond}
 use Rattle.std.proofs.Common.{arith, get_or}
 use Rattle.std.specs.Prelude.{◌||◌, IsSome, Contains, not, option_map}
 use Rattle.std.specs.List.{list_any}
@@ -62,11 +62,12 @@ left_at_end p is_read mid then name out leaves ends = by_test (is_among (closed_
 
 -- ---- what is combined
 combined_join : (p : Program) (nodes : List Node) (names : List (List ℕ)) (ws : List ℕ) (queues : List (List Contribution)) (text : List ℕ)
-    (was mid then : Contents) → AreNodesApart p nodes ws → AreRead p nodes names ws queues was mid → IsRest p nodes ws queues text mid then
+    (was mid then : Contents) → names ≢ [] → AreNodesApart p nodes ws → AreRead p nodes names ws queues was mid → IsRest p nodes ws queues text mid then
     → LeavesSources p (reads_rest p nodes ws) mid then → IsCombined p nodes names text was then
-combined_join p nodes names ws queues text was mid then apart these rest leaves =
+combined_join p nodes names ws queues text was mid then some apart these rest leaves =
     let moved : IsRest p nodes ws queues text (read_out names was) then = subst (λ (m : Contents). IsRest p nodes ws queues text m then) these.end rest in
     record {
+      some = some;
       ws = ws;
       queues = queues;
       accepted = record { partials = these.partials; apart = apart };
@@ -79,12 +80,13 @@ combined_join p nodes names ws queues text was mid then apart these rest leaves 
     }
 
 pub combined_told : (p : Program) (nodes : List Node) (names : List (List ℕ)) (ws : List ℕ) (queues : List (List Contribution)) (text : List ℕ)
-    (a b c : Option Contents) → AreNodesApart p nodes ws → WhereTold a b (AreRead p nodes names ws queues) → WhereTold b c (IsRest p nodes ws queues text)
+    (a b c : Option Contents) → names ≢ [] → AreNodesApart p nodes ws → WhereTold a b (AreRead p nodes names ws queues)
+    → WhereTold b c (IsRest p nodes ws queues text)
     → WhereTold b c (LeavesSources p (reads_rest p nodes ws)) → WhereTold a c (IsCombined p nodes names text)
-combined_told p nodes names ws queues text a b c apart these rest leaves =
+combined_told p nodes names ws queues text a b c some apart these rest leaves =
     told_then (AreRead p nodes names ws queues) (λ mid then. IsRest p nodes ws queues text mid then × LeavesSources p (reads_rest p nodes ws) mid then)
     (IsCombined p nodes names text) a b c
-    (λ was mid then h k. combined_join p nodes names ws queues text was mid then apart h k.0 k.1) these
+    (λ was mid then h k. combined_join p nodes names ws queues text was mid then some apart h k.0 k.1) these
     (told_both (IsRest p nodes ws queues text) (LeavesSources p (reads_rest p nodes ws)) b c rest leaves)
 
 -- ---- what is left alone

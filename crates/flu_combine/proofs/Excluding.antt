@@ -10,6 +10,7 @@ use Rattle.flu_lemmas.proofs.Places.{position_below, position_passes}
 use Rattle.flu_model.specs.declared.jobs.Program.{Program}
 use Rattle.flu_model.specs.declared.plans.Node.{Node}
 use Rattle.flu_outside.specs.Outside.{Contents}
+use Rattle.flu_apart.specs.Laws.{ReasonsAreOne}
 use Rattle.flu_contribution.specs.Contributions.{Contribution}
 use Rattle.flu_handover.specs.Laws.{LinesDetermine}
 use Rattle.flu_selected.specs.Laws.{first_read_fault}
@@ -57,12 +58,13 @@ no_source_is_faulty one_text determine p nodes names text left now fault combine
     good_or_faulty one_text determine p nodes names left combined.ws faulty.ws combined.queues faulty.queues fault combined.accepted faulty.accepted
     combined.good faulty.first
 
-module _ (one_fault : BytesHaveOneFault) (not_whole : FaultyBytesAreNotWhole) (one_text : PartialsHaveOneText) (determine : LinesDetermine) where
+module _ (reasons : ReasonsAreOne) (one_fault : BytesHaveOneFault) (not_whole : FaultyBytesAreNotWhole) (one_text : PartialsHaveOneText)
+    (determine : LinesDetermine) where
   -- partials that are all accepted have no first defect
   not_first : (p : Program) (nodes : List Node) (names : List (List ℕ)) (left : Contents) (place : ℕ) (d : PartialDefect) (ws : List ℕ)
       (queues : List (List Contribution)) → AreAccepted p nodes left names ws queues → IsFirstDefect p nodes names left place d → ⊥
   not_first p nodes names left place d ws queues accepted first =
-      not_accepted one_fault not_whole one_text determine p nodes names left place (length names) d ws queues first.there (omega arith) first
+      not_accepted reasons one_fault not_whole one_text determine p nodes names left place (length names) d ws queues first.there (omega arith) first
       (subst (λ (ns : List (List ℕ)). AreAccepted p nodes left ns ws queues) (sym (take-length names)) accepted)
 
   pub sources_or_partials : SourcesOrPartialsAreFaulty

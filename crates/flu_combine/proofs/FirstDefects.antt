@@ -21,6 +21,7 @@ use Rattle.flu_outside.specs.Outside.{Contents}
 use Rattle.flu_outside.specs.Taking.{bytes_left}
 use Rattle.flu_apart.specs.declared.reason.Reason.{Reason}
 use Rattle.flu_apart.specs.Apart.{IsFirstReason}
+use Rattle.flu_apart.specs.Laws.{ReasonsAreOne}
 use Rattle.flu_contribution.specs.Contributions.{Contribution}
 use Rattle.flu_contribution.specs.Laws.{IsApart, NoneIsWithin}
 use Rattle.flu_contribution.specs.Sending.{is_due, without_due}
@@ -50,7 +51,6 @@ use Rattle.flu_combine.specs.Partials.{most_bytes, node_named, AreNested, ArePar
 use Rattle.flu_combine.specs.Partials.{IsDefectOfHead, IsDefect}
 use Rattle.flu_combine.proofs.Judging.{related_there}
 use Rattle.flu_combine.proofs.Lawful.{one_alike, all_alike}
-use Rattle.flu_combine.proofs.Reasons.{one_reason, no_reason}
 
 -- ---- defects, by what they are found by
 
@@ -59,7 +59,7 @@ abbrev beside : List Node → ℕ → ℕ → PartialDefect
 beside nodes other w = cond (other == w) (Twice w) (cond (is_within nodes other w) (Within w other) (Within other w))
 
 data NodeFound (p : Program) (nodes : List Node) (ws : List ℕ) (w : ℕ) (d : PartialDefect) : Type 0 where
-  for_reason : (r : Reason) → IsFirstReason p nodes w r.tag r.cell → d ≡ NotApart w r → NodeFound p nodes ws w d
+  for_reason : (r : Reason) → IsFirstReason p nodes w r → d ≡ NotApart w r → NodeFound p nodes ws w d
   for_related : (place : ℕ) → IsFirstRelated p nodes ws w place → d ≡ beside nodes (get_or ws place 0) w → NodeFound p nodes ws w d
 
 data HeadFound (p : Program) (nodes : List Node) (ws : List ℕ) (h : PartialHead) (d : PartialDefect) : Type 0 where
@@ -128,12 +128,13 @@ module _ (p : Program) (nodes : List Node) (ws : List ℕ) where
   found bytes (Within u v) is = for_head is.0 is.1.0 is.1.1 (head_found is.1.0.head (Within u v) is.1.2)
   found bytes LeftOver is = for_head is.0 is.1.0 is.1.1 (head_found is.1.0.head LeftOver is.1.2)
 
+module _ (reasons : ReasonsAreOne) (p : Program) (nodes : List Node) (ws : List ℕ) where
   -- ---- of the same bytes, beside the same nodes, there is one
   one_of_node : (w : ℕ) (d e : PartialDefect) → NodeFound p nodes ws w d → NodeFound p nodes ws w e → d ≡ e
   one_of_node w d e (for_reason r first is) (for_reason s other too) =
-      is ∙ ap (λ (x : Reason). let c : PartialDefect = NotApart w x in c) (one_reason p nodes w r s first other) ∙ sym too
-  one_of_node w d e (for_reason r first is) (for_related place related too) = absurd (no_reason p nodes w r related.may first)
-  one_of_node w d e (for_related place related is) (for_reason s other too) = absurd (no_reason p nodes w s related.may other)
+      is ∙ ap (λ (x : Reason). let c : PartialDefect = NotApart w x in c) ((reasons p nodes w).one r s first other) ∙ sym too
+  one_of_node w d e (for_reason r first is) (for_related place related too) = absurd ((reasons p nodes w).none r related.may first)
+  one_of_node w d e (for_related place related is) (for_reason s other too) = absurd ((reasons p nodes w).none s related.may other)
   one_of_node w d e (for_related place related is) (for_related there other too) =
       let somes : Some place ≡ Some there = sym related.first ∙ other.first in
       let same : place ≡ there = cc in
@@ -173,7 +174,8 @@ said_sendable p [] ks pairs = tt
 said_sendable p (c ∷ cs) [] pairs = absurd pairs
 said_sendable p (c ∷ cs) (k ∷ ks) pairs = ((k, pairs.0), said_sendable p cs ks pairs.1)
 
-module _ (one_fault : BytesHaveOneFault) (not_whole : FaultyBytesAreNotWhole) (one_text : PartialsHaveOneText) (p : Program) (nodes : List Node) where
+module _ (reasons : ReasonsAreOne) (one_fault : BytesHaveOneFault) (not_whole : FaultyBytesAreNotWhole) (one_text : PartialsHaveOneText)
+    (p : Program) (nodes : List Node) where
   not_read : (bytes : List ℕ) (f : PartialFault) (r : Received) → IsFirstFault p bytes f → IsRead p bytes r → ⊥
   not_read bytes f r fault read = not_whole p bytes f r.head read.0 fault read.1 (sendable p read.0 r.sent.items read.2.sent)
 
@@ -189,7 +191,7 @@ module _ (one_fault : BytesHaveOneFault) (not_whole : FaultyBytesAreNotWhole) (o
   one_defect ws bytes d e (for_head few r read is) (for_text again f fault too) = absurd (not_read bytes f r fault read)
   one_defect ws bytes d e (for_head few r read is) (for_head again s other too) =
       let same = one_text bytes r.head s.head read.0 other.0 read.1 other.1 in
-      one_of_head p nodes ws s.head d e (subst (λ (h : PartialHead). HeadFound p nodes ws h d) same.0 is) too
+      one_of_head reasons p nodes ws s.head d e (subst (λ (h : PartialHead). HeadFound p nodes ws h d) same.0 is) too
 
   -- ---- what is accepted has none
   apart_at : (ws : List ℕ) (w place d : ℕ) → AllByRecursion (λ u. AreApart nodes u w) ws → place < length ws → AreApart nodes (get_or ws place d) w
@@ -201,7 +203,7 @@ module _ (one_fault : BytesHaveOneFault) (not_whole : FaultyBytesAreNotWhole) (o
   not_related u w apart related = false≢true (sym (ap (λ (b : Bool). b || is_within nodes w u) apart.0 ∙ apart.1) ∙ related)
 
   accepted_node : (ws : List ℕ) (w : ℕ) (d : PartialDefect) → IsApart p nodes w → AllByRecursion (λ u. AreApart nodes u w) ws → NodeFound p nodes ws w d → ⊥
-  accepted_node ws w d apart all (for_reason r first is) = no_reason p nodes w r apart.may first
+  accepted_node ws w d apart all (for_reason r first is) = (reasons p nodes w).none r apart.may first
   accepted_node ws w d apart all (for_related place related is) =
       not_related (get_or ws place 0) w (apart_at ws w place 0 all (position_below (λ u. are_related nodes u w) ws place related.first))
       (related_there nodes w ws place 0 related.first)
@@ -301,8 +303,8 @@ module _ (one_text : PartialsHaveOneText) (determine : LinesDetermine) (p : Prog
   all_at_front : (P : ℕ → Type 0) (front : List ℕ) (w : ℕ) (behind ws : List ℕ) → ws ≡ front ++ w ∷ behind → AllByRecursion P ws → P w
   all_at_front P front w behind ws split all = (all_back P front (w ∷ behind) (subst (AllByRecursion P) split all)).0
 
-module _ (one_fault : BytesHaveOneFault) (not_whole : FaultyBytesAreNotWhole) (one_text : PartialsHaveOneText) (determine : LinesDetermine)
-    (p : Program) (nodes : List Node) (names : List (List ℕ)) (left : Contents) where
+module _ (reasons : ReasonsAreOne) (one_fault : BytesHaveOneFault) (not_whole : FaultyBytesAreNotWhole) (one_text : PartialsHaveOneText)
+    (determine : LinesDetermine) (p : Program) (nodes : List Node) (names : List (List ℕ)) (left : Contents) where
   -- the first defect of a list is none of an accepted one that has its place
   pub not_accepted : (a b : ℕ) (d : PartialDefect) (ws : List ℕ) (queues : List (List Contribution)) → a < b → b ≤ length names
       → IsFirstDefect p nodes names left a d → AreAccepted p nodes left (take b names) ws queues → ⊥
@@ -321,7 +323,7 @@ module _ (one_fault : BytesHaveOneFault) (not_whole : FaultyBytesAreNotWhole) (o
       let bytes : bytes_behind (take a names) left name ≡ bytes_left left name = ap (λ (b : Bool). unwrap_or (cond b (Some []) (left name)) []) new in
       let has = subst (λ (bs : List ℕ). IsDefect p nodes at.front bs d) bytes
       (subst (λ (vs : List ℕ). IsDefect p nodes vs (bytes_behind (take a names) left name) d) same_nodes first.has) in
-      accepted_bytes one_fault not_whole one_text p nodes at.front (bytes_left left name) at.node at.sent d here apart beside_all
+      accepted_bytes reasons one_fault not_whole one_text p nodes at.front (bytes_left left name) at.node at.sent d here apart beside_all
       (found p nodes at.front (bytes_left left name) d has)
     where
       take_less : (a b : ℕ) (xs : List (List ℕ)) → a < b → take a (take b xs) ≡ take a xs
@@ -336,7 +338,7 @@ module _ (one_fault : BytesHaveOneFault) (not_whole : FaultyBytesAreNotWhole) (o
       let same = (all_alike one_text determine p nodes left (take a names) one.ws other.ws one.queues other.queues one.earlier.partials
       other.earlier.partials).0 in
       let has = subst (λ (ws : List ℕ). IsDefect p nodes ws bytes d) same one.has in
-      one_defect one_fault not_whole one_text p nodes other.ws bytes d e (found p nodes other.ws bytes d has) (found p nodes other.ws bytes e other.has)
+      one_defect reasons one_fault not_whole one_text p nodes other.ws bytes d e (found p nodes other.ws bytes d has) (found p nodes other.ws bytes e other.has)
 
 -- ---- what is left over
 
@@ -384,12 +386,13 @@ first_alike join p queues others ys alike =
     ∙ position-map not is_last_alone (waiting_behind others ys)
 
 -- ---- the whole
-pub first_is_one : BytesHaveOneFault → FaultyBytesAreNotWhole → PartialsHaveOneText → LinesDetermine → AlikeQueuesJoinAlike → FirstDefectIsOne
-first_is_one one_fault not_whole one_text determine join p nodes names left a b d e first second = by first second
+pub first_is_one : ReasonsAreOne → BytesHaveOneFault → FaultyBytesAreNotWhole → PartialsHaveOneText → LinesDetermine → AlikeQueuesJoinAlike → FirstDefectIsOne
+first_is_one reasons one_fault not_whole one_text determine join p nodes names left a b d e first second = by first second
   where
     apart_left : (a : ℕ) (c : PartialDefect) (place : ℕ) → IsFirstDefect p nodes names left a c → IsFirstLeftOver p nodes names left place → ⊥
     apart_left a c place one left_over =
-        not_accepted one_fault not_whole one_text determine p nodes names left a (length names) c left_over.ws left_over.queues one.there (omega arith) one
+        not_accepted reasons one_fault not_whole one_text determine p nodes names left a (length names) c left_over.ws left_over.queues one.there
+        (omega arith) one
         (subst (λ (ns : List (List ℕ)). AreAccepted p nodes left ns left_over.ws left_over.queues) (sym (take-length names)) left_over.accepted)
 
     defects : IsFirstDefect p nodes names left a d → IsFirstDefect p nodes names left b e → (a ≡ b) × (d ≡ e)
@@ -397,15 +400,15 @@ first_is_one one_fault not_whole one_text determine join p nodes names left a b 
       where
         order : (x : Bool) → nat_lt a b ≡ x → (y : Bool) → nat_lt b a ≡ y → (a ≡ b) × (d ≡ e)
         order true lt y gt =
-            absurd (not_accepted one_fault not_whole one_text determine p nodes names left a b d other.ws other.queues (true_lt a b lt)
+            absurd (not_accepted reasons one_fault not_whole one_text determine p nodes names left a b d other.ws other.queues (true_lt a b lt)
             (omega (arith, other.there)) one other.earlier)
         order false lt true gt =
-            absurd (not_accepted one_fault not_whole one_text determine p nodes names left b a e one.ws one.queues (true_lt b a gt)
+            absurd (not_accepted reasons one_fault not_whole one_text determine p nodes names left b a e one.ws one.queues (true_lt b a gt)
             (omega (arith, one.there)) other one.earlier)
         order false lt false gt =
             let same : a ≡ b = grind (arith, nat_tests) in (
               same,
-              same_place one_fault not_whole one_text determine p nodes names left b d e
+              same_place reasons one_fault not_whole one_text determine p nodes names left b d e
                   (subst (λ (i : ℕ). IsFirstDefect p nodes names left i d) same one) other,
             )
 

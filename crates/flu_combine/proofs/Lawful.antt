@@ -1,12 +1,14 @@
 -- What is combined of the partials of all nodes apart is the report of all sources.
-use Rattle.std.proofs.Common.{◌≡◌, ℕ, Some, List, [], ◌∷◌, refl, sym, ap, subst, ◌∙◌}
+use Rattle.std.proofs.Common.{◌≡◌, ℕ, false, Some, List, [], ◌∷◌, refl, sym, ap, subst, ◌∙◌}
 use Rattle.std.specs.Prelude.{map}
+use Rattle.std.specs.List.{list_any}
 use Rattle.flu_lemmas.specs.Items.{Pairs}
 use Rattle.flu_model.specs.declared.events.Item.{Item}
 use Rattle.flu_model.specs.declared.jobs.Program.{Program}
 use Rattle.flu_model.specs.declared.plans.Node.{Node}
 use Rattle.flu_model.specs.Contents.{nothing_held}
 use Rattle.flu_model.specs.Reports.{report}
+use Rattle.flu_model.specs.Rules.{is_clock}
 use Rattle.flu_outside.specs.Outside.{Contents}
 use Rattle.flu_outside.specs.Taking.{bytes_left}
 use Rattle.flu_contribution.specs.Combining.{Combined}
@@ -27,6 +29,7 @@ use Rattle.flu_joining.specs.Laws.{AreAllAlike, AreQueuesAlike, EmptyOpeningsSta
 use Rattle.flu_combine.specs.Laws.{sent_of_each, PartialsAreCombined}
 use Rattle.flu_combine.specs.Names.{read_out}
 use Rattle.flu_combine.specs.Partials.{node_named, IsPartialOf, ArePartials}
+use Rattle.flu_combine.proofs.NoClocks.{no_clock_under}
 
 -- what has the same lines is alike
 pairs_alike : LinesDetermine → (p : Program) (cs : List partial.Contribution) (js ks : List Contribution) → Pairs (IsLineOf p) cs js → Pairs (IsLineOf p) cs ks
@@ -70,21 +73,25 @@ all_alike one_text determine p nodes left (name ∷ names) (v ∷ vs) (w ∷ ws)
     (push_same v w vs ws here.0 more.0, (here.1, more.1))
 
 -- each node has read its part
-parts_are : ANodeReadsItsPart → (p : Program) (nodes : List Node) (left : Contents) (ws : List ℕ) → EachReadsGood p nodes left ws
+parts_are : ANodeReadsItsPart → (p : Program) (nodes : List Node) (left : Contents) (ws : List ℕ) → list_any is_clock p.sources ≡ false
+    → EachReadsGood p nodes left ws
     → ArePartsFor p nodes (lists_of p left) ws (map (part_read p nodes left) ws)
-parts_are reads_part p nodes left [] good = tt
-parts_are reads_part p nodes left (w ∷ ws) good = (reads_part p nodes w left good.0, parts_are reads_part p nodes left ws good.1)
+parts_are reads_part p nodes left [] no_clock good = tt
+parts_are reads_part p nodes left (w ∷ ws) no_clock good =
+    (reads_part p nodes w left no_clock good.0, parts_are reads_part p nodes left ws no_clock good.1)
 
 pub partials_combined : PartialsHaveOneText → LinesDetermine → LawOfLength → FilesThatAreReadMatter → GoodPartsGiveStreams → ANodeReadsItsPart → TheRestIsRead
     → EmptyOpeningsStartEmpty → WhatWasSentGivesTheReport → PartialsAreCombined
 partials_combined one_text determine size files streams reads_part reads_others start gives p nodes ws names text left old new setting apart each good partials
     same_files combined =
+    let no_clock = no_clock_under p nodes old names ws (sent_of_each p nodes left ws) combined.some partials apart in
     let alike = all_alike one_text determine p nodes old names combined.ws ws combined.queues (sent_of_each p nodes left ws)
     combined.accepted.partials partials in
     let rest : rest_read p nodes ws (read_out names old) ≡ rest_read p nodes ws left =
-    (files p (reads_rest p nodes ws) (read_out names old) left same_files).0 in
+    (files p (reads_rest p nodes ws) (read_out names old) left no_clock same_files).0 in
     let whole = gives p nodes ws nothing_held (lists_of p left) (map (part_read p nodes left) ws) (rest_read p nodes ws left) combined.queues setting apart
-    (size p left) (streams p nodes ws left each good) (parts_are reads_part p nodes left ws each) (reads_others p nodes ws left good) alike.1 in
+    (size p left) (streams p nodes ws left no_clock each good) (parts_are reads_part p nodes left ws no_clock each)
+    (reads_others p nodes ws left no_clock good) alike.1 in
     combined.is
     ∙ ap (λ (vs : List ℕ). report p (joined_from p nothing_joined combined.queues (events_of_none p nodes vs
     (rest_read p nodes vs (read_out names old)))).outputs)

@@ -1,3 +1,4 @@
+pub mod NoClocks
 mod Judging
 mod Readings
 mod Combinings
@@ -6,6 +7,5 @@ mod Ascii
 mod Templates
 mod PlanText
 mod Whole
-mod Reasons
 mod FirstDefects
 mod Excluding

@@ -1,5 +1,5 @@
 -- WHAT IS WRITTEN of the partials of nodes apart and of the sources that have events inside none of them.
-use Rattle.std.specs.Prelude.{◌≡◌, ℕ, true, Some, None, List, [], Contains}
+use Rattle.std.specs.Prelude.{◌≡◌, ◌≢◌, ℕ, true, Some, None, List, [], Contains}
 use Rattle.flu_model.specs.declared.events.Event.{Event}
 use Rattle.flu_model.specs.declared.jobs.Program.{Program}
 use Rattle.flu_model.specs.declared.plans.Node.{Node}
@@ -29,9 +29,10 @@ events_of_rest p nodes names ws left = events_of_none p nodes ws (rest_read p no
 abbrev pub combined_text : Program → List Node → List (List ℕ) → List ℕ → List (List Contribution) → Contents → List ℕ
 combined_text p nodes names ws queues left = report p (joined_from p nothing_joined queues (events_of_rest p nodes names ws left)).outputs
 
--- THIS IS WHAT IS COMBINED: of partials of some nodes, each under its name, and of sources without a defect, with all that was sent joined; and these
--- names and the files of the sources that are read were read to their end, and no others were read
+-- THIS IS WHAT IS COMBINED: of partials of some nodes, one at least, each under its name, and of sources without a defect, with all that was sent
+-- joined; and these names and the files of the sources that are read were read to their end, and no others were read
 pub record IsCombined (p : Program) (nodes : List Node) (names : List (List ℕ)) (text : List ℕ) (old new : Contents) : Type 0 where
+  pub some : names ≢ []
   pub ws : List ℕ
   pub queues : List (List Contribution)
   pub accepted : AreAccepted p nodes old names ws queues

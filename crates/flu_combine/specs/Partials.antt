@@ -79,7 +79,7 @@ AreNested nodes other w u v =
 
 -- WHAT IS WRONG WITH A NODE, beside these: the first reason that applies
 abbrev pub IsDefectOfNode : Program → List Node → List ℕ → ℕ → PartialDefect → Type 0
-IsDefectOfNode p nodes ws w (NotApart u reason) = (u ≡ w) × IsFirstReason p nodes w reason.tag reason.cell
+IsDefectOfNode p nodes ws w (NotApart u reason) = (u ≡ w) × IsFirstReason p nodes w reason
 IsDefectOfNode p nodes ws w (Twice u) = (u ≡ w) × ((place : ℕ) × IsFirstRelated p nodes ws w place × (slice_index_or ws place 0 ≡ w))
 IsDefectOfNode p nodes ws w (Within u v) =
     (place : ℕ) × IsFirstRelated p nodes ws w place × (slice_index_or ws place 0 ≢ w) × AreNested nodes (slice_index_or ws place 0) w u v

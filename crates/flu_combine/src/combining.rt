@@ -1,8 +1,10 @@
 //! The report of partials and sources.
 
-ghost use Rattle.std.specs.Prelude.{◌≡◌, ◌≢◌, ℕ, List, Err, IfOk, IfErr, OnOk, IsErrOf, length};
+ghost use Rattle.std.specs.Prelude.{◌≡◌, ◌≢◌, ℕ, false, List, [], Err, IfOk, IfErr, OnOk, IsErrOf, length};
+ghost use Rattle.std.specs.List.{list_any};
 ghost use Rattle.flu_model.specs.Itags.{count_of_itags};
 ghost use Rattle.flu_model.specs.Listed.{listed};
+ghost use Rattle.flu_model.specs.Rules.{is_clock};
 ghost use Rattle.flu_outside.specs.Outside.{Rose, WhereTold, SameCounts};
 ghost use Rattle.flu_outside.specs.Taking.{TookFronts};
 ghost use Rattle.flu_outside.specs.Writing.{AppendsAll, AppendsPart};
@@ -55,7 +57,8 @@ fn joined_text(
     }
 }
 
-// Reads the sources that have events inside none of some nodes, and gives the report of what these sent and of those events.
+// Reads the sources that have events inside none of some nodes, and gives the report of what these sent and of those events. No source is a
+// clock: else no node could be apart.
 fn rest_text<F: Files>(
     alloc: Global,
     files: &mut F,
@@ -65,6 +68,7 @@ fn rest_text<F: Files>(
     queues: Vec<Queue>,
 ) -> Result<Text, CombineFault>
     requires valid { IsValidFor (program_of c.now) v.now }
+    requires no_clocks { list_any is_clock (program_of c.now).sources ≡ false }
     ensures rest { IfOk result (λ text. WhereTold (F.left files.old) (F.left files.new)
         (IsRest (program_of c.now) (plan_of v.now).nodes nodes.now (waiting_in_each queues.items) text)) }
     ensures fault { IfErr result (IsRestFault (program_of c.now) (plan_of v.now).nodes nodes.now (waiting_in_each queues.items)
@@ -85,7 +89,7 @@ fn rest_text<F: Files>(
     }
 }
 
-// Reads partials, then the sources that have events inside none of their nodes, and gives the report.
+// Reads partials, one at least, then the sources that have events inside none of their nodes, and gives the report.
 fn combined_text<F: Files>(
     alloc: Global,
     files: &mut F,
@@ -94,6 +98,7 @@ fn combined_text<F: Files>(
     names: &[Text],
 ) -> Result<Text, CombineFault>
     requires valid { IsValidFor (program_of c.now) v.now }
+    requires some { names.now ≢ [] }
     ensures combined { IfOk result (λ text. WhereTold (F.left files.old) (F.left files.new)
         (IsCombined (program_of c.now) (plan_of v.now).nodes names.now text)) }
     ensures cause { IfErr result (IsCause (program_of c.now) (plan_of v.now).nodes names.now (F.left files.old) (F.left files.new)
@@ -112,9 +117,9 @@ fn combined_text<F: Files>(
     }
 }
 
-/// Reads the partials under some names, each of a node of its own, then the sources that have events inside none of these nodes, and no others,
-/// and writes the report: that of what the nodes sent, joined to the fold of the events of these sources from the empty state. `laws` says when
-/// that is the report of all sources.
+/// Reads the partials under some names, one at least, each of a node of its own, then the sources that have events inside none of these nodes, and no
+/// others, and writes the report: that of what the nodes sent, joined to the fold of the events of these sources from the empty state. `laws` says
+/// when that is the report of all sources.
 ///
 /// The partials are read and judged one after another, each wholly before the next. What was read is not there any more: a name that comes
 /// twice, or that is the file of a source too, has nothing left the second time.
@@ -133,6 +138,7 @@ pub fn combine<F: Files, K: Sink>(
     names: &[Text],
 ) -> Result<(), CombineFault>
     requires valid { IsValidFor (program_of c.now) v.now }
+    requires some { names.now ≢ [] }
     ensures written { OnOk result ((text : List ℕ)
         × WhereTold (F.left files.old) (F.left files.new) (IsCombined (program_of c.now) (plan_of v.now).nodes names.now text)
         × WhereTold (K.taken out.old) (K.taken out.new) (AppendsAll text)) }

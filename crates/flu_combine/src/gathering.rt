@@ -1,8 +1,10 @@
 //! Reading the sources that have events inside none of some nodes.
 
-ghost use Rattle.std.specs.Prelude.{◌≡◌, ◌≢◌, Err, IfOk, IfErr, OnOk, IsErrOf, length};
+ghost use Rattle.std.specs.Prelude.{◌≡◌, ◌≢◌, false, Err, IfOk, IfErr, OnOk, IsErrOf, length};
+ghost use Rattle.std.specs.List.{list_any};
 ghost use Rattle.flu_model.specs.Itags.{count_of_itags};
 ghost use Rattle.flu_model.specs.Listed.{listed};
+ghost use Rattle.flu_model.specs.Rules.{is_clock};
 ghost use Rattle.flu_outside.specs.Outside.{WhereTold, SameCounts};
 ghost use Rattle.flu_outside.specs.Taking.{TookFronts};
 ghost use Rattle.flu_deps.specs.Checking.{program_of};
@@ -19,7 +21,7 @@ use flu_selected::gather_selected;
 use flu_streams::GatherFault;
 use std::alloc::Global;
 
-/// Reads each source that has events inside none of some nodes to its end, and no other.
+/// Reads each source that has events inside none of some nodes to its end, and no other. No source is a clock: else no node could be apart.
 pub(crate) fn gather_rest<F: Files>(
     alloc: Global,
     files: &mut F,
@@ -27,7 +29,8 @@ pub(crate) fn gather_rest<F: Files>(
     v: &Valid,
     nodes: &[u32],
 ) -> Result<Streams, GatherFault>
-    requires { IsValidFor (program_of c.now) v.now }
+    requires valid { IsValidFor (program_of c.now) v.now }
+    requires no_clocks { list_any is_clock (program_of c.now).sources ≡ false }
     ensures good { OnOk result (ReadAreGood (program_of c.now) (reads_rest (program_of c.now) (plan_of v.now).nodes nodes.now)
         (F.left files.old) (F.left files.new)) }
     ensures lists { IfOk result (AreReadLists (program_of c.now) (reads_rest (program_of c.now) (plan_of v.now).nodes nodes.now)

@@ -22,6 +22,7 @@ pub fn texts_are_whole_partials()
 pub fn first_defect_is_one()
     ensures { FirstDefectIsOne }
 {
+    flu_apart::laws::reasons_are_one();
     flu_receiving::laws::bytes_have_one_fault();
     flu_receiving::laws::faulty_bytes_are_not_whole();
     flu_receiving::laws::partials_have_one_text();
@@ -36,6 +37,7 @@ pub fn one_of_three_happens()
     ensures sources { NoSourceIsFaulty }
     ensures apart { SourcesOrPartialsAreFaulty }
 {
+    flu_apart::laws::reasons_are_one();
     flu_receiving::laws::bytes_have_one_fault();
     flu_receiving::laws::faulty_bytes_are_not_whole();
     flu_receiving::laws::partials_have_one_text();

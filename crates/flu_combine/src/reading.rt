@@ -103,6 +103,7 @@ pub(crate) fn read_partials<F: Files>(
     ensures read { IfOk result (λ ps. WhereTold (F.left files.old) (F.left files.new)
         (AreRead (program_of c.now) (plan_of v.now).nodes names.now ps.nodes.items (waiting_in_each ps.queues.items))) }
     ensures apart { IfOk result (λ ps. AreNodesApart (program_of c.now) (plan_of v.now).nodes ps.nodes.items) }
+    ensures as_many_nodes { IfOk result (λ ps. length ps.nodes.items ≡ length names.now) }
     ensures as_many { IfOk result (λ ps. length (waiting_in_each ps.queues.items) ≡ length names.now) }
     ensures cause { IfErr result (IsCause (program_of c.now) (plan_of v.now).nodes names.now (F.left files.old) (F.left files.new)
         (F.faults files.old) (F.faults files.new)) }

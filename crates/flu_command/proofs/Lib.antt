@@ -9,6 +9,7 @@ pub mod Starts
 pub mod OneRuns
 pub mod Callings
 pub mod Widths
+pub mod TickRanges
 pub mod RowRanges
 pub mod Rests
 pub mod ResumedRuns

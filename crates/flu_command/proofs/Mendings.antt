@@ -1,5 +1,5 @@
 -- The rounds of a run before it meets a defect are those of the mended sources.
-use Rattle.std.proofs.Common.{◌≡◌, ap, ◌∙◌, ℕ, List, Option}
+use Rattle.std.proofs.Common.{ap, ◌∙◌, ℕ, List, Option}
 use Rattle.flu_lemmas.specs.Elements.{AtEach}
 use Rattle.flu_model.specs.declared.events.Item.{Item}
 use Rattle.flu_model.specs.declared.jobs.Kind.{Kind}
@@ -11,7 +11,8 @@ use Rattle.flu_model.specs.Contents.{Contents as State}
 use Rattle.flu_rows.specs.declared.rows.Next.{Next}
 use Rattle.flu_streams.specs.declared.border.Border.{Border}
 use Rattle.flu_streams.specs.declared.border.Border.TheVariants.{At, Closed}
-use Rattle.flu_streams.specs.Rounds.{Turn, Open, Shut, Meets, StopsAt, Reads, IsWithin, IsRoundAt, IsRound, ComesFrom, Starts, GoesOn, defect_in}
+use Rattle.flu_streams.specs.Rounds.{Turn, Open, Shut, Meets, StopsAt, Reads, IsWithin, IsFull, BySource, ByTick, IsRoundAt, IsRound, ComesFrom, Starts, GoesOn}
+use Rattle.flu_streams.specs.Rounds.{defect_in}
 use Rattle.flu_rounds.specs.Written.{RanFrom, WouldWriteFrom}
 use Rattle.flu_command.specs.Mending.{IsMended, MendedRoundsGoOn}
 
@@ -63,26 +64,28 @@ read_within timing kinds s rows t above whole mended before now (Meets row why) 
 -- ---- rounds
 module _ (p : Program) (rows : ℕ) (whole mended : ℕ → List Next)
     (mends : AtEach (λ i s. IsMended (timing_of p i) p.kinds s (whole i) (mended i)) p.sources) where
+  -- what a round is full by, of its own lines
+  full_at : (above : Option ℕ) (before now : ℕ → List Next) (t : ℕ) → IsFull p rows above whole before now t → IsFull p rows above mended before now t
+  full_at above before now t (BySource i s at reads) =
+      BySource i s at (read_open (timing_of p i) p.kinds s rows above (whole i) (mended i) (before i) (now i) t (mends i s at) reads)
+  full_at above before now t (ByTick i s at last) = ByTick i s at last
+
   round_at : (above : Option ℕ) (before now : ℕ → List Next) (t : ℕ) → IsRoundAt p rows above whole before now t → IsRoundAt p rows above mended before now t
   round_at above before now t was = record {
     each = λ i s e.
         let turn = was.each i s e in
         (turn.0, read_within (timing_of p i) p.kinds s rows t above (whole i) (mended i) (before i) (now i) turn.0 turn.2 (mends i s e) turn.1, turn.2);
-    least =
-        let least = was.least in (
-          least.0,
-          least.1,
-          least.2,
-          read_open (timing_of p least.0) p.kinds least.1 rows above (whole least.0) (mended least.0) (before least.0) (now least.0) t
-              (mends least.0 least.1 least.2) least.3,
-        );
+    few = was.few;
+    full = full_at above before now t was.full;
   }
 
   pub round_of_mended : (above : Option ℕ) (before now : ℕ → List Next) (end : Border) → IsRound p rows above whole before now end
       → IsRound p rows above mended before now end
   round_of_mended above before now (At t) was = round_at above before now t was
-  round_of_mended above before now Closed was =
-      λ i s e. read_shut (timing_of p i) p.kinds s rows above (whole i) (mended i) (before i) (now i) (mends i s e) (was i s e)
+  round_of_mended above before now Closed was = record {
+    each = λ i s e. read_shut (timing_of p i) p.kinds s rows above (whole i) (mended i) (before i) (now i) (mends i s e) (was.each i s e);
+    few = was.few;
+  }
 
   pub rounds_of_mended : (start : Option ℕ) (done : List (List (List Item))) (above : Option ℕ) (before : ℕ → List Next)
       → ComesFrom p rows whole start done above before → ComesFrom p rows mended start done above before

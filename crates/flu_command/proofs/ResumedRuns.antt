@@ -1,8 +1,8 @@
 -- What a checkpoint that a run has put opens is the rest of the run.
 use Rattle.std.proofs.Common.{◌≡◌, refl, sym, ap, ◌∙◌, subst, ℕ, ◌<◌, ◌≤◌, ◌^◌, List, [], ◌∷◌, ◌++◌, Option, Some, None, inl, inr, append-nil, append_assoc}
-use Rattle.std.proofs.Common.{arith, suc, true, false, cond, length}
-use Rattle.std.specs.Prelude.{slice_get, option_map, unwrap_or, Contains, sum_by}
-use Rattle.std.specs.List.{AllByRecursion, flat_map}
+use Rattle.std.proofs.Common.{arith, Bool, true, false, cond}
+use Rattle.std.specs.Prelude.{slice_get, option_map, unwrap_or, Contains, if◌then◌else◌}
+use Rattle.std.specs.List.{AllByRecursion}
 use Rattle.std.specs.Option.{option_map_or}
 use Rattle.std.specs.Str.{bytes_eq}
 use Rattle.std.proofs.lemmas.Slice.Eq.{bytes_eq-Decides}
@@ -16,8 +16,9 @@ use Rattle.flu_model.specs.Contents.{Contents as State, nothing_held}
 use Rattle.flu_model.specs.Erasure.{job_of}
 use Rattle.flu_model.specs.Folding.{final_state, final_outputs, state_after, outputs_of}
 use Rattle.flu_model.specs.Merging.{merged}
-use Rattle.flu_model.specs.Moments.{moments_a_time, timing_of}
+use Rattle.flu_model.specs.Moments.{moments_a_time}
 use Rattle.flu_model.specs.Reports.{report}
+use Rattle.flu_model.specs.Rules.{is_clock}
 use Rattle.flu_grammar.specs.Laws.{NormalFormIsShort, NormalFormIsUtf8}
 use Rattle.flu_outside.specs.Outside.{Contents}
 use Rattle.flu_outside.specs.Taking.{bytes_left}
@@ -26,14 +27,16 @@ use Rattle.flu_rows.specs.Laws.{TimesAreInRange}
 use Rattle.flu_rows.specs.Row.{form_of}
 use Rattle.flu_rows.specs.Reading.{read_file}
 use Rattle.flu_streams.specs.declared.border.Border.TheVariants.{At, Closed}
-use Rattle.flu_streams.specs.Before.{with_before}
+use Rattle.flu_streams.specs.Before.{each_with_before}
 use Rattle.flu_streams.specs.Borders.{FoldsInTurn, ItemsAreCut, beyond}
+use Rattle.flu_streams.specs.Clocks.{Declared, ranks_among, ticks_of}
 use Rattle.flu_streams.specs.Files.{files_of}
 use Rattle.flu_streams.specs.Fronts.{LawOfFronts, LawOfFrontsAbove}
-use Rattle.flu_streams.specs.Good.{lists_of, lists_of_rows, rows_in}
+use Rattle.flu_streams.specs.Good.{lines_in as lines_of_source, lists_of, lists_of_source, rows_in}
 use Rattle.flu_streams.specs.Rounds.{ComesFrom, LawOfLastRound, LawOfLastAbove, LinesIn, lists_between}
-use Rattle.flu_streams.specs.Tags.{width}
 use Rattle.flu_streams.specs.Tests.{rows_of}
+use Rattle.flu_streams.proofs.RoundLaws.{each_source, flat_same}
+use Rattle.flu_streams.proofs.Ticks.{ranks_alike}
 use Rattle.flu_rounds.specs.Written.{AreSound, lines_in, lists_above, text_up_from}
 use Rattle.flu_save.specs.Checkpoint.{IsSavable, save}
 use Rattle.flu_save.specs.Forms.{IsSave, IsFaultOf}
@@ -171,7 +174,7 @@ pub record IsPut (p : Program) (o : Opening) (texts : List (List ℕ)) (left : C
 
 lines_are_in : (p : Program) (left : Contents) → LinesIn p left (lines_in p left)
 lines_are_in p left i s at =
-    ap (λ (found : Option Source). option_map_or (λ (source : Source). read_file (form_of (job_of p)) (bytes_left left source.file)) found []) at
+    ap (λ (found : Option Source). option_map_or (lines_of_source (form_of (job_of p)) left) found []) at
 
 put_by_some : (p : Program) (o : Opening) (done : List (List (List Item))) (border : Option ℕ) (lines : ℕ → List Next) (checkpoint : List ℕ)
     → Some checkpoint ≡ put_by p o done border lines
@@ -284,23 +287,38 @@ checkpoints_open laws are_short are_utf8 p job o texts left text checkpoint job_
 
 -- ---- sources
 module _ (p : Program) (one other : Contents) (same : (name : List ℕ) → Contains (files_of p.sources) name → bytes_left other name ≡ bytes_left one name) where
+  -- of a source; a clock has no lines
+  same_source : (i : ℕ) (s : Source) → slice_get p.sources i ≡ Some s
+      → lines_of_source (form_of (job_of p)) other s ≡ lines_of_source (form_of (job_of p)) one s
+  same_source i s at = by (is_clock s) (λ has. same s.file (file_there p.sources i s at has))
+    where
+      by : (b : Bool) → (b ≡ false → bytes_left other s.file ≡ bytes_left one s.file)
+          → (if b then [] else read_file (form_of (job_of p)) (bytes_left other s.file))
+          ≡ (if b then [] else read_file (form_of (job_of p)) (bytes_left one s.file))
+      by true bytes = refl
+      by false bytes = ap (read_file (form_of (job_of p))) (bytes refl)
+
   same_lines_at : (i : ℕ) → lines_in p other i ≡ lines_in p one i
   same_lines_at i = by (slice_get p.sources i) refl
     where
       by : (o : Option Source) → slice_get p.sources i ≡ o
-          → option_map_or (λ (s : Source). read_file (form_of (job_of p)) (bytes_left other s.file)) o []
-          ≡ option_map_or (λ (s : Source). read_file (form_of (job_of p)) (bytes_left one s.file)) o []
+          → option_map_or (lines_of_source (form_of (job_of p)) other) o [] ≡ option_map_or (lines_of_source (form_of (job_of p)) one) o []
       by None at = refl
-      by (Some s) at = ap (read_file (form_of (job_of p))) (same s.file (file_there p.sources i s at))
+      by (Some s) at = same_source i s at
 
-  -- the lists of some sources behind others
-  same_lists : (before ss : List Source) → ((i : ℕ) (s : Source) → slice_get ss i ≡ Some s → bytes_left other s.file ≡ bytes_left one s.file)
-      → flat_map (λ e. lists_of_rows (timing_of p (length e.0)) p.kinds e.1 (sum_by width e.0) (rows_in (form_of (job_of p)) other e.1)) (with_before before ss)
-      ≡ flat_map (λ e. lists_of_rows (timing_of p (length e.0)) p.kinds e.1 (sum_by width e.0) (rows_in (form_of (job_of p)) one e.1)) (with_before before ss)
-  same_lists before [] each = refl
-  same_lists before (s ∷ ss) each =
-      λ i. lists_of_rows (timing_of p (length before)) p.kinds s (sum_by width before) (rows_of (read_file (form_of (job_of p)) (each 0 s refl i)))
-      ++ same_lists (before ++ s ∷ []) ss (λ j x at. each (suc j) x at) i
+  -- the rows of each, and so where all rows stand, among which clocks tick
+  same_rows : AllByRecursion (λ (e : Declared). rows_in (form_of (job_of p)) other e.1 ≡ rows_in (form_of (job_of p)) one e.1) (each_with_before p.sources)
+  same_rows =
+      each_source (λ i s. rows_in (form_of (job_of p)) other s ≡ rows_in (form_of (job_of p)) one s) p.sources (λ i s at. ap rows_of (same_source i s at))
+
+  same_ranks : ranks_among p (λ e. rows_in (form_of (job_of p)) other e.1) ≡ ranks_among p (λ e. rows_in (form_of (job_of p)) one e.1)
+  same_ranks = ranks_alike p (λ e. rows_in (form_of (job_of p)) other e.1) (λ e. rows_in (form_of (job_of p)) one e.1) same_rows
+
+  same_lists : lists_of p other ≡ lists_of p one
+  same_lists =
+      flat_same _ _ (each_with_before p.sources)
+      (all_map (λ (e : Declared). rows_in (form_of (job_of p)) other e.1 ≡ rows_in (form_of (job_of p)) one e.1) _ (each_with_before p.sources)
+      (λ e rows. λ j. lists_of_source p (rows j) (ticks_of p (same_ranks j) e) e) same_rows)
 
 pub sources_decide : SourcesDecide
 unfolding lists_behind
@@ -308,7 +326,7 @@ sources_decide p texts texts' left left' same =
     let one = emptied_each texts left in
     let other = emptied_each texts' left' in (
       λ i. λ j. same_lines_at p one other same j i,
-      same_lists p one other same [] p.sources (λ i s at. same s.file (file_there p.sources i s at)),
+      same_lists p one other same,
     )
 
 -- one more text that is read

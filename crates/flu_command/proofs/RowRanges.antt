@@ -1,9 +1,10 @@
 -- The rows of a file have times below 2^63 and values of 64 bits, and so have the events of a run.
 use Rattle.std.proofs.Common.{◌≡◌, ℕ, zero, suc, ◌/◌, ◌+◌, ◌<◌, ◌≤◌, ◌^◌, ◌-◌, ℤ, pos, negsuc, Bool, true, false, cond, Option, Some, None, List, [], ◌∷◌, ◌++◌}
 use Rattle.std.proofs.Common.{map, length, append_assoc, take, max, refl, sym, ap, subst, ◌∙◌, arith}
-use Rattle.std.specs.Prelude.{nat_lt, nat_le, ◌==◌, ◌&&◌, not, slice_get, slice_index, drop, option_map, option_and_then, unwrap_or, codes, sum_by, neg_ℤ, ⊤, IfSome}
+use Rattle.std.specs.Prelude.{nat_lt, nat_le, ◌==◌, ◌&&◌, not, slice_get, slice_index, drop, option_map, option_and_then, unwrap_or, codes, sum_by, neg_ℤ, ⊤}
+use Rattle.std.specs.Prelude.{IfSome, if◌then◌else◌}
 use Rattle.std.specs.Char.{is_ascii_digit}
-use Rattle.std.specs.List.{list_all, filter_map, flat_map, range_with_len, AllByRecursion}
+use Rattle.std.specs.List.{list_all, filter_map, range_with_len, AllByRecursion}
 use Rattle.std.specs.Str.{bytes_eq}
 use Rattle.std.specs.Str.Parse.{digits_value}
 use Rattle.std.proofs.lemmas.Option.{slice_get_within}
@@ -20,6 +21,7 @@ use Rattle.flu_model.specs.declared.jobs.Program.{Program}
 use Rattle.flu_model.specs.declared.moments.Timing.{Timing}
 use Rattle.flu_model.specs.Merging.{events_of, all_events, merged, is_before}
 use Rattle.flu_model.specs.Moments.{IsTiming, moments_a_time, timing_of}
+use Rattle.flu_model.specs.Rules.{is_clock}
 use Rattle.flu_lemmas.specs.Late.{is_less}
 use Rattle.flu_model.specs.Numberings.{Numbering}
 use Rattle.flu_rows.specs.declared.row.RowForm.{RowForm}
@@ -36,14 +38,18 @@ use Rattle.flu_rows.specs.Laws.{TimesAreInRange}
 use Rattle.flu_rows.specs.Lines.{line_of, line_of_fields, line_of_row, line_of_one, line_of_records, begins_with_mark, lines_of}
 use Rattle.flu_rows.specs.Reading.{read_line, read_lines, read_file}
 use Rattle.flu_rows.specs.Records.{first_record, record_after}
-use Rattle.flu_rows.specs.Row.{number_field, field_by, one_field, number_fields, named_fields, fields_by, two_fields, row_of, row_of_two, row_of_three, row_of_four, filled_len}
+use Rattle.flu_rows.specs.Row.{number_field, field_by, one_field, number_fields, named_fields, fields_by, two_fields, row_of, row_of_two, row_of_three}
+use Rattle.flu_rows.specs.Row.{row_of_four, filled_len}
 use Rattle.flu_streams.specs.declared.border.Border.{Border}
 use Rattle.flu_streams.specs.Before.{each_with_before, with_before}
-use Rattle.flu_streams.specs.Good.{event_of, item_in, items_at, at_moments, in_time_order, time_at, lists_of_rows}
-use Rattle.flu_streams.specs.Rounds.{lists_between, rows_between, is_between}
+use Rattle.flu_streams.specs.Clocks.{tick_at, items_of_ticks, lists_of_ticks}
+use Rattle.flu_streams.specs.Good.{event_of, item_in, items_at, at_moments, in_time_order, time_at, lists_of_rows, lists_of_source}
+use Rattle.flu_streams.specs.Rounds.{lists_between, rows_between, ticks_between, is_between}
 use Rattle.flu_streams.specs.Tags.{width, place_named, given, given_by, given_to}
 use Rattle.flu_streams.specs.Tests.{rows_of, times_of, greatest}
 use Rattle.flu_streams.proofs.Moments.{time_of-moment, timing_fits}
+use Rattle.flu_rounds.specs.Written.{AreSound}
+use Rattle.flu_command.proofs.TickRanges.{all_images, all_flat, between_low}
 use Rattle.flu_command.proofs.Widths.{IsWord, all_in_order}
 
 -- ---- rows
@@ -240,7 +246,8 @@ module _ (times : TimesAreInRange) (form : RowForm) (number : ℕ) (behind : Lis
   line_read : (line : List ℕ) → AllFit (read_line (line_of form number line) number behind)
   unfolding line_of
   line_read line =
-      elim (nat_lt 4096 (length line)) as (λ b. AllFit (read_line (cond b (line_of_row None) (cond (not (number == 1) && begins_with_mark line) (line_of_row None)
+      elim (nat_lt 4096 (length line)) as
+      (λ b. AllFit (read_line (cond b (line_of_row None) (cond (not (number == 1) && begins_with_mark line) (line_of_row None)
       (line_of_records form (first_record line)))) number behind)) [
         | true ↦ (tt, tt)
         | false ↦ elim (not (number == 1) && begins_with_mark line) as (λ b. AllFit (read_line (cond b (line_of_row None)
@@ -378,14 +385,24 @@ lists_fit timing is kinds s first rows all =
     all_mapped (ListFits timing.scale) (items_at kinds s first (at_moments timing [] rows))
     (λ place. items_fit timing.scale kinds s first (at_moments timing [] rows) place (fit_at timing is [] rows all)) (range_with_len 0 (width s))
 
-all_flat : {X Y : Type 0} (Q : Y → Type 0) (f : X → List Y) → (xs : List X) → AllByRecursion (λ x. AllByRecursion Q (f x)) xs
-    → AllByRecursion Q (flat_map f xs)
-all_flat Q f [] all = tt
-all_flat Q f (x ∷ xs) all = all_append Q (f x) (flat_map f xs) all.0 (all_flat Q f xs all.1)
+-- the tick of a clock at a time
+tick_fits : (timing : Timing) (is : IsTiming timing) (itag time : ℕ) → time < 2 ^ 63 → ItemFits timing.scale (tick_at timing itag time)
+tick_fits timing is itag time lt = (subst (λ t. t < 2 ^ 63) (sym (time_of-moment timing is time 0)) lt, omega arith)
 
--- the lines of each source fit, by its number
-abbrev pub LinesFit : Program → (ℕ → List Next) → Type 0
-LinesFit p reads = AtEach (λ i s. AllByRecursion NextFits (reads i)) p.sources
+ticks_fit : (timing : Timing) (is : IsTiming timing) (s : Source) (first : ℕ) (ticks : List ℕ) → AllByRecursion (λ t. t < 2 ^ 63) ticks
+    → AllByRecursion (ListFits timing.scale) (lists_of_ticks timing s first ticks)
+ticks_fit timing is s first ticks low =
+    all_mapped (ListFits timing.scale) (λ place. items_of_ticks timing (first + place) ticks)
+    (λ place. all_append (ItemFits timing.scale) (map (tick_at timing (first + place)) ticks) (EndItem ∷ [])
+    (all_images (ItemFits timing.scale) (tick_at timing (first + place)) ticks
+    (all_map (λ t. t < 2 ^ 63) (λ t. ItemFits timing.scale (tick_at timing (first + place) t)) ticks (tick_fits timing is (first + place)) low))
+    (tt, tt))
+    (range_with_len 0 (width s))
+
+-- the lines of each source fit, by its number, and have no defect, so that no tick is too late
+pub record LinesFit (p : Program) (reads : ℕ → List Next) : Type 0 where
+  pub each : AtEach (λ i s. AllByRecursion NextFits (reads i)) p.sources
+  pub sound : AreSound p reads
 
 at_seam : {X : Type 0} (before after : List X) (x : X) → slice_get (before ++ x ∷ after) (length before) ≡ Some x
 at_seam [] after x = refl
@@ -393,19 +410,32 @@ at_seam (y ∷ before) after x = at_seam before after x
 
 module _ (p : Program) (above : Option ℕ) (end : Border) (reads : ℕ → List Next) (fit : LinesFit p reads) where
   abbrev one_source : (List Source × Source) → List (List Item)
-  one_source e = lists_of_rows (timing_of p (length e.0)) p.kinds e.1 (sum_by width e.0) (rows_between above end (rows_of (reads (length e.0))))
+  one_source e = lists_of_source p (rows_between above end (rows_of (reads (length e.0)))) (ticks_between p above end reads e) e
+
+  -- of rows, or of the ticks of a clock
+  source_fits : (before : List Source) (s : Source) → slice_get p.sources (length before) ≡ Some s
+      → AllByRecursion (ListFits (moments_a_time p)) (one_source (before, s))
+  source_fits before s here =
+      let timing = timing_of p (length before) in
+      let first = sum_by width before in
+      let is = timing_fits p (length before) (slice_get_within p.sources (length before) s here) in
+      let rows = rows_of (reads (length before)) in
+      elim (is_clock s) as (λ b. AllByRecursion (ListFits (moments_a_time p))
+      (if b then lists_of_ticks timing s first (ticks_between p above end reads (before, s))
+      else lists_of_rows timing p.kinds s first (rows_between above end rows))) [
+        | true ↦ ticks_fit timing is s first (ticks_between p above end reads (before, s)) (between_low p reads fit.sound before s here above end)
+        | false ↦ lists_fit timing is p.kinds s first (rows_between above end rows)
+            (all_filter RowFits (is_between above end) rows
+            (all_map RowFits (λ row. is_between above end row ≡ true → RowFits row) rows (λ row fits e. fits)
+            (rows_read (reads (length before)) (fit.each (length before) s here))))
+      ]
 
   each_source : (before : List Source) (ss : List Source) → p.sources ≡ before ++ ss
       → AllByRecursion (λ e. AllByRecursion (ListFits (moments_a_time p)) (one_source e)) (with_before before ss)
   each_source before [] same = tt
   each_source before (s ∷ ss) same =
-      let here : slice_get p.sources (length before) ≡ Some s = ap (λ (xs : List Source). slice_get xs (length before)) same ∙ at_seam before ss s in
-      let rows = rows_of (reads (length before)) in (
-        lists_fit (timing_of p (length before)) (timing_fits p (length before) (slice_get_within p.sources (length before) s here)) p.kinds s
-            (sum_by width before) (rows_between above end rows)
-            (all_filter RowFits (is_between above end) rows
-            (all_map RowFits (λ row. is_between above end row ≡ true → RowFits row) rows (λ row fits e. fits)
-            (rows_read (reads (length before)) (fit (length before) s here)))),
+      let here : slice_get p.sources (length before) ≡ Some s = ap (λ (xs : List Source). slice_get xs (length before)) same ∙ at_seam before ss s in (
+        source_fits before s here,
         each_source (before ++ s ∷ []) ss (same ∙ sym (append_assoc before (s ∷ []) ss)),
       )
 

@@ -7,9 +7,8 @@ use Rattle.flu_model.specs.declared.jobs.Program.{Program}
 use Rattle.flu_model.specs.Erasure.{Job, IsSameJob}
 use Rattle.flu_model.specs.Moments.{timing_of}
 use Rattle.flu_outside.specs.Outside.{Contents}
-use Rattle.flu_outside.specs.Taking.{bytes_left}
 use Rattle.flu_rows.specs.Row.{form_of}
-use Rattle.flu_rows.specs.Reading.{read_file}
+use Rattle.flu_streams.specs.Good.{lines_in as lines_of_source}
 use Rattle.flu_streams.specs.OneJob.{JobsReadTheSame}
 use Rattle.flu_streams.specs.Rounds.{defect_in}
 use Rattle.flu_streams.proofs.OneJob.{timing_in}
@@ -20,8 +19,7 @@ use Rattle.flu_command.specs.Reading.{Reading, Unread, Whole, InRounds, AreSourc
 
 pub same_lines : (texts : List (List ℕ)) (left : Contents) (p q : Program) (i : ℕ) → IsSameJob p q → lines_behind texts left q i ≡ lines_behind texts left p i
 same_lines texts left p q i same =
-    ap (λ (j : Job). option_map_or (λ (s : Source). read_file (form_of j) (bytes_left (emptied_each texts left) s.file))
-    (slice_get j.sources i) []) (sym same)
+    ap (λ (j : Job). option_map_or (lines_of_source (form_of j) (emptied_each texts left)) (slice_get j.sources i) []) (sym same)
 
 module _ (law : JobsReadTheSame) where
   same_fault : (texts : List (List ℕ)) (left : Contents) (p q : Program) → IsSameJob p q → fault_behind texts left p ≡ fault_behind texts left q
@@ -55,7 +53,8 @@ module _ (law : JobsReadTheSame) where
               let found = its.fronts front rest (sym before ∙ is) ((λ j. alike (timing_in (same j) i) j s front) ∙ sound) in
               (found.0, behind ∙ found.1);
           good = λ sound. behind
-              ∙ (its.good ((λ j. alike (timing_in (same j) i) j s (lines_in p left i)) ∙ (ap (defect_in (timing_of q i) q.kinds s) (sym before) ∙ sound)) ∙ sym before);
+              ∙ (its.good ((λ j. alike (timing_in (same j) i) j s (lines_in p left i)) ∙ (ap (defect_in (timing_of q i) q.kinds s) (sym before) ∙ sound))
+              ∙ sym before);
         };
     sound = same_sound [] mended p q same mends.sound;
   }

@@ -1,13 +1,14 @@
 -- Programs that are the same job start alike, and what keeps a run from its start is that it can't start.
-use Rattle.std.proofs.Common.{◌≡◌, sym, ap, ◌∙◌, subst, ℕ, ◌≤◌, List, Option, Some, None}
-use Rattle.std.specs.Prelude.{Contains, option_map, slice_get}
-use Rattle.std.proofs.lemmas.Option.{slice_get-map, slice_get_within, get_or_from_slice_get}
+use Rattle.std.proofs.Common.{◌≡◌, sym, ap, ◌∙◌, subst, ℕ, ◌≤◌, false, List, Option, Some, None, if◌then◌else◌}
+use Rattle.std.specs.Prelude.{Contains, slice_get}
+use Rattle.flu_lemmas.proofs.Containing.{kept_at}
 use Rattle.flu_outside.specs.Outside.{Contents as Files}
 use Rattle.flu_outside.specs.Taking.{bytes_left}
 use Rattle.flu_model.specs.declared.jobs.Source.{Source}
 use Rattle.flu_model.specs.declared.jobs.Program.{Program}
 use Rattle.flu_model.specs.Contents.{Contents}
 use Rattle.flu_model.specs.Erasure.{IsSameJob}
+use Rattle.flu_model.specs.Rules.{is_clock, file_of_source}
 use Rattle.flu_save.specs.declared.fault.SaveFault.{SaveFault}
 use Rattle.flu_save.specs.Checkpoint.{IsSavable, checkpoint}
 use Rattle.flu_save.specs.Forms.{IsSave}
@@ -79,14 +80,13 @@ starts_some command left p o starts =
     opens_some (rows_named command) (resume_named command) (job_and_plan_named command) left p o starts.opens
 
 -- ---- what keeps a run from its start
-pub file_there : (ss : List Source) (number : ℕ) (source : Source) → slice_get ss number ≡ Some source → Contains (files_of ss) source.file
-file_there ss number source is =
-    let there : slice_get (files_of ss) number ≡ Some source.file =
-    slice_get-map (λ (s : Source). s.file) ss number ∙ ap (option_map (λ (s : Source). s.file)) is in
-    (number, slice_get_within (files_of ss) number source.file there, get_or_from_slice_get (files_of ss) number source.file source.file there)
+-- the file of a source is among those of all
+pub file_there : (ss : List Source) (number : ℕ) (source : Source) → slice_get ss number ≡ Some source → is_clock source ≡ false
+    → Contains (files_of ss) source.file
+file_there ss number source is has = kept_at file_of_source ss number source source.file is (ap (λ b. if b then None else Some source.file) has)
 
 not_apart : (named : Option (List ℕ)) (p : Program) (number : ℕ) → IsFileOf named p number → ¬ IsNoSource named p
-not_apart named p number is apart = apart is.0.file is.2 (file_there p.sources number is.0 is.1)
+not_apart named p number is apart = apart is.0.file is.3 (file_there p.sources number is.0 is.1 is.2)
 
 -- a command that names a source's file can't start
 pub same_name_stops : (command : Command) (left : Files) (p : Program) (number : ℕ) → IsSameName command p number → ¬ CanStart command left p

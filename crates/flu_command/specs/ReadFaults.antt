@@ -1,9 +1,10 @@
 -- What is true if a read fault ends a command: no fault was met in what was taken.
-use Rattle.std.specs.Prelude.{◌≡◌, ℕ, List, ◌∷◌, ◌++◌, Option}
+use Rattle.std.specs.Prelude.{◌≡◌, ℕ, false, List, ◌∷◌, ◌++◌, Option}
 use Rattle.flu_outside.specs.Outside.{Contents, WhereTold, Rose}
 use Rattle.flu_outside.specs.Taking.{TookAtMost}
 use Rattle.flu_model.specs.declared.jobs.Program.{Program}
 use Rattle.flu_model.specs.Moments.{timing_of}
+use Rattle.flu_model.specs.Rules.{is_clock}
 use Rattle.flu_model.specs.declared.jobs.Source.{Source}
 use Rattle.flu_rows.specs.declared.rows.Next.{Next}
 use Rattle.flu_rows.specs.Lines.{IsUndecided}
@@ -28,6 +29,7 @@ pub record HidesNoDefect (command : Command) (name : List ℕ) (old new : Option
   pub source : Source
   pub later : List Source
   pub split : p.sources ≡ earlier ++ (source ∷ later)
+  pub has_file : is_clock source ≡ false
   pub named : source.file ≡ name
   pub read : List Next
   pub place : Place

@@ -29,7 +29,7 @@ is_read Whole = true
 is_read InRounds = true
 
 -- ---- sources that are read after some texts
--- the lines of their files
+-- their lines: those of their files; a clock has none
 abbrev pub lines_behind : List (List ℕ) → Contents → Program → ℕ → List Next
 lines_behind texts left p = lines_in p (emptied_each texts left)
 

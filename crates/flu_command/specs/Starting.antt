@@ -1,9 +1,10 @@
 -- Whether a run can start, from its opening; and what is left under the name that it saves to.
-use Rattle.std.specs.Prelude.{◌≡◌, ◌≢◌, ℕ, List, ◌++◌, Contains, Option, Some, None, slice_get, ⊤}
+use Rattle.std.specs.Prelude.{◌≡◌, ◌≢◌, ℕ, false, List, ◌++◌, Contains, Option, Some, None, slice_get, ⊤}
 use Rattle.flu_outside.specs.Outside.{Contents}
 use Rattle.flu_outside.specs.Taking.{bytes_left}
 use Rattle.flu_model.specs.declared.jobs.Source.{Source}
 use Rattle.flu_model.specs.declared.jobs.Program.{Program}
+use Rattle.flu_model.specs.Rules.{is_clock}
 use Rattle.flu_save.specs.declared.fault.SaveFault.{SaveFault}
 use Rattle.flu_save.specs.declared.fault.SaveFault.TheVariants as saves
 use Rattle.flu_save.specs.Forms.{IsFaultOf}
@@ -33,9 +34,9 @@ abbrev pub CanStart : Command → Contents → Program → Type 0
 CanStart command left p = (o : Opening) × StartsFrom command left p o
 
 -- ---- what refuses it
--- a name is the name of the file of the source with this number
+-- a name is the name of the file of the source with this number, which is no clock
 abbrev pub IsFileOf : Option (List ℕ) → Program → ℕ → Type 0
-IsFileOf named p number = (source : Source) × (slice_get p.sources number ≡ Some source) × (named ≡ Some source.file)
+IsFileOf named p number = (source : Source) × (slice_get p.sources number ≡ Some source) × (is_clock source ≡ false) × (named ≡ Some source.file)
 
 -- a command saves to the file of this source, or is resumed from it; if it does both, this is the source that it saves to
 pub data IsSameName (command : Command) (p : Program) (number : ℕ) : Type 0 where

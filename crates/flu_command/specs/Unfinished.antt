@@ -5,6 +5,7 @@ use Rattle.flu_outside.specs.Outside.{Contents}
 use Rattle.flu_model.specs.declared.events.Item.{Item}
 use Rattle.flu_model.specs.declared.jobs.Program.{Program}
 use Rattle.flu_model.specs.Moments.{timing_of}
+use Rattle.flu_model.specs.Rules.{is_clock}
 use Rattle.flu_model.specs.declared.jobs.Source.{Source}
 use Rattle.flu_rows.specs.declared.rows.Next.{Next}
 use Rattle.flu_rows.specs.Lines.{IsUndecided}
@@ -24,6 +25,7 @@ pub record Unfinished (p : Program) (rows : ℕ) : Type 0 where
   pub at : ℕ
   pub source : Source
   pub is : slice_get p.sources at ≡ Some source
+  pub has_file : is_clock source ≡ false
   pub more : List Next
   pub further : now at ≡ before at ++ more
   pub sound : defect_in (timing_of p at) p.kinds source (now at) ≡ None

@@ -1,7 +1,7 @@
 -- Programs of one job: the same nodes may be apart, contribute the same, and are joined alike.
 use Rattle.std.proofs.Common.{◌≡◌, refl, sym, ap, ◌∙◌, subst, ℕ, ◌<◌, List, [], ◌∷◌, ◌++◌, Bool, ◌&&◌, ◌||◌, not}
 use Rattle.std.specs.Prelude.{◌+◌, None, Some, if◌then◌else◌}
-use Rattle.std.specs.List.{list_any, filter, range_with_len, AllByRecursion}
+use Rattle.std.specs.List.{list_any, position, filter, range_with_len, AllByRecursion}
 use Rattle.flu_model.specs.declared.events.Cell.{Cell}
 use Rattle.flu_model.specs.declared.events.Event.{Event}
 use Rattle.flu_model.specs.declared.events.Item.{Item}
@@ -13,12 +13,15 @@ use Rattle.flu_model.specs.Erasure.{IsSameJob}
 use Rattle.flu_model.specs.Itags.{count_of_itags}
 use Rattle.flu_model.specs.Merging.{merged}
 use Rattle.flu_model.specs.Modes.{uses}
+use Rattle.flu_model.specs.Rules.{is_clock}
 use Rattle.flu_model.specs.Sorts.{IsStateOf}
 use Rattle.flu_laws.specs.Consistency.{within, outside as without}
 use Rattle.flu_laws.specs.OneJob.{JobsHaveTheSameItags, JobsDoTheSame, JobsAreAcceptedAlike, JobsHaveTheSameOwners}
 use Rattle.flu_laws.specs.Uses.{needs}
 use Rattle.flu_apart.specs.declared.classes.Class.TheVariants.{Unused, Kept, Contributed, Shared}
-use Rattle.flu_apart.specs.Apart.{MayBeApart, IsReason}
+use Rattle.flu_apart.specs.declared.reason.Reason.{Reason}
+use Rattle.flu_apart.specs.declared.reason.Reason.TheVariants.{Clock, Shared as SharedReason}
+use Rattle.flu_apart.specs.Apart.{MayBeApart, IsSharedUse, IsFirstReason}
 use Rattle.flu_apart.specs.Classes.{itag, inside, mode_at, is_used, is_contributed, is_kept}
 use Rattle.flu_contribution.specs.Combining.{Combined, with_effect, is_of_none}
 use Rattle.flu_contribution.specs.Contributions.{is_class_kept, keeps, Contribution, opened, with_event, closed, contributions_from, contributions}
@@ -62,17 +65,23 @@ module _ (laws : LawsOfJobs) (p q : Program) (same : IsSameJob p q) where
   back : (i : ℕ) → i < count_of_itags q → i < count_of_itags p
   back i lt = subst (λ n. i < n) (sym (laws.itags p q same).count) lt
 
+  same_clocks : list_any is_clock p.sources ≡ list_any is_clock q.sources
+  same_clocks = ap (λ j. list_any is_clock j.sources) same
+
   same_may : (nodes : List Node) (w : ℕ) → MayBeApart p nodes w → MayBeApart q nodes w
-  same_may nodes w may i c lt inner used =
-      sym (λ j. same_contributed j nodes w c || same_kept j nodes w c)
-      ∙ may i c (back i lt) ((λ j. same_inside j nodes w i) ∙ inner) ((λ j. uses (same_mode_at j i c)) ∙ used)
+  same_may nodes w may = record {
+    no_clock = sym same_clocks ∙ may.no_clock;
+    shares_none = λ i c lt inner used.
+        sym (λ j. same_contributed j nodes w c || same_kept j nodes w c)
+        ∙ may.shares_none i c (back i lt) ((λ j. same_inside j nodes w i) ∙ inner) ((λ j. uses (same_mode_at j i c)) ∙ used);
+  }
 
   each_may : (nodes : List Node) (ws : List ℕ) → AllByRecursion (IsApart p nodes) ws → AllByRecursion (IsApart q nodes) ws
   each_may nodes [] all = all
   each_may nodes (w ∷ ws) (first, others) = (record { there = first.there; may = same_may nodes w first.may }, each_may nodes ws others)
 
-  same_reason : (nodes : List Node) (w : ℕ) (t : Tag) (c : Cell) → IsReason p nodes w t c → IsReason q nodes w t c
-  same_reason nodes w t c r = record {
+  same_use : (nodes : List Node) (w : ℕ) (t : Tag) (c : Cell) → IsSharedUse p nodes w t c → IsSharedUse q nodes w t c
+  same_use nodes w t c r = record {
     itag = r.itag;
     in_range = subst (λ n. r.itag < n) (laws.itags p q same).count r.in_range;
     of_subtree = sym (λ j. same_inside j nodes w r.itag) ∙ r.of_subtree;
@@ -169,9 +178,16 @@ pub apart_alike : (laws : LawsOfJobs) (p q : Program) → IsSameJob p q → MayB
 apart_alike laws p q same = record {
   may = same_may laws p q same;
   apart = λ nodes ws apart. record { each = each_may laws p q same nodes ws apart.each; none_within = apart.none_within };
-  reason = λ nodes w t c is. record {
-    reason = same_reason laws p q same nodes w t c is.reason;
-    first = λ u d other. is.first u d (same_reason laws q p (sym same) nodes w u d other);
-  };
+  reason = first_alike;
   setting = same_setting laws p q same;
 }
+  where
+    first_alike : (nodes : List Node) (w : ℕ) (r : Reason) → IsFirstReason p nodes w r → IsFirstReason q nodes w r
+    first_alike nodes w (Clock number) is = sym (ap (λ j. position is_clock j.sources) same) ∙ is
+    first_alike nodes w (SharedReason u) is = (
+      sym (same_clocks laws p q same) ∙ is.0,
+      record {
+        shared = same_use laws p q same nodes w u.tag u.cell is.1.shared;
+        first = λ v d other. is.1.first v d (same_use laws q p (sym same) nodes w v d other);
+      },
+    )

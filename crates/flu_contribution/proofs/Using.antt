@@ -150,14 +150,14 @@ module _ (p : Program) (nodes : List Node) where
       let used : uses (mode_at p i c) ≡ true = needed_is_used (mode_at p i c) needed in
       let not_contributed : is_contributed p nodes w c ≡ false =
       false_if_not _ (λ h. not_both (needs (mode_at p i c)) needed (contributed_unneeded w i c h lt there)) in
-      keeps_by w c ∙ both _ _ (used_by w i c lt there used) (or_second (is_contributed p nodes w c) _ (may i c lt there used) not_contributed)
+      keeps_by w c ∙ both _ _ (used_by w i c lt there used) (or_second (is_contributed p nodes w c) _ (may.shares_none i c lt there used) not_contributed)
 
   -- a cell that tags of the subtree use, and some other uses
   other_contributed : (w i : ℕ) (c : Cell) → MayBeApart p nodes w → i < count_of_itags p → inside p nodes w i ≡ true → uses (mode_at p i c) ≡ true
       → keeps p nodes w c ≡ false → writes (mode_at p i c) && not (needs (mode_at p i c)) ≡ true
   other_contributed w i c may lt there used other =
       let not_kept : is_kept p nodes w c ≡ false = and_false _ _ (sym (keeps_by w c) ∙ other) (used_by w i c lt there used) in
-      let is : is_contributed p nodes w c ≡ true = or_first _ _ (may i c lt there used) not_kept in
+      let is : is_contributed p nodes w c ≡ true = or_first _ _ (may.shares_none i c lt there used) not_kept in
       let unneeded : needs (mode_at p i c) ≡ false = contributed_unneeded w i c is lt there in
       both _ _ (used_unneeded (mode_at p i c) used unneeded) (ap not unneeded)
 

@@ -1,11 +1,10 @@
 -- PROGRAMS OF ONE JOB: a node apart contributes the same for each, and what nodes sent is joined alike.
 use Rattle.std.specs.Prelude.{◌≡◌, ℕ, List}
-use Rattle.flu_model.specs.declared.events.Cell.{Cell}
-use Rattle.flu_model.specs.declared.events.Tag.{Tag}
 use Rattle.flu_model.specs.declared.jobs.Program.{Program}
 use Rattle.flu_model.specs.declared.plans.Node.{Node}
 use Rattle.flu_model.specs.Contents.{Contents}
 use Rattle.flu_model.specs.Erasure.{IsSameJob}
+use Rattle.flu_apart.specs.declared.reason.Reason.{Reason}
 use Rattle.flu_apart.specs.Apart.{MayBeApart, IsFirstReason}
 use Rattle.flu_contribution.specs.Contributions.{contributions}
 use Rattle.flu_contribution.specs.Laws.{AreNodesApart, IsSetting}
@@ -16,7 +15,7 @@ use Rattle.flu_contribution.specs.Sharing.{needs_itag, is_itag_of_none, joined_p
 pub record MayBeApartAlike (p q : Program) : Type 0 where
   pub may : (nodes : List Node) (w : ℕ) → MayBeApart p nodes w → MayBeApart q nodes w
   pub apart : (nodes : List Node) (ws : List ℕ) → AreNodesApart p nodes ws → AreNodesApart q nodes ws
-  pub reason : (nodes : List Node) (w : ℕ) (t : Tag) (c : Cell) → IsFirstReason p nodes w t c → IsFirstReason q nodes w t c
+  pub reason : (nodes : List Node) (w : ℕ) (r : Reason) → IsFirstReason p nodes w r → IsFirstReason q nodes w r
   pub setting : (nodes : List Node) (opening : Contents) → IsSetting p nodes opening → IsSetting q nodes opening
 
 -- a node needs the same itags, and contributes the same; and so the one that combines

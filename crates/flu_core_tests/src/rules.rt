@@ -364,6 +364,7 @@ fn sources_of(alloc: Global, case: &Case) -> Result<Vec<Source>, AllocError> {
         Source {
             name,
             file,
+            every: None,
             rate: case.rate,
             slack: case.slack,
             tags

@@ -74,7 +74,7 @@ abbrev pub ten_keys : ℕ → TagRef
 ten_keys kind = record { kind = kind; keys = Range 0 9 }
 
 abbrev pub source : List ℕ → List ℕ → ℕ → List TagRef → Source
-source name file rate tags = record { name = name; file = file; rate = rate; slack = 0; tags = tags }
+source name file rate tags = record { name = name; file = file; every = None; rate = rate; slack = 0; tags = tags }
 
 abbrev pub demo_sources : List Source
 demo_sources =

@@ -234,6 +234,7 @@ fn source(
     Ok(Source {
         name,
         file,
+        every: None,
         rate,
         slack: 0,
         tags: List::of(tags),

@@ -1,4 +1,10 @@
 -- Each fault that the reader finds in a job text is by a rule that the text breaks.
+use Rattle.flu_grammar.specs.BrokenJobs.{clock_of_older, no_period, high_rate_of_clock, no_tick, in_tick}
+use Rattle.flu_parse.specs.Faults.{each}
+use Rattle.std.specs.Prelude.{◌||◌}
+use Rattle.std.proofs.Common.{◌^◌, ◌⊎◌}
+use Rattle.flu_model.specs.Rules.{file_of_source}
+use Rattle.std.specs.List.{filter_map}
 use Rattle.std.proofs.Common.{◌≡◌, ◌≢◌, inl, inr, ℕ, ◌+◌, ◌<◌, ◌≤◌, Bool, true, false, List, [], ◌∷◌, ◌++◌, map, length}
 use Rattle.std.proofs.Common.{Option, Some, None, Ok, Err, refl, sym, ap, subst, ◌∙◌, length-append, arith}
 use Rattle.std.specs.Prelude.{not, is_some, ◌==◌, ◌&&◌, nat_lt, nat_le, slice_get, position}
@@ -55,15 +61,17 @@ use Rattle.flu_parse.specs.Naming.{Naming, in_version, is_version_3, has_keys, k
 use Rattle.flu_parse.specs.Naming.{with_kind, with_list, with_source, declare, no_names, naming_of, kind_of}
 use Rattle.flu_parse.specs.Cells.{resolved_key}
 use Rattle.flu_parse.specs.Actions.{resolved_actions}
-use Rattle.flu_parse.specs.Listings.{are_bracketed, written_keys, keys_of, tag_count, Listed, with_tag, tags_of, rate_of, slack_of, file_of}
-use Rattle.flu_parse.specs.Resolving.{Drafted, same_of, with_depend, with_actions, with_on, with_source as with_source_of}
+use Rattle.flu_parse.specs.Listings.{are_bracketed, written_keys, keys_of, tag_count, Listed, with_tag, tags_of, rate_of, slack_of, file_of, period_of}
+use Rattle.flu_parse.specs.Listings.{is_tick_head, alone, tick_of}
+use Rattle.flu_parse.specs.Resolving.{Drafted, same_of, with_depend, with_actions, with_on, with_clock, with_source as with_source_of}
 use Rattle.flu_parse.specs.Resolving.{with_cell, with_tag as with_tag_of, with_names, cell_name_fits, item_word_fits, with_declaration, first_draft}
 use Rattle.flu_parse.specs.Resolving.{draft_of, version_of, ties_counted, ties_of, unit_named, found_unit, unit_of, iso_of}
 use Rattle.flu_parse.specs.Resolving.{job_with, resolved}
 use Rattle.flu_parse.specs.Reading.{found_job}
-use Rattle.flu_grammar.specs.Declared.{DeclaredKind, WrittenSource, families_in, kinds_in, depends_in, sources_in, lists_in, list_names}
+use Rattle.flu_grammar.specs.Declared.{DeclaredKind, WrittenFeed, OfFile, OfClock, feed_tags, families_in, kinds_in, depends_in, sources_in, lists_in}
+use Rattle.flu_grammar.specs.Declared.{list_names}
 use Rattle.flu_grammar.specs.Cells.{family_name}
-use Rattle.flu_grammar.specs.Sources.{MeansKind, MeansTag, MeansSource}
+use Rattle.flu_grammar.specs.Sources.{MeansKind, MeansTag, MeansFeed}
 use Rattle.flu_grammar.specs.Faults.{NoneIsNamed, spans_in}
 use Rattle.flu_grammar.specs.Broken.{BreaksActions}
 use Rattle.flu_grammar.specs.BrokenJobs.{declared_name, has_key_brackets, IsWrittenKey, listed_itags, itags_in, IsListedTwice, BreaksTag, tag_unknown}
@@ -163,12 +171,18 @@ module _ (text : List ℕ) (n : Naming) (all : Declarations) (know : KnowFamilie
   tags_counted vs ts means = sum_by-total (λ (v : WrittenTag). tag_count v.keys) vs
       ∙ pairs_total (MeansTag text kinds) (λ (v : WrittenTag). tag_count v.keys) part_count tag_counted vs ts means
 
-  itags_counted : (ws : List WrittenSource) (ss : List Source) → Pairs (MeansSource text kinds) ws ss
-      → sum_by (λ (w : WrittenSource). listed_itags w.tags) ws ≡ itag_count ss
+  feed_counted : (w : WrittenFeed) (s : Source) → MeansFeed text kinds w s → listed_itags (feed_tags w) ≡ total part_count s.tags
+  feed_counted (OfFile v) s means = tags_counted v.tags s.tags means.tags
+  feed_counted (OfClock v) s means =
+      tags_counted (alone v.tag ∷ []) (record { kind = means.number; keys = keys.Alone } ∷ []) (record { kind = means.kind; keys = means.no_key }, tt)
+      ∙ ap (total part_count) (sym means.tags)
+
+  itags_counted : (ws : List WrittenFeed) (ss : List Source) → Pairs (MeansFeed text kinds) ws ss
+      → sum_by (λ (w : WrittenFeed). listed_itags (feed_tags w)) ws ≡ itag_count ss
   itags_counted ws ss means =
-      sum_by-total (λ (w : WrittenSource). listed_itags w.tags) ws
-      ∙ pairs_total (MeansSource text kinds) (λ (w : WrittenSource). listed_itags w.tags) (λ (s : Source). total part_count s.tags)
-      (λ w s is. tags_counted w.tags s.tags is.tags) ws ss means
+      sum_by-total (λ (w : WrittenFeed). listed_itags (feed_tags w)) ws
+      ∙ pairs_total (MeansFeed text kinds) (λ (w : WrittenFeed). listed_itags (feed_tags w)) (λ (s : Source). total part_count s.tags)
+      feed_counted ws ss means
 
   keys_break : (itags : ℕ) (earlier : List WrittenTag) (t : WrittenTag) (written : WrittenKeys) → t.keys ≡ written
       → FaultsAre (BreaksTag text kinds itags earlier t) (keys_of written)
@@ -306,7 +320,7 @@ module _ (text : List ℕ) (n : Naming) (all : Declarations) (know : KnowFamilie
     source_breaks name file rate slack tags =
         let P = Broken (d.Source name file rate slack tags) in
         let made = λ (bytes : List ℕ) (a b : ℕ) (listed : Listed). let r : Found Drafted = Ok (record x {
-          sources = x.sources ++ record { name = name_of text name; file = bytes; rate = a; slack = b; tags = listed.tags } ∷ [];
+          sources = x.sources ++ record { name = name_of text name; file = bytes; every = None; rate = a; slack = b; tags = listed.tags } ∷ [];
           itags = listed.itags;
         }) in r in
         faults_bind P (file_of text x.sources file)
@@ -315,20 +329,20 @@ module _ (text : List ℕ) (n : Naming) (all : Declarations) (know : KnowFamilie
         (λ bytes. faults_bind P (rate_of rate) (λ a. slack_of slack >>= λ b. tags_of text n x.itags tags >>= λ l. made bytes a b l) (rate_breaks rate slack)
         (λ a. faults_bind P (slack_of slack) (λ b. tags_of text n x.itags tags >>= λ l. made bytes a b l) (slack_breaks rate slack)
         (λ b. faults_bind P (tags_of text n x.itags tags) (λ l. made bytes a b l) tags_break (λ l. no_fault P (record x {
-          sources = x.sources ++ record { name = name_of text name; file = bytes; rate = a; slack = b; tags = l.tags } ∷ [];
+          sources = x.sources ++ record { name = name_of text name; file = bytes; every = None; rate = a; slack = b; tags = l.tags } ∷ [];
           itags = l.itags;
         })))))
       where
         file_breaks : FaultsAre (Broken (d.Source name file rate slack tags)) (file_of text x.sources file)
         file_breaks =
             let P = Broken (d.Source name file rate slack tags) in
-            let read = list_any (λ (s : Source). is_same_text (inside text file) s.file) x.sources in
+            let read = list_any (is_same_text (inside text file)) (filter_map file_of_source x.sources) in
             faults_where P (nat_lt 0 (length (inside text file))) (f.WrongShape file.from) (unless (not read) (f.TwiceNamed file.from) >> Ok (inside text file))
             (λ fails. no_file name file rate slack tags (is_empty (inside text file) fails))
             (λ yes. faults_where P (not read) (f.TwiceNamed file.from) (Ok (inside text file)) (λ fails. twice read refl fails)
             (λ own. no_fault P (inside text file)))
           where
-            twice : (b : Bool) → list_any (λ (s : Source). is_same_text (inside text file) s.file) x.sources ≡ b → not b ≡ false
+            twice : (b : Bool) → list_any (is_same_text (inside text file)) (filter_map file_of_source x.sources) ≡ b → not b ≡ false
                 → Broken (d.Source name file rate slack tags) (f.TwiceNamed file.from)
             twice false any fails = absurd cc
             twice true any fails =
@@ -362,6 +376,76 @@ module _ (text : List ℕ) (n : Naming) (all : Declarations) (know : KnowFamilie
             subst (λ (l : List WrittenTag). Broken (d.Source name file rate slack l) e) (sym found.is)
             (in_tags name file rate slack found.before found.after found.x e
             (tag_breaks (itags_in before) found.before found.state found.x means counted e found.fault))
+
+    -- ---- clocks
+
+    clock_breaks : (at : ℕ) (name : WrittenSpan) (every : WrittenNumber) (rate : Option WrittenNumber) (tag : WrittenSpan)
+        → FaultsAre (Broken (d.Clock at name every rate tag)) (with_clock text n x at name every rate tag)
+    unfolding with_clock each
+    clock_breaks at name every rate tag =
+        let P = Broken (d.Clock at name every rate tag) in
+        let made = λ (period a : ℕ) (listed : Listed). let r : Found Drafted = Ok (record x {
+          sources = x.sources ++ record { name = name_of text name; file = []; every = Some period; rate = a; slack = 0; tags = listed.tags } ∷ [];
+          itags = listed.itags;
+        }) in r in
+        let value = written_value every.value in
+        faults_where P (is_version_3 n) (f.WrongShape at)
+        (period_of every >>= λ period. rate_of rate >>= λ a. tick_of text n x.itags tag >>= λ l. made period a l)
+        (λ fails. clock_of_older at name every rate tag (λ third. not_both (n.version == 3) (eq_true n.version 3 third) fails))
+        (λ yes. faults_bind P (period_of every) (λ period. rate_of rate >>= λ a. tick_of text n x.itags tag >>= λ l. made period a l)
+        (faults_where P (nat_le 1 value && nat_le value (2 ^ 62)) (f.WrongShape every.at) (Ok value)
+        (λ fails. no_period at name every rate tag (out_of_period value fails)) (λ within. no_fault P value))
+        (λ period. faults_bind P (rate_of rate) (λ a. tick_of text n x.itags tag >>= λ l. made period a l) (rate_breaks rate)
+        (λ a. faults_bind P (tick_of text n x.itags tag) (λ l. made period a l) tick_breaks
+        (λ l. no_fault P (record x {
+          sources = x.sources ++ record { name = name_of text name; file = []; every = Some period; rate = a; slack = 0; tags = l.tags } ∷ [];
+          itags = l.itags;
+        })))))
+      where
+        out_of_period : (value : ℕ) → (nat_le 1 value && nat_le value (2 ^ 62)) ≡ false → (value < 1) ⊎ (2 ^ 62 < value)
+        out_of_period value fails = by (nat_le 1 value) refl fails
+          where
+            by : (b : Bool) → nat_le 1 value ≡ b → (b && nat_le value (2 ^ 62)) ≡ false → (value < 1) ⊎ (2 ^ 62 < value)
+            by false e fails = inl (not_most 1 value e)
+            by true e fails = inr (not_most value (2 ^ 62) fails)
+
+        rate_breaks : (rate : Option WrittenNumber) → FaultsAre (Broken (d.Clock at name every rate tag)) (rate_of rate)
+        rate_breaks None = no_fault (Broken (d.Clock at name every None tag)) 1
+        rate_breaks (Some m) =
+            let P = Broken (d.Clock at name every (Some m) tag) in
+            faults_where P (nat_le (written_value m.value) 1000000000) (f.OverLimit Rate (written_value m.value)) (Ok (written_value m.value))
+            (λ fails. high_rate_of_clock at name every m tag (not_most (written_value m.value) 1000000000 fails)) (λ yes. no_fault P (written_value m.value))
+
+        tag_breaks_alone : FaultsAre (BreaksTag text (flat_map (kinds_in text) all) (itags_in before) [] (alone tag)) (tags_of text n x.itags (alone tag ∷ []))
+        tag_breaks_alone =
+            let drafted = drafts.itags in
+            let sources = itags_counted (flat_map sources_in before) x.sources drafts.sources in
+            let counted : itags_in before + listed_itags [] ≡ x.itags = omega (arith, drafted, sources) in
+            let Q = BreaksTag text (flat_map (kinds_in text) all) (itags_in before) [] (alone tag) in
+            faults_bind Q (with_tag text n (record { tags = []; itags = x.itags }) (alone tag)) (λ s. each (with_tag text n) s [])
+            (tag_breaks (itags_in before) [] (record { tags = []; itags = x.itags }) (alone tag) tt counted) (λ s. no_fault Q s)
+
+        some_true : (a b c : Bool) → (not a && not b && not c) ≡ false → (a || b || c) ≡ true
+        some_true true b c e = refl
+        some_true false true c e = refl
+        some_true false false true e = refl
+        some_true false false false e = absurd cc
+
+        tick_breaks : FaultsAre (Broken (d.Clock at name every rate tag)) (tick_of text n x.itags tag)
+        tick_breaks =
+            let P = Broken (d.Clock at name every rate tag) in
+            let tags = tags_of text n x.itags (alone tag ∷ []) in
+            faults_found P (kind_of text n tag) (λ kind. unless (is_tick_head kind) (f.WrongShape tag.from) >> tags)
+            (known_where P tag.from (look_up (name_of text tag) n.kinds)
+            (λ none. in_tick at name every rate tag (f.UnknownName tag.from) (tag_unknown (none_declared tag none))))
+            (λ h is. faults_where P (is_tick_head h) (f.WrongShape tag.from) tags
+            (λ fails. (
+            let kind = kind_at tag h is in
+            no_tick at name every rate tag h.number kind.means
+            (some_true kind.means.kind.keyed kind.means.kind.has_item kind.means.kind.has_value
+            (ap is_tick_head kind.is ∙ fails))))
+            (λ yes. faults_weaker P (BreaksTag text (flat_map (kinds_in text) all) (itags_in before) [] (alone tag)) tags
+            (λ fault broken. in_tick at name every rate tag fault broken) tag_breaks_alone))
 
     -- ---- lists of names
 
@@ -478,6 +562,7 @@ module _ (text : List ℕ) (n : Naming) (all : Declarations) (know : KnowFamilie
     declaration_breaks (d.Depends a b relation) = depend_breaks a b relation
     declaration_breaks (d.On kind actions) = on_breaks kind actions
     declaration_breaks (d.Source name file rate slack tags) = source_breaks name file rate slack tags
+    declaration_breaks (d.Clock at name every rate tag) = clock_breaks at name every rate tag
 
 -- ---- names and the version
 
@@ -574,7 +659,17 @@ module _ (text : List ℕ) (job : WrittenJob) where
       (fresh_breaks done (d.Source s file rate slack tags) after is n named own s refl)
       (λ name. faults_where Job (nat_lt (length n.sources) 64) (f.OverLimit Sources 65) (Ok (made name))
       (λ fails. too_many_sources (over done (d.Source s file rate slack tags) after is n named own sources_in
-      (record { name = s; file = file; rate = rate; slack = slack; tags = tags }) refl 64 (length n.sources) count (not_less (length n.sources) 64 fails)))
+      (OfFile (record { name = s; file = file; rate = rate; slack = slack; tags = tags })) refl 64 (length n.sources) count
+      (not_less (length n.sources) 64 fails)))
+      (λ yes. no_fault Job (made name)))
+  declare_breaks done (d.Clock at s every rate tag) after is n named own =
+      let made = λ (name : List ℕ). record n { sources = n.sources ++ name ∷ [] } in
+      let count = ap length named.sources ∙ as_many_sources text done in
+      faults_bind Job (fresh_name text n s) (λ name. room Sources 64 (length n.sources) >> Ok (made name))
+      (fresh_breaks done (d.Clock at s every rate tag) after is n named own s refl)
+      (λ name. faults_where Job (nat_lt (length n.sources) 64) (f.OverLimit Sources 65) (Ok (made name))
+      (λ fails. too_many_sources (over done (d.Clock at s every rate tag) after is n named own sources_in
+      (OfClock (record { name = s; every = every; rate = rate; tag = tag })) refl 64 (length n.sources) count (not_less (length n.sources) 64 fails)))
       (λ yes. no_fault Job (made name)))
 
   naming_breaks : FaultsAre Job (naming_of text job.declarations)

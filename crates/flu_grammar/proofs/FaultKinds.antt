@@ -1,4 +1,6 @@
 -- Which faults the looks at a written job find: none of bytes, tokens or grammar.
+use Rattle.flu_model.specs.Rules.{file_of_source}
+use Rattle.std.specs.List.{filter_map}
 use Rattle.std.proofs.Common.{◌≡◌, ℕ, ◌+◌, ◌^◌, Bool, true, false, cond, List, [], ◌∷◌, ◌++◌, length, Option, Some, None, Ok, Err, refl, subst}
 use Rattle.std.specs.Prelude.{Result, is_some, not, ◌==◌, ◌&&◌, nat_lt, nat_le, position, if◌then◌else◌}
 use Rattle.std.specs.List.{list_any, list_all}
@@ -54,8 +56,9 @@ use Rattle.flu_parse.specs.Cells.{resolved_key, is_wanted, brackets_fit, family_
 use Rattle.flu_parse.specs.Terms.{height, is_item, op_fits, first_part, first_token, term_of, expression_of}
 use Rattle.flu_parse.specs.Templates.{template_at, known_name, known_names, piece_fits, family_piece, piece_of, pieces_of, may_be_printed, template_of}
 use Rattle.flu_parse.specs.Actions.{sort_for, act_with, clears_whole, resolved_act, guard_of, action_of, with_action, resolved_actions}
-use Rattle.flu_parse.specs.Listings.{are_bracketed, written_keys, keys_of, tag_count, Listed, with_tag, tags_of, rate_of, slack_of, file_of}
-use Rattle.flu_parse.specs.Resolving.{Drafted, same_of, with_depend, with_actions, with_on, with_source as with_source_of}
+use Rattle.flu_parse.specs.Listings.{are_bracketed, written_keys, keys_of, tag_count, Listed, with_tag, tags_of, rate_of, slack_of, file_of, period_of}
+use Rattle.flu_parse.specs.Listings.{is_tick_head, alone, tick_of}
+use Rattle.flu_parse.specs.Resolving.{Drafted, same_of, with_depend, with_actions, with_on, with_clock, with_source as with_source_of}
 use Rattle.flu_parse.specs.Resolving.{with_cell, with_tag as with_tag_of, with_names, cell_name_fits, item_word_fits, with_declaration, first_draft}
 use Rattle.flu_parse.specs.Resolving.{draft_of, version_of, ties_counted, ties_of, unit_named, found_unit, unit_of, iso_of}
 use Rattle.flu_parse.specs.Resolving.{job_with, resolved}
@@ -375,7 +378,7 @@ module _ (P : JobFault → Type 0) (plain : Plain P) where
 
       file_faults : (sources : List Source) (file : WrittenSpan) → FaultsAre P (file_of text sources file)
       file_faults sources file =
-          let own = not (list_any (λ (s : Source). is_same_text (inside text file) s.file) sources) in
+          let own = not (list_any (is_same_text (inside text file)) (filter_map file_of_source sources)) in
           faults_then P (unless (nat_lt 0 (length (inside text file))) (f.WrongShape file.from)) (unless own (f.TwiceNamed file.from) >> Ok (inside text file))
           (fault_unless P (nat_lt 0 (length (inside text file))) (f.WrongShape file.from) (plain.shape file.from))
           (faults_then P (unless own (f.TwiceNamed file.from)) (Ok (inside text file)) (fault_unless P own (f.TwiceNamed file.from) (twice file.from))
@@ -399,7 +402,7 @@ module _ (P : JobFault → Type 0) (plain : Plain P) where
       unfolding with_source_of
       source_faults x name file rate slack tags =
           let made = λ (bytes : List ℕ) (a b : ℕ) (listed : Listed). let r : Found Drafted = Ok (record x {
-            sources = x.sources ++ record { name = name_of text name; file = bytes; rate = a; slack = b; tags = listed.tags } ∷ [];
+            sources = x.sources ++ record { name = name_of text name; file = bytes; every = None; rate = a; slack = b; tags = listed.tags } ∷ [];
             itags = listed.itags;
           }) in r in
           faults_bind P (file_of text x.sources file)
@@ -410,7 +413,36 @@ module _ (P : JobFault → Type 0) (plain : Plain P) where
           (λ b. faults_bind P (tags_of text n x.itags tags) (λ l. made bytes a b l)
           (faults_each P (with_tag text n) tag_faults (record { tags = []; itags = x.itags }) tags)
           (λ l. no_fault P (record x {
-            sources = x.sources ++ record { name = name_of text name; file = bytes; rate = a; slack = b; tags = l.tags } ∷ [];
+            sources = x.sources ++ record { name = name_of text name; file = bytes; every = None; rate = a; slack = b; tags = l.tags } ∷ [];
+            itags = l.itags;
+          })))))
+
+      tick_faults : (itags : ℕ) (tag : WrittenSpan) → FaultsAre P (tick_of text n itags tag)
+      tick_faults itags tag =
+          let tags = tags_of text n itags (alone tag ∷ []) in
+          faults_bind P (kind_of text n tag) (λ kind. unless (is_tick_head kind) (f.WrongShape tag.from) >> tags) (kind_faults tag)
+          (λ kind. faults_then P (unless (is_tick_head kind) (f.WrongShape tag.from)) tags
+          (fault_unless P (is_tick_head kind) (f.WrongShape tag.from) (plain.shape tag.from))
+          (faults_each P (with_tag text n) tag_faults (record { tags = []; itags = itags }) (alone tag ∷ [])))
+
+      clock_faults : (x : Drafted) (at : ℕ) (name : WrittenSpan) (every : WrittenNumber) (rate : Option WrittenNumber) (tag : WrittenSpan)
+          → FaultsAre P (with_clock text n x at name every rate tag)
+      unfolding with_clock
+      clock_faults x at name every rate tag =
+          let made = λ (period a : ℕ) (listed : Listed). let r : Found Drafted = Ok (record x {
+            sources = x.sources ++ record { name = name_of text name; file = []; every = Some period; rate = a; slack = 0; tags = listed.tags } ∷ [];
+            itags = listed.itags;
+          }) in r in
+          let value = written_value every.value in
+          faults_then P (unless (is_version_3 n) (f.WrongShape at))
+          (period_of every >>= λ period. rate_of rate >>= λ a. tick_of text n x.itags tag >>= λ l. made period a l)
+          (fault_unless P (is_version_3 n) (f.WrongShape at) (plain.shape at))
+          (faults_bind P (period_of every) (λ period. rate_of rate >>= λ a. tick_of text n x.itags tag >>= λ l. made period a l)
+          (shape_faults (nat_le 1 value && nat_le value (2 ^ 62)) every.at value)
+          (λ period. faults_bind P (rate_of rate) (λ a. tick_of text n x.itags tag >>= λ l. made period a l) (rate_faults rate)
+          (λ a. faults_bind P (tick_of text n x.itags tag) (λ l. made period a l) (tick_faults x.itags tag)
+          (λ l. no_fault P (record x {
+            sources = x.sources ++ record { name = name_of text name; file = []; every = Some period; rate = a; slack = 0; tags = l.tags } ∷ [];
             itags = l.itags;
           })))))
 
@@ -477,6 +509,7 @@ module _ (P : JobFault → Type 0) (plain : Plain P) where
       declaration_faults x (d.Depends a b relation) = depend_faults x a b relation
       declaration_faults x (d.On kind actions) = on_faults x kind actions
       declaration_faults x (d.Source name file rate slack tags) = source_faults x name file rate slack tags
+      declaration_faults x (d.Clock at name every rate tag) = clock_faults x at name every rate tag
 
       pub draft_faults : (ds : Declarations) → FaultsAre P (draft_of text n ds)
       draft_faults ds = faults_each P (with_declaration text n) declaration_faults (first_draft n) ds
@@ -515,6 +548,10 @@ module _ (P : JobFault → Type 0) (plain : Plain P) where
     declare_faults n (d.Depends a b relation) = room_faults Depends 4096 n.depends (record n { depends = n.depends + 1 }) tt
     declare_faults n (d.On kind actions) = no_fault P n
     declare_faults n (d.Source s file rate slack tags) =
+        faults_bind P (fresh_name text n s) (λ name. room Sources 64 (length n.sources) >> Ok (record n { sources = n.sources ++ name ∷ [] }))
+        (fresh_faults n s)
+        (λ name. room_faults Sources 64 (length n.sources) (record n { sources = n.sources ++ name ∷ [] }) tt)
+    declare_faults n (d.Clock at s every rate tag) =
         faults_bind P (fresh_name text n s) (λ name. room Sources 64 (length n.sources) >> Ok (record n { sources = n.sources ++ name ∷ [] }))
         (fresh_faults n s)
         (λ name. room_faults Sources 64 (length n.sources) (record n { sources = n.sources ++ name ∷ [] }) tt)

@@ -183,6 +183,10 @@ module _ (text : List ℕ) where
       let fault = fresh_fault n s 64 (length n.sources) (λ name. record n { sources = n.sources ++ name ∷ [] }) Sources at e in
       let before = declared_before done n (name_of text s) named fault.0 in
       record { name = s; named = refl; here = fault.1; place = before.0; earlier = before.1 }
+  again done n (d.Clock place s every rate tag) at named e =
+      let fault = fresh_fault n s 64 (length n.sources) (λ name. record n { sources = n.sources ++ name ∷ [] }) Sources at e in
+      let before = declared_before done n (name_of text s) named fault.0 in
+      record { name = s; named = refl; here = fault.1; place = before.0; earlier = before.1 }
 
   -- the first look of a loop that finds a fault
   first_twice : (done ds : Declarations) (n : Naming) (at : ℕ) → Named text done n → OwnNames text done → each (declare text) n ds ≡ Err (j.TwiceNamed at)

@@ -1,4 +1,11 @@
 -- The declarations of a job, looked at in order: what is found of them is what they mean, and the other way round.
+use Rattle.flu_grammar.proofs.JobSources.{clock_is}
+use Rattle.flu_layout.specs.Spelling.{written_value}
+use Rattle.flu_parse.specs.Resolving.{with_clock}
+use Rattle.std.proofs.lemmas.List.Elements.{filter_map-append}
+use Rattle.std.specs.List.{cons_option}
+use Rattle.flu_model.specs.Rules.{file_of_source}
+use Rattle.std.specs.List.{filter_map}
 use Rattle.std.proofs.Common.{◌≡◌, ◌≢◌, inl, inr, ℕ, zero, suc, ◌+◌, ◌≤◌, Bool, true, false, List, [], ◌∷◌, ◌++◌, map}
 use Rattle.std.proofs.Common.{length, Option, Some, None, Ok, refl, sym, ap, subst, ◌∙◌, append_assoc, arith}
 use Rattle.std.specs.Prelude.{not, ◌==◌, slice_get, is_some, if◌then◌else◌, codes}
@@ -40,9 +47,10 @@ use Rattle.flu_parse.specs.Resolving.{Drafted, with_depend, with_actions, with_o
 use Rattle.flu_parse.specs.Resolving.{with_names, with_declaration, idle_kind, first_draft, draft_of}
 use Rattle.flu_grammar.specs.Means.{AllDiffer, IfWritten, IsNamed}
 use Rattle.flu_grammar.specs.Actions.{MeansAction}
-use Rattle.flu_grammar.specs.Declared.{DeclaredKind, under_kind, IsDeclaredIn, WrittenDepend, WrittenSource, WrittenNames, depends_in, ons_in, actions_in}
+use Rattle.flu_grammar.specs.Declared.{DeclaredKind, under_kind, IsDeclaredIn, WrittenDepend, WrittenSource, WrittenClock, WrittenFeed, OfFile, OfClock}
+use Rattle.flu_grammar.specs.Declared.{WrittenNames, depends_in, ons_in, actions_in}
 use Rattle.flu_grammar.specs.Declared.{sources_in, lists_in, family_lists_in, kind_lists_in}
-use Rattle.flu_grammar.specs.Sources.{MeansDepend, MeansSource}
+use Rattle.flu_grammar.specs.Sources.{MeansDepend, MeansFeed}
 use Rattle.flu_grammar.specs.Jobs.{MeansNames, MeansList, MeansDeclaredKind}
 use Rattle.flu_grammar.proofs.Lists.{some_same, no_some, get_map, get_unmap, differ_none, differ_tail, differ_head, differ_push, pairs_left, pairs_push}
 use Rattle.flu_grammar.proofs.Looks.{ok_same, passed}
@@ -68,6 +76,7 @@ module _ (text : List ℕ) where
   no_actions name (d.Names at s texts ∷ ds) none = no_actions name ds none
   no_actions name (d.Depends a b relation ∷ ds) none = no_actions name ds none
   no_actions name (d.Source s file rate slack tags ∷ ds) none = no_actions name ds none
+  no_actions name (d.Clock at s every rate tag ∷ ds) none = no_actions name ds none
   no_actions name (d.On kind actions ∷ ds) none =
       let other : bytes_eq (name_of text kind) name ≡ false = false_if_not (bytes_eq (name_of text kind) name)
       (λ same. none 0 (ap (λ (n : List ℕ). Some n) (bytes_is (name_of text kind) name same))) in
@@ -97,8 +106,8 @@ module _ (text : List ℕ) (n : Naming) (families : List Family) (kinds : List D
     pub given : Pairs IsGiven (flat_map (ons_in text) done) x.given
     pub own_ons : AllDiffer (flat_map (ons_in text) done)
     pub depends : Pairs (MeansDepend text kinds) (flat_map depends_in done) x.depends
-    pub sources : Pairs (MeansSource text kinds) (flat_map sources_in done) x.sources
-    pub own_files : AllDiffer (map (λ (s : Source). s.file) x.sources)
+    pub sources : Pairs (MeansFeed text kinds) (flat_map sources_in done) x.sources
+    pub own_files : AllDiffer (filter_map file_of_source x.sources)
     pub itags : x.itags ≡ itag_count x.sources
     pub allowed : (i : ℕ) (y : Declaration) → slice_get done i ≡ Some y → IsDeclaredIn text n.version y
     pub few_itags : x.itags ≤ 256
@@ -251,7 +260,7 @@ module _ (text : List ℕ) (n : Naming) (families : List Family) (kinds : List D
         own_ons = subst (λ (l : List (List ℕ)). AllDiffer l) (sym (grown text (ons_in text) done on)) (differ_push (flat_map
             (ons_in text) done) name new is.own_ons);
         depends = subst (λ (l : List WrittenDepend). Pairs (MeansDepend text kinds) l x.depends) (unchanged text depends_in done on refl) is.depends;
-        sources = subst (λ (l : List WrittenSource). Pairs (MeansSource text kinds) l x.sources) (unchanged text sources_in done on refl) is.sources;
+        sources = subst (λ (l : List WrittenFeed). Pairs (MeansFeed text kinds) l x.sources) (unchanged text sources_in done on refl) is.sources;
         own_files = is.own_files;
         itags = is.itags;
         allowed = allowed_more done on is.allowed tt;
@@ -281,7 +290,7 @@ module _ (text : List ℕ) (n : Naming) (families : List Family) (kinds : List D
     given = subst (λ (l : List (List ℕ)). Pairs IsGiven l x.given) (unchanged text (ons_in text) done y no_on) is.given;
     own_ons = subst (λ (l : List (List ℕ)). AllDiffer l) (unchanged text (ons_in text) done y no_on) is.own_ons;
     depends = subst (λ (l : List WrittenDepend). Pairs (MeansDepend text kinds) l x.depends) (unchanged text depends_in done y no_depend) is.depends;
-    sources = subst (λ (l : List WrittenSource). Pairs (MeansSource text kinds) l x.sources) (unchanged text sources_in done y no_source) is.sources;
+    sources = subst (λ (l : List WrittenFeed). Pairs (MeansFeed text kinds) l x.sources) (unchanged text sources_in done y no_source) is.sources;
     own_files = is.own_files;
     itags = is.itags;
     allowed = allowed_more done y is.allowed has;
@@ -352,7 +361,7 @@ module _ (text : List ℕ) (n : Naming) (families : List Family) (kinds : List D
         depends =
             subst (λ (l : List WrittenDepend). Pairs (MeansDepend text kinds) l (x.depends ++ one.0 ∷ [])) (sym (grown text depends_in done y))
             (pairs_push (MeansDepend text kinds) (flat_map depends_in done) x.depends v one.0 is.depends one.1);
-        sources = subst (λ (l : List WrittenSource). Pairs (MeansSource text kinds) l x.sources) (unchanged text sources_in done y refl) is.sources;
+        sources = subst (λ (l : List WrittenFeed). Pairs (MeansFeed text kinds) l x.sources) (unchanged text sources_in done y refl) is.sources;
         own_files = is.own_files;
         itags = is.itags;
         allowed = allowed_more done y is.allowed tt;
@@ -360,14 +369,30 @@ module _ (text : List ℕ) (n : Naming) (families : List Family) (kinds : List D
       } in
       subst (λ (z : Drafted). Drafts (done ++ y ∷ []) z) one.2 drafts
 
-  file_new : (ss : List Source) (s : Source) → list_any (λ (z : Source). is_same_text s.file z.file) ss ≡ false → AllDiffer (map (λ (z : Source). z.file) ss)
-      → AllDiffer (map (λ (z : Source). z.file) (ss ++ s ∷ []))
-  file_new ss s new own =
-      subst (λ (l : List (List ℕ)). AllDiffer l) (sym (map-append (λ (z : Source). z.file) ss (s ∷ [])))
-      (differ_push (map (λ (z : Source). z.file) ss) s.file (λ i at. (
-      let got = get_unmap (λ (z : Source). z.file) ss i s.file at in
-      not_both (is_same_text s.file (got.0).file) (subst (λ (z : List ℕ). is_same_text s.file z ≡ true) (sym got.2) (bytes_itself s.file))
-      (fails_at (λ (z : Source). is_same_text s.file z.file) ss i got.0 new got.1))) own)
+  -- which sources have a file
+  pub has_file : (s : Source) → s.every ≡ None → file_of_source s ≡ Some s.file
+  has_file s none = ap (λ (o : Option ℕ). if is_some o then None else Some s.file) none
+
+  pub has_none : (s : Source) (every : ℕ) → s.every ≡ Some every → file_of_source s ≡ None
+  has_none s every some = ap (λ (o : Option ℕ). if is_some o then None else Some s.file) some
+
+  file_new : (ss : List Source) (s : Source) → file_of_source s ≡ Some s.file → list_any (is_same_text s.file) (filter_map file_of_source ss) ≡ false
+      → AllDiffer (filter_map file_of_source ss) → AllDiffer (filter_map file_of_source (ss ++ s ∷ []))
+  file_new ss s has new own =
+      let files : List (List ℕ) = filter_map file_of_source ss in
+      let more : filter_map file_of_source (ss ++ s ∷ []) ≡ files ++ s.file ∷ [] =
+      filter_map-append file_of_source ss (s ∷ []) ∙ ap (λ (o : Option (List ℕ)). files ++ cons_option o []) has in
+      subst (λ (l : List (List ℕ)). AllDiffer l) (sym more)
+      (differ_push files s.file (λ i at.
+      not_both (is_same_text s.file s.file) (bytes_itself s.file) (fails_at (is_same_text s.file) files i s.file new at)) own)
+
+  no_file_new : (ss : List Source) (s : Source) → file_of_source s ≡ None → AllDiffer (filter_map file_of_source ss)
+      → AllDiffer (filter_map file_of_source (ss ++ s ∷ []))
+  no_file_new ss s none own =
+      let files : List (List ℕ) = filter_map file_of_source ss in
+      let more : filter_map file_of_source (ss ++ s ∷ []) ≡ files =
+      filter_map-append file_of_source ss (s ∷ []) ∙ ap (λ (o : Option (List ℕ)). files ++ cons_option o []) none ∙ append-nil files in
+      subst (λ (l : List (List ℕ)). AllDiffer l) (sym more) own
 
   source_next : (done : Declarations) (x more : Drafted) (name file : WrittenSpan) (rate slack : Option WrittenNumber) (tags : List WrittenTag) → Drafts done x
       → with_source text n x name file rate slack tags ≡ Ok more → Drafts (done ++ d.Source name file rate slack tags ∷ []) more
@@ -387,11 +412,39 @@ module _ (text : List ℕ) (n : Naming) (families : List Family) (kinds : List D
         own_ons = subst (λ (l : List (List ℕ)). AllDiffer l) (unchanged text (ons_in text) done y refl) is.own_ons;
         depends = subst (λ (l : List WrittenDepend). Pairs (MeansDepend text kinds) l x.depends) (unchanged text depends_in done y refl) is.depends;
         sources =
-            subst (λ (l : List WrittenSource). Pairs (MeansSource text kinds) l (x.sources ++ s ∷ [])) (sym (grown text sources_in done y))
-            (pairs_push (MeansSource text kinds) (flat_map sources_in done) x.sources v s is.sources one.means);
-        own_files = file_new x.sources s one.own_file is.own_files;
+            subst (λ (l : List WrittenFeed). Pairs (MeansFeed text kinds) l (x.sources ++ s ∷ [])) (sym (grown text sources_in done y))
+            (pairs_push (MeansFeed text kinds) (flat_map sources_in done) x.sources (OfFile v) s is.sources one.means);
+        own_files = file_new x.sources s (has_file s one.means.no_period) one.own_file is.own_files;
         itags = omega (arith, count, before);
         allowed = allowed_more done y is.allowed tt;
+        few_itags = one.few is.few_itags;
+      } in
+      subst (λ (z : Drafted). Drafts (done ++ y ∷ []) z) one.is drafts
+
+  clock_next : (done : Declarations) (x more : Drafted) (place : ℕ) (name : WrittenSpan) (every : WrittenNumber) (rate : Option WrittenNumber)
+      (tag : WrittenSpan) → Drafts done x
+      → with_clock text n x place name every rate tag ≡ Ok more → Drafts (done ++ d.Clock place name every rate tag ∷ []) more
+  clock_next done x more place name every rate tag is e =
+      let y = d.Clock place name every rate tag in
+      let v : WrittenClock = record { name = name; every = every; rate = rate; tag = tag } in
+      let one = clock_is text n kinds knows x place v more e in
+      let s = one.source in
+      let count = total-append (λ (z : Source). total part_count z.tags) x.sources (s ∷ []) in
+      let before = is.itags in
+      let drafts : Drafts (done ++ y ∷ []) (with_one_source text n kinds knows x s) = record {
+        lists = kept (MeansNames text) lists_in done y x.lists refl is.lists;
+        family_lists = kept IsList family_lists_in done y x.family_lists refl is.family_lists;
+        kind_lists = kept IsList kind_lists_in done y x.kind_lists refl is.kind_lists;
+        kinds_are = kinds_kept done y kinds x.kinds (λ i k at. refl) is.kinds_are;
+        given = subst (λ (l : List (List ℕ)). Pairs IsGiven l x.given) (unchanged text (ons_in text) done y refl) is.given;
+        own_ons = subst (λ (l : List (List ℕ)). AllDiffer l) (unchanged text (ons_in text) done y refl) is.own_ons;
+        depends = subst (λ (l : List WrittenDepend). Pairs (MeansDepend text kinds) l x.depends) (unchanged text depends_in done y refl) is.depends;
+        sources =
+            subst (λ (l : List WrittenFeed). Pairs (MeansFeed text kinds) l (x.sources ++ s ∷ [])) (sym (grown text sources_in done y))
+            (pairs_push (MeansFeed text kinds) (flat_map sources_in done) x.sources (OfClock v) s is.sources one.means);
+        own_files = no_file_new x.sources s (has_none s (written_value every.value) one.means.period) is.own_files;
+        itags = omega (arith, count, before);
+        allowed = allowed_more done y is.allowed one.third;
         few_itags = one.few is.few_itags;
       } in
       subst (λ (z : Drafted). Drafts (done ++ y ∷ []) z) one.is drafts
@@ -405,6 +458,7 @@ module _ (text : List ℕ) (n : Naming) (families : List Family) (kinds : List D
   drafts_next done x more (d.Depends a b relation) is e = depend_next done x more a b relation is e
   drafts_next done x more (d.On kind actions) is e = on_next done x more kind actions is e
   drafts_next done x more (d.Source name file rate slack tags) is e = source_next done x more name file rate slack tags is e
+  drafts_next done x more (d.Clock at name every rate tag) is e = clock_next done x more at name every rate tag is e
 
   pub drafts_all : (done ds : Declarations) (x more : Drafted) → Drafts done x → each (with_declaration text n) x ds ≡ Ok more → Drafts (done ++ ds) more
   unfolding each

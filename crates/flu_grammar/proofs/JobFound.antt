@@ -1,4 +1,12 @@
 -- A job that is written is found: each declaration passes, and what is found is the job.
+use Rattle.flu_grammar.proofs.JobDrafts.{has_file}
+use Rattle.flu_grammar.proofs.JobSources.{clock_found}
+use Rattle.flu_model.specs.declared.jobs.Keys.TheVariants.{Alone}
+use Rattle.flu_parse.specs.Resolving.{with_clock}
+use Rattle.std.proofs.lemmas.List.Elements.{filter_map-append}
+use Rattle.std.specs.List.{cons_option}
+use Rattle.flu_model.specs.Rules.{file_of_source}
+use Rattle.std.specs.List.{filter_map}
 use Rattle.std.proofs.Common.{◌≡◌, ◌≢◌, ℕ, suc, ◌+◌, ◌≤◌, Bool, true, false, List, [], ◌∷◌, ◌++◌, map, length}
 use Rattle.std.proofs.Common.{Option, Some, None, Ok, refl, sym, ap, subst, ◌∙◌, append_assoc, arith}
 use Rattle.std.specs.Prelude.{not, ◌==◌, slice_get, is_some, codes}
@@ -38,9 +46,10 @@ use Rattle.flu_parse.specs.Resolving.{Drafted, with_depend, with_actions, with_o
 use Rattle.flu_parse.specs.Resolving.{with_names, with_declaration, first_draft, draft_of}
 use Rattle.flu_grammar.specs.Means.{AllDiffer, IfWritten, IsNamed}
 use Rattle.flu_grammar.specs.Actions.{MeansAction}
-use Rattle.flu_grammar.specs.Declared.{DeclaredKind, under_kind, IsListIn, IsDeclaredIn, WrittenDepend, WrittenSource, WrittenNames, depends_in, ons_in}
+use Rattle.flu_grammar.specs.Declared.{DeclaredKind, under_kind, IsListIn, IsDeclaredIn, WrittenDepend, WrittenSource, WrittenClock, WrittenFeed, OfFile}
+use Rattle.flu_grammar.specs.Declared.{OfClock, WrittenNames, depends_in, ons_in}
 use Rattle.flu_grammar.specs.Declared.{actions_in, sources_in, lists_in, family_lists_in, kind_lists_in}
-use Rattle.flu_grammar.specs.Sources.{MeansKind, MeansDepend, MeansTag, MeansNumber, MeansSource}
+use Rattle.flu_grammar.specs.Sources.{MeansKind, MeansDepend, MeansTag, MeansNumber, MeansSource, MeansClock, MeansFeed}
 use Rattle.flu_grammar.specs.Jobs.{MeansNames, MeansList, MeansDeclaredKind}
 use Rattle.flu_grammar.proofs.Lists.{some_same, get_behind, get_front, get_below, get_map, any_none, pairs_left, pairs_right, pairs_length}
 use Rattle.flu_grammar.proofs.Lists.{pairs_split, pairs_same}
@@ -87,8 +96,8 @@ module _ (text : List ℕ) (n : Naming) (families : List Family) (kinds : List D
     pub known_ons : (i : ℕ) (name : List ℕ) → slice_get (flat_map (ons_in text) all) i ≡ Some name → (number : ℕ) × IsNamed kind_name kinds name number
     pub own_ons : AllDiffer (flat_map (ons_in text) all)
     pub depends_are : Pairs (MeansDepend text kinds) (flat_map depends_in all) parts.depends
-    pub sources_are : Pairs (MeansSource text kinds) (flat_map sources_in all) parts.sources
-    pub own_files : AllDiffer (map (λ (s : Source). s.file) parts.sources)
+    pub sources_are : Pairs (MeansFeed text kinds) (flat_map sources_in all) parts.sources
+    pub own_files : AllDiffer (filter_map file_of_source parts.sources)
     pub few_itags : itag_count parts.sources ≤ 256
 
   -- ---- what is meant is one thing
@@ -117,7 +126,23 @@ module _ (text : List ℕ) (n : Naming) (families : List Family) (kinds : List D
       let slack = number_same 0 60000 v.slack a.slack b.slack x.slack y.slack in
       let name : a.name ≡ b.name = x.name ∙ sym y.name in
       let file : a.file ≡ b.file = x.file ∙ sym y.file in
-      λ i. record { name = name i; file = file i; rate = rate i; slack = slack i; tags = tags i }
+      let every : a.every ≡ b.every = x.no_period ∙ sym y.no_period in
+      λ i. record { name = name i; file = file i; every = every i; rate = rate i; slack = slack i; tags = tags i }
+
+  clock_same : (v : WrittenClock) (a b : Source) → MeansClock text kinds v a → MeansClock text kinds v b → a ≡ b
+  clock_same v a b x y =
+      let number = kind_same v.tag x.number y.number x.kind y.kind in
+      let tags : a.tags ≡ b.tags = x.tags ∙ ap (λ (m : ℕ). record { kind = m; keys = Alone } ∷ []) number ∙ sym y.tags in
+      let rate = number_same 1 1000000000 v.rate a.rate b.rate x.rate y.rate in
+      let slack : a.slack ≡ b.slack = x.slack ∙ sym y.slack in
+      let name : a.name ≡ b.name = x.name ∙ sym y.name in
+      let file : a.file ≡ b.file = x.no_file ∙ sym y.no_file in
+      let every : a.every ≡ b.every = x.period ∙ sym y.period in
+      λ i. record { name = name i; file = file i; every = every i; rate = rate i; slack = slack i; tags = tags i }
+
+  feed_same : (w : WrittenFeed) (a b : Source) → MeansFeed text kinds w a → MeansFeed text kinds w b → a ≡ b
+  feed_same (OfFile v) a b x y = source_same v a b x y
+  feed_same (OfClock v) a b x y = clock_same v a b x y
 
   no_draft : Drafted
   no_draft = record { lists = []; family_lists = []; kind_lists = []; kinds = []; given = []; depends = []; sources = []; itags = 0 }
@@ -173,36 +198,59 @@ module _ (text : List ℕ) (n : Naming) (families : List Family) (kinds : List D
         (d.Depends a b relation)) aim.depends_are) in
         (with_one_depend text n kinds knows x split.one, depend_found text n kinds knows x v split.one split.here)
 
+    -- the sources before one are those of the declarations before it
+    record FeedSplit (w : WrittenFeed) (parts : Parts) : Type 0 where
+      one : Source
+      back : List Source
+      here : MeansFeed text kinds w one
+      whole : parts.sources ≡ x.sources ++ one ∷ back
+      few : x.itags + total part_count one.tags ≤ 256
+
+    feed_split : (w : WrittenFeed) (y : Declaration) → sources_in y ≡ w ∷ [] → (parts : Parts) → Aim (done ++ y ∷ rest) parts → FeedSplit w parts
+    feed_split w y gives parts aim =
+        let all : flat_map sources_in (done ++ y ∷ rest) ≡ flat_map sources_in done ++ w ∷ flat_map sources_in rest =
+        split_more text sources_in done rest y ∙ ap (λ (l : List WrittenFeed). flat_map sources_in done ++ (l ++ flat_map sources_in rest)) gives in
+        let split = pairs_split (MeansFeed text kinds) (flat_map sources_in done) w (flat_map sources_in rest) parts.sources
+        (subst (λ (l : List WrittenFeed). Pairs (MeansFeed text kinds) l parts.sources) all aim.sources_are) in
+        let s = split.one in
+        let front : x.sources ≡ split.front = pairs_same (MeansFeed text kinds) feed_same
+        (flat_map sources_in done) x.sources split.front drafts.sources split.left in
+        let whole : parts.sources ≡ x.sources ++ s ∷ split.back = split.is ∙ ap (λ (l : List Source). l ++ s ∷ split.back) (sym front) in
+        let counted = ap itag_count whole in
+        let sum = total-append (λ (z : Source). total part_count z.tags) x.sources (s ∷ split.back) in
+        let most = aim.few_itags in
+        let before = drafts.itags in
+        record { one = s; back = split.back; here = split.here; whole = whole; few = omega (arith, counted, sum, most, before) }
+
     source_passes : (v : WrittenSource) (parts : Parts)
         → Aim (done ++ d.Source v.name v.file v.rate v.slack v.tags ∷ rest) parts
         → (more : Drafted) × (with_source text n x v.name v.file v.rate v.slack v.tags ≡ Ok more)
     source_passes v parts aim =
-        let split = pairs_split (MeansSource text kinds) (flat_map sources_in done) v (flat_map sources_in rest) parts.sources
-        (subst (λ (l : List WrittenSource). Pairs (MeansSource text kinds) l parts.sources)
-        (split_more text sources_in done rest (d.Source v.name v.file v.rate v.slack v.tags)) aim.sources_are) in
+        let split = feed_split (OfFile v) (d.Source v.name v.file v.rate v.slack v.tags) refl parts aim in
         let s = split.one in
-        let front : x.sources ≡ split.front = pairs_same (MeansSource text kinds) source_same
-        (flat_map sources_in done) x.sources split.front drafts.sources split.left in
-        let whole : parts.sources ≡ x.sources ++ s ∷ split.back = split.is ∙ ap (λ (l : List Source). l ++ s ∷ split.back) (sym front) in
-        let file = λ (z : Source). z.file in
-        let files : AllDiffer (map (λ (z : Source). z.file) x.sources ++ s.file ∷ map (λ (z : Source). z.file) split.back) =
-        subst (λ (l : List (List ℕ)). AllDiffer l) (ap (map (λ (z : Source). z.file)) whole ∙ map-append (λ (z : Source). z.file) x.sources
-        (s ∷ split.back)) aim.own_files in
-        let new : list_any (λ (z : Source). is_same_text s.file z.file) x.sources ≡ false = any_none (λ (z : Source). is_same_text s.file z.file) x.sources
+        let before : List (List ℕ) = filter_map file_of_source x.sources in
+        let behind : List (List ℕ) = filter_map file_of_source split.back in
+        let all : filter_map file_of_source parts.sources ≡ before ++ s.file ∷ behind =
+        ap (filter_map file_of_source) split.whole ∙ filter_map-append file_of_source x.sources (s ∷ split.back)
+        ∙ ap (λ (o : Option (List ℕ)). before ++ cons_option o behind) (has_file text n families kinds know knows s split.here.no_period) in
+        let files : AllDiffer (before ++ s.file ∷ behind) = subst (λ (l : List (List ℕ)). AllDiffer l) all aim.own_files in
+        let new : list_any (is_same_text s.file) before ≡ false = any_none (is_same_text s.file) before
         (λ i z at.
-        false_if_not (is_same_text s.file z.file) (λ same. (
-        let here = get_map (λ (y : Source). y.file) x.sources i z at in
-        let place : i ≡ length (map (λ (y : Source). y.file) x.sources) = files i (length (map (λ (y : Source). y.file) x.sources)) s.file
-        (get_front (map (λ (y : Source). y.file) x.sources) (s.file ∷ map (λ (y : Source). y.file) split.back) i z.file here
-        ∙ ap (λ (l : List ℕ). Some l) (sym (bytes_is s.file z.file same)))
-        (slice_get-behind (map (λ (y : Source). y.file) x.sources) s.file (map (λ (y : Source). y.file) split.back)) in
-        let below = get_below (map (λ (y : Source). y.file) x.sources) i z.file here in
+        false_if_not (is_same_text s.file z) (λ same. (
+        let place : i ≡ length before = files i (length before) s.file
+        (get_front before (s.file ∷ behind) i z at ∙ ap (λ (l : List ℕ). Some l) (sym (bytes_is s.file z same)))
+        (slice_get-behind before s.file behind) in
+        let below = get_below before i z at in
         omega (arith, place, below)))) in
-        let all = ap itag_count whole in
-        let parts = total-append (λ (z : Source). total part_count z.tags) x.sources (s ∷ split.back) in
-        let most = aim.few_itags in
-        let before = drafts.itags in
-        (with_one_source text n kinds knows x s, source_found text n kinds knows x v s split.here new (omega (arith, all, parts, most, before)))
+        (with_one_source text n kinds knows x s, source_found text n kinds knows x v s split.here new split.few)
+
+    clock_passes : (at : ℕ) (v : WrittenClock) (parts : Parts) → Aim (done ++ d.Clock at v.name v.every v.rate v.tag ∷ rest) parts
+        → (more : Drafted) × (with_clock text n x at v.name v.every v.rate v.tag ≡ Ok more)
+    clock_passes at v parts aim =
+        let y = d.Clock at v.name v.every v.rate v.tag in
+        let third : n.version ≡ 3 = aim.allowed (length done) y (slice_get-behind done y rest) in
+        let split = feed_split (OfClock v) y refl parts aim in
+        (with_one_source text n kinds knows x split.one, clock_found text n kinds knows x at v split.one split.here third split.few)
 
     on_passes : (kind : WrittenSpan) (actions : List Action) (parts : Parts)
         → Aim (done ++ d.On kind actions ∷ rest) parts → (more : Drafted) × (with_on text n x kind actions ≡ Ok more)
@@ -317,6 +365,8 @@ module _ (text : List ℕ) (n : Naming) (families : List Family) (kinds : List D
     declaration_passes (d.On kind actions) parts aim = on_passes kind actions parts aim
     declaration_passes (d.Source name file rate slack tags) parts aim =
         source_passes (record { name = name; file = file; rate = rate; slack = slack; tags = tags }) parts aim
+    declaration_passes (d.Clock at name every rate tag) parts aim =
+        clock_passes at (record { name = name; every = every; rate = rate; tag = tag }) parts aim
 
   all_pass : (done ds : Declarations) (x : Drafted) (parts : Parts) → Aim (done ++ ds) parts
       → Drafts text n families kinds know knows done x → (more : Drafted) × (each (with_declaration text n) x ds ≡ Ok more)
@@ -356,5 +406,5 @@ module _ (text : List ℕ) (n : Naming) (families : List Family) (kinds : List D
             pairs_length (MeansDeclaredKind text n.version families ds) kinds got.0.kinds is.kinds_are
             ∙ sym (pairs_length (MeansDeclaredKind text n.version families ds) kinds parts.kinds aim.kinds_are);
         depends_are = pairs_same (MeansDepend text kinds) depend_same (flat_map depends_in ds) got.0.depends parts.depends is.depends aim.depends_are;
-        sources_are = pairs_same (MeansSource text kinds) source_same (flat_map sources_in ds) got.0.sources parts.sources is.sources aim.sources_are;
+        sources_are = pairs_same (MeansFeed text kinds) feed_same (flat_map sources_in ds) got.0.sources parts.sources is.sources aim.sources_are;
       }

@@ -25,7 +25,8 @@ use Rattle.flu_parse.specs.Naming.{Naming, has_keys, look_up, is_declared, fresh
 use Rattle.flu_parse.specs.Naming.{naming_of}
 use Rattle.flu_grammar.specs.Means.{AllDiffer}
 use Rattle.flu_grammar.specs.Cells.{family_name}
-use Rattle.flu_grammar.specs.Declared.{DeclaredKind, WrittenDepend, WrittenSource, WrittenNames, names_in, families_in, kinds_in, depends_in, sources_in}
+use Rattle.flu_grammar.specs.Declared.{DeclaredKind, WrittenDepend, WrittenFeed, feed_name, WrittenNames, names_in, families_in, kinds_in, depends_in}
+use Rattle.flu_grammar.specs.Declared.{sources_in}
 use Rattle.flu_grammar.specs.Declared.{lists_in, list_names}
 use Rattle.flu_grammar.proofs.Lists.{get_front, get_below, differ_none, differ_push, any_none}
 use Rattle.flu_grammar.proofs.Looks.{ok_same, passed, passes, binds}
@@ -54,6 +55,7 @@ next text n (d.Names at s texts) = record n { lists = n.lists ++ name_of text s 
 next text n (d.Depends a b relation) = record n { depends = n.depends + 1 }
 next text n (d.On kind actions) = n
 next text n (d.Source s file rate slack tags) = record n { sources = n.sources ++ name_of text s ∷ [] }
+next text n (d.Clock at s every rate tag) = record n { sources = n.sources ++ name_of text s ∷ [] }
 
 -- what is looked at before
 abbrev pub Checks : List ℕ → Naming → Declaration → Type 0
@@ -63,6 +65,7 @@ Checks text n (d.Names at s texts) = (is_declared n (name_of text s) ≡ false) 
 Checks text n (d.Depends a b relation) = n.depends < 4096
 Checks text n (d.On kind actions) = Unit {0}
 Checks text n (d.Source s file rate slack tags) = (is_declared n (name_of text s) ≡ false) × (length n.sources < 64)
+Checks text n (d.Clock at s every rate tag) = (is_declared n (name_of text s) ≡ false) × (length n.sources < 64)
 
 fresh_is : (text : List ℕ) (n : Naming) (s : WrittenSpan) (name : List ℕ) → fresh_name text n s ≡ Ok name
     → (is_declared n (name_of text s) ≡ false) × (name_of text s ≡ name)
@@ -113,6 +116,12 @@ declare_is text n (d.Source s file rate slack tags) m e =
     let free = fresh_is text n s one.0 one.1 in
     let two = passed (nat_lt (length n.sources) 64) (f.OverLimit Sources 65) (Ok (grown one.0)) m one.2 in
     ((free.0, true_lt (length n.sources) 64 two.0), ap grown free.1 ∙ ok_same (grown one.0) m two.1)
+declare_is text n (d.Clock at s every rate tag) m e =
+    let grown = λ (name : List ℕ). record n { sources = n.sources ++ name ∷ [] } in
+    let one = bind_ok (fresh_name text n s) (λ name. room Sources 64 (length n.sources) >> Ok (record n { sources = n.sources ++ name ∷ [] })) m e in
+    let free = fresh_is text n s one.0 one.1 in
+    let two = passed (nat_lt (length n.sources) 64) (f.OverLimit Sources 65) (Ok (grown one.0)) m one.2 in
+    ((free.0, true_lt (length n.sources) 64 two.0), ap grown free.1 ∙ ok_same (grown one.0) m two.1)
 
 declare_passes : (text : List ℕ) (n : Naming) (x : Declaration) → Checks text n x → declare text n x ≡ Ok (next text n x)
 unfolding declare with_family with_kind with_list with_source
@@ -143,6 +152,12 @@ declare_passes text n (d.Source s file rate slack tags) h =
     (passes (nat_lt (length n.sources) 64) (f.OverLimit Sources 65) (Ok (next text n (d.Source s file rate slack tags))) (next text n
     (d.Source s file rate slack tags))
     (lt_true (length n.sources) 64 h.1) refl)
+declare_passes text n (d.Clock at s every rate tag) h =
+    binds (fresh_name text n s) (λ name. room Sources 64 (length n.sources) >> Ok (record n { sources = n.sources ++ name ∷ [] })) (name_of text s)
+    (next text n (d.Clock at s every rate tag)) (fresh_passes text n s h.0)
+    (passes (nat_lt (length n.sources) 64) (f.OverLimit Sources 65) (Ok (next text n (d.Clock at s every rate tag))) (next text n
+    (d.Clock at s every rate tag))
+    (lt_true (length n.sources) 64 h.1) refl)
 
 -- ---- the names of some declarations
 
@@ -157,7 +172,7 @@ module _ (text : List ℕ) where
   all_kinds ds = flat_map (kinds_in text) ds
 
   abbrev pub source_names_in : Declaration → List (List ℕ)
-  source_names_in x = map (λ (w : WrittenSource). name_of text w.name) (sources_in x)
+  source_names_in x = map (λ (w : WrittenFeed). name_of text (feed_name w)) (sources_in x)
 
   abbrev pub list_names_in : Declaration → List (List ℕ)
   list_names_in x = map (λ (w : WrittenNames). name_of text w.name) (lists_in x)
@@ -171,6 +186,7 @@ module _ (text : List ℕ) where
   lists_named (d.Depends a b relation ∷ ds) = lists_named ds
   lists_named (d.On kind actions ∷ ds) = lists_named ds
   lists_named (d.Source s file rate slack tags ∷ ds) = lists_named ds
+  lists_named (d.Clock at s every rate tag ∷ ds) = lists_named ds
 
   -- the names are those of these declarations
   pub record Named (done : Declarations) (n : Naming) : Type 0 where
@@ -350,6 +366,21 @@ module _ (text : List ℕ) where
             (bytes_eq t name)
             ∙ ap (λ b. b || (bytes_eq t name || false)) (named.declared t) ∙ any_grown t name done x refl;
       }
+  named_next done n (d.Clock at s every rate tag) named =
+      let x = d.Clock at s every rate tag in
+      let name = name_of text s in record {
+        families = named.families ∙ ap (heads family_name family_head 0) (unchanged (families_in text) done x refl);
+        kinds = named.kinds ∙ ap (heads kind_name kind_head 0) (unchanged (kinds_in text) done x refl);
+        lists = named.lists ∙ unchanged list_names_in done x refl;
+        sources = ap (λ l. l ++ name ∷ []) named.sources ∙ sym (grown source_names_in done x);
+        depends = named.depends ∙ ap length (unchanged depends_in done x refl);
+        declared = λ t.
+            ap (λ b. is_some (look_up t n.families) || is_some (look_up t n.kinds) || b || list_any (bytes_eq t) n.lists)
+            (list_any-append (bytes_eq t) n.sources (name ∷ []))
+            ∙ third_grown (is_some (look_up t n.families)) (is_some (look_up t n.kinds)) (list_any (bytes_eq t) n.sources) (list_any (bytes_eq t) n.lists)
+            (bytes_eq t name)
+            ∙ ap (λ b. b || (bytes_eq t name || false)) (named.declared t) ∙ any_grown t name done x refl;
+      }
 
   -- ---- what the looks say
 
@@ -437,6 +468,19 @@ module _ (text : List ℕ) where
         few_sources = omega (arith, many, more, count, room_left);
         few_depends = subst (λ (l : List WrittenDepend). length l ≤ 4096) (unchanged depends_in done x refl) own.few_depends;
       }
+  own_next done n (d.Clock at s every rate tag) named h own =
+      let x = d.Clock at s every rate tag in
+      let many = ap length named.sources in
+      let more = ap length (grown source_names_in done x) in
+      let count = length-append (flat_map source_names_in done) (source_names_in x) in
+      let room_left = h.1 in record {
+        own = subst (λ (l : List (List ℕ)). AllDiffer l) (sym (grown (names_in text) done x)) (name_new done n (name_of text s) named h.0 own.own);
+        few_families = subst (λ (l : List Family). length l ≤ 64) (unchanged (families_in text) done x refl) own.few_families;
+        few_kinds = subst (λ (l : List DeclaredKind). length l ≤ 64) (unchanged (kinds_in text) done x refl) own.few_kinds;
+        few_lists = subst (λ (l : List (List ℕ)). length l ≤ 64) (unchanged list_names_in done x refl) own.few_lists;
+        few_sources = omega (arith, many, more, count, room_left);
+        few_depends = subst (λ (l : List WrittenDepend). length l ≤ 4096) (unchanged depends_in done x refl) own.few_depends;
+      }
 
   -- ---- and what they need
 
@@ -497,6 +541,12 @@ module _ (text : List ℕ) where
   checks_pass done rest n (d.On kind actions) named own = tt
   checks_pass done rest n (d.Source s file rate slack tags) named own =
       let x = d.Source s file rate slack tags in
+      let many = ap length named.sources in
+      let more = longer source_names_in done rest x in
+      let few = own.few_sources in
+      (name_free done rest n x (name_of text s) refl named own.own, omega (arith, many, more, few))
+  checks_pass done rest n (d.Clock at s every rate tag) named own =
+      let x = d.Clock at s every rate tag in
       let many = ap length named.sources in
       let more = longer source_names_in done rest x in
       let few = own.few_sources in

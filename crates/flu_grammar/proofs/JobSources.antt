@@ -1,4 +1,11 @@
 -- Dependencies and sources that are found are what they mean, and the other way round.
+use Rattle.flu_lemmas.proofs.Searches.{eq_true}
+use Rattle.flu_lemmas.proofs.Tests.{true_eq}
+use Rattle.std.specs.Prelude.{◌==◌}
+use Rattle.std.proofs.Common.{◌^◌}
+use Rattle.flu_parse.specs.Naming.{is_version_3}
+use Rattle.flu_model.specs.Rules.{file_of_source}
+use Rattle.std.specs.List.{filter_map}
 use Rattle.std.proofs.Common.{◌≡◌, ◌≢◌, ◌⊎◌, inl, inr, ℕ, ◌+◌, ◌<◌, ◌≤◌, Bool, true, false, List, [], ◌∷◌, ◌++◌}
 use Rattle.std.proofs.Common.{map, length, Option, Some, None, Ok, refl, sym, ap, subst, ◌∙◌, append_assoc, arith}
 use Rattle.std.specs.Prelude.{not, ◌&&◌, nat_lt, nat_le, slice_get}
@@ -32,11 +39,12 @@ use Rattle.flu_parse.specs.declared.names.KindHead.{KindHead}
 use Rattle.flu_parse.specs.Faults.{Found, ◌>>=◌, ◌>>◌, unless, each}
 use Rattle.flu_parse.specs.Naming.{Naming, look_up, known, kind_of}
 use Rattle.flu_parse.specs.Cells.{resolved_key}
-use Rattle.flu_parse.specs.Listings.{are_bracketed, written_keys, keys_of, tag_count, Listed, with_tag, tags_of, rate_of, slack_of, file_of}
-use Rattle.flu_parse.specs.Resolving.{Drafted, same_of, with_depend, with_source}
+use Rattle.flu_parse.specs.Listings.{are_bracketed, written_keys, keys_of, tag_count, Listed, with_tag, tags_of, rate_of, slack_of, file_of, period_of}
+use Rattle.flu_parse.specs.Listings.{is_tick_head, alone, tick_of}
+use Rattle.flu_parse.specs.Resolving.{Drafted, same_of, with_depend, with_source, with_clock}
 use Rattle.flu_grammar.specs.Means.{AllDiffer}
-use Rattle.flu_grammar.specs.Declared.{DeclaredKind, WrittenDepend, WrittenSource}
-use Rattle.flu_grammar.specs.Sources.{MeansKind, MeansRelation, MeansDepend, MeansListedKeys, MeansTag, MeansNumber, AreApart, MeansSource}
+use Rattle.flu_grammar.specs.Declared.{DeclaredKind, WrittenDepend, WrittenSource, WrittenClock}
+use Rattle.flu_grammar.specs.Sources.{MeansKind, MeansRelation, MeansDepend, MeansListedKeys, MeansTag, MeansNumber, AreApart, MeansSource, MeansClock}
 use Rattle.flu_grammar.proofs.Lists.{get_front, get_below, any_none}
 use Rattle.flu_grammar.proofs.Looks.{ok_same, ok_ok, passed, passes, binds}
 use Rattle.flu_grammar.proofs.Heads.{heads, HeadFound, looked_up, looks_up}
@@ -359,7 +367,7 @@ module _ (text : List ℕ) (n : Naming) (kinds : List DeclaredKind) (knows : Kno
   pub record OneSource (d : Drafted) (v : WrittenSource) (more : Drafted) : Type 0 where
     pub source : Source
     pub means : MeansSource text kinds v source
-    pub own_file : list_any (λ (s : Source). is_same_text source.file s.file) d.sources ≡ false
+    pub own_file : list_any (is_same_text source.file) (filter_map file_of_source d.sources) ≡ false
     pub few : d.itags ≤ 256 → d.itags + total part_count source.tags ≤ 256
     pub is : with_one_source d source ≡ more
 
@@ -375,35 +383,35 @@ module _ (text : List ℕ) (n : Naming) (kinds : List DeclaredKind) (knows : Kno
   unfolding with_source
   source_is d v more e =
       let made = λ (bytes : List ℕ) (rate slack : ℕ) (listed : Listed). record d {
-        sources = d.sources ++ record { name = name_of text v.name; file = bytes; rate = rate; slack = slack; tags = listed.tags } ∷ [];
+        sources = d.sources ++ record { name = name_of text v.name; file = bytes; every = None; rate = rate; slack = slack; tags = listed.tags } ∷ [];
         itags = listed.itags;
       } in
       let one = bind_ok (file_of text d.sources v.file)
       (λ bytes. rate_of v.rate >>= λ rate. slack_of v.slack >>= λ slack. tags_of text n d.itags v.tags >>= λ listed. Ok (record d {
-        sources = d.sources ++ record { name = name_of text v.name; file = bytes; rate = rate; slack = slack; tags = listed.tags } ∷ [];
+        sources = d.sources ++ record { name = name_of text v.name; file = bytes; every = None; rate = rate; slack = slack; tags = listed.tags } ∷ [];
         itags = listed.itags;
       })) more e in
       let two = bind_ok (rate_of v.rate) (λ rate. slack_of v.slack >>= λ slack. tags_of text n d.itags v.tags >>= λ listed. Ok (record d {
-        sources = d.sources ++ record { name = name_of text v.name; file = one.0; rate = rate; slack = slack; tags = listed.tags } ∷ [];
+        sources = d.sources ++ record { name = name_of text v.name; file = one.0; every = None; rate = rate; slack = slack; tags = listed.tags } ∷ [];
         itags = listed.itags;
       })) more one.2 in
       let three = bind_ok (slack_of v.slack) (λ slack. tags_of text n d.itags v.tags >>= λ listed. Ok (record d {
-        sources = d.sources ++ record { name = name_of text v.name; file = one.0; rate = two.0; slack = slack; tags = listed.tags } ∷ [];
+        sources = d.sources ++ record { name = name_of text v.name; file = one.0; every = None; rate = two.0; slack = slack; tags = listed.tags } ∷ [];
         itags = listed.itags;
       })) more two.2 in
       let four = bind_ok (tags_of text n d.itags v.tags) (λ listed. Ok (record d {
-        sources = d.sources ++ record { name = name_of text v.name; file = one.0; rate = two.0; slack = three.0; tags = listed.tags } ∷ [];
+        sources = d.sources ++ record { name = name_of text v.name; file = one.0; every = None; rate = two.0; slack = three.0; tags = listed.tags } ∷ [];
         itags = listed.itags;
       })) more three.2 in
-      let last = unless (not (list_any (λ (s : Source). is_same_text (inside text v.file) s.file) d.sources)) (f.TwiceNamed v.file.from) >> Ok
+      let last = unless (not (list_any (is_same_text (inside text v.file)) (filter_map file_of_source d.sources))) (f.TwiceNamed v.file.from) >> Ok
       (inside text v.file) in
       let some = passed (nat_lt 0 (length (inside text v.file))) (f.WrongShape v.file.from) last one.0 one.1 in
-      let new = passed (not (list_any (λ (s : Source). is_same_text (inside text v.file) s.file) d.sources)) (f.TwiceNamed v.file.from) (Ok
+      let new = passed (not (list_any (is_same_text (inside text v.file)) (filter_map file_of_source d.sources))) (f.TwiceNamed v.file.from) (Ok
       (inside text v.file)) one.0 some.1 in
       let file : inside text v.file ≡ one.0 = ok_same (inside text v.file) one.0 new.1 in
-      let none = not_true (list_any (λ (s : Source). is_same_text (inside text v.file) s.file) d.sources) new.0 in
+      let none = not_true (list_any (is_same_text (inside text v.file)) (filter_map file_of_source d.sources)) new.0 in
       let tags = tags_are (record { tags = []; itags = d.itags }) v.tags four.0 four.1 apart_none in
-      let source : Source = record { name = name_of text v.name; file = one.0; rate = two.0; slack = three.0; tags = four.0.tags } in
+      let source : Source = record { name = name_of text v.name; file = one.0; every = None; rate = two.0; slack = three.0; tags = four.0.tags } in
       let listed : total part_count tags.new ≡ total part_count four.0.tags = ap (total part_count) tags.tags in
       let count = tags.itags in
       let counted : d.itags + total part_count four.0.tags ≡ four.0.itags = omega (arith, count, listed) in record {
@@ -412,51 +420,54 @@ module _ (text : List ℕ) (n : Naming) (kinds : List DeclaredKind) (knows : Kno
           name = refl;
           file = sym file;
           some_file = subst (λ (b : List ℕ). b ≢ []) file (some_bytes (inside text v.file) (true_lt 0 (length (inside text v.file)) some.0));
+          no_period = refl;
           rate = rate_is v.rate two.0 two.1;
           slack = slack_is v.slack three.0 three.1;
           tags = subst (λ (l : List TagRef). Pairs (MeansTag text kinds) v.tags l) tags.tags tags.means;
           apart = tags.apart;
         };
-        own_file = ap (λ (b : List ℕ). list_any (λ (s : Source). is_same_text b s.file) d.sources) (sym file) ∙ none;
+        own_file = ap (λ (b : List ℕ). list_any (is_same_text b) (filter_map file_of_source d.sources)) (sym file) ∙ none;
         few = λ le. (let most = tags.few le in omega (arith, most, counted));
         is = (λ i. record d { sources = d.sources ++ source ∷ []; itags = counted i }) ∙ ok_same (made one.0 two.0 three.0 four.0) more four.2;
       }
 
   pub source_found : (d : Drafted) (v : WrittenSource) (s : Source) → MeansSource text kinds v s
-      → list_any (λ (x : Source). is_same_text s.file x.file) d.sources ≡ false → d.itags + total part_count s.tags ≤ 256
+      → list_any (is_same_text s.file) (filter_map file_of_source d.sources) ≡ false → d.itags + total part_count s.tags ≤ 256
       → with_source text n d v.name v.file v.rate v.slack v.tags ≡ Ok (with_one_source d s)
   unfolding with_source
   source_found d v s is own few =
-      let last = unless (not (list_any (λ (x : Source). is_same_text (inside text v.file) x.file) d.sources)) (f.TwiceNamed v.file.from) >> Ok
+      let last = unless (not (list_any (is_same_text (inside text v.file)) (filter_map file_of_source d.sources))) (f.TwiceNamed v.file.from) >> Ok
       (inside text v.file) in
       let file : file_of text d.sources v.file ≡ Ok s.file =
       passes (nat_lt 0 (length (inside text v.file))) (f.WrongShape v.file.from) last s.file
       (lt_true 0 (length (inside text v.file)) (bytes_some (inside text v.file) (subst (λ (b : List ℕ). b ≢ []) is.file is.some_file)))
-      (passes (not (list_any (λ (x : Source). is_same_text (inside text v.file) x.file) d.sources)) (f.TwiceNamed v.file.from) (Ok (inside text v.file)) s.file
-      (ap (λ (b : List ℕ). not (list_any (λ (x : Source). is_same_text b x.file) d.sources)) (sym is.file) ∙ ap not own) (ok_ok (inside text v.file) s.file
+      (passes (not (list_any (is_same_text (inside text v.file)) (filter_map file_of_source d.sources))) (f.TwiceNamed v.file.from)
+      (Ok (inside text v.file)) s.file
+      (ap (λ (b : List ℕ). not (list_any (is_same_text b) (filter_map file_of_source d.sources))) (sym is.file) ∙ ap not own) (ok_ok (inside text v.file) s.file
       (sym is.file))) in
       let listed : Listed = record { tags = s.tags; itags = d.itags + total part_count s.tags } in
       binds (file_of text d.sources v.file)
       (λ bytes. rate_of v.rate >>= λ rate. slack_of v.slack >>= λ slack. tags_of text n d.itags v.tags >>= λ listed. Ok (record d {
-        sources = d.sources ++ record { name = name_of text v.name; file = bytes; rate = rate; slack = slack; tags = listed.tags } ∷ [];
+        sources = d.sources ++ record { name = name_of text v.name; file = bytes; every = None; rate = rate; slack = slack; tags = listed.tags } ∷ [];
         itags = listed.itags;
       })) s.file (with_one_source d s) file
       (binds (rate_of v.rate) (λ rate. slack_of v.slack >>= λ slack. tags_of text n d.itags v.tags >>= λ listed. Ok (record d {
-        sources = d.sources ++ record { name = name_of text v.name; file = s.file; rate = rate; slack = slack; tags = listed.tags } ∷ [];
+        sources = d.sources ++ record { name = name_of text v.name; file = s.file; every = None; rate = rate; slack = slack; tags = listed.tags } ∷ [];
         itags = listed.itags;
       })) s.rate (with_one_source d s) (rate_found v.rate s.rate is.rate)
       (binds (slack_of v.slack) (λ slack. tags_of text n d.itags v.tags >>= λ listed. Ok (record d {
-        sources = d.sources ++ record { name = name_of text v.name; file = s.file; rate = s.rate; slack = slack; tags = listed.tags } ∷ [];
+        sources = d.sources ++ record { name = name_of text v.name; file = s.file; every = None; rate = s.rate; slack = slack; tags = listed.tags } ∷ [];
         itags = listed.itags;
       })) s.slack (with_one_source d s) (slack_found v.slack s.slack is.slack)
       (binds (tags_of text n d.itags v.tags) (λ listed. Ok (record d {
-        sources = d.sources ++ record { name = name_of text v.name; file = s.file; rate = s.rate; slack = s.slack; tags = listed.tags } ∷ [];
+        sources = d.sources ++ record { name = name_of text v.name; file = s.file; every = None; rate = s.rate; slack = s.slack; tags = listed.tags } ∷ [];
         itags = listed.itags;
       })) listed (with_one_source d s) (tags_found (record { tags = []; itags = d.itags }) v.tags s.tags is.tags is.apart few)
       (ok_ok (record d {
         sources = d.sources ++ record {
           name = name_of text v.name;
           file = s.file;
+          every = None;
           rate = s.rate;
           slack = s.slack;
           tags = s.tags;
@@ -465,6 +476,162 @@ module _ (text : List ℕ) (n : Naming) (kinds : List DeclaredKind) (knows : Kno
       })
       (with_one_source d s)
       (λ i. record d {
-        sources = d.sources ++ record { name = sym is.name i; file = s.file; rate = s.rate; slack = s.slack; tags = s.tags } ∷ [];
+        sources = d.sources ++ record { name = sym is.name i; file = s.file; every = sym is.no_period i; rate = s.rate; slack = s.slack; tags = s.tags } ∷ [];
         itags = d.itags + total part_count s.tags;
+      })))))
+
+  -- ---- clocks
+
+  -- the one tag of a clock
+  one_part : (ts : List TagRef) (tag : WrittenSpan) → Pairs (MeansTag text kinds) (alone tag ∷ []) ts
+      → (t : TagRef) × (ts ≡ t ∷ []) × MeansTag text kinds (alone tag) t
+  one_part [] tag h = absurd h
+  one_part (t ∷ []) tag h = (t, refl, h.0)
+  one_part (t ∷ u ∷ ts) tag h = absurd h.1
+
+  record OneTick (itags : ℕ) (tag : WrittenSpan) (listed : Listed) : Type 0 where
+    number : ℕ
+    kind : MeansKind text kinds tag number
+    ticks : is_tick_head (kind_head number kind.kind) ≡ true
+    tags : listed.tags ≡ record { kind = number; keys = keys.Alone } ∷ []
+    counted : itags + total part_count listed.tags ≡ listed.itags
+    few : itags ≤ 256 → listed.itags ≤ 256
+
+  tick_is : (itags : ℕ) (tag : WrittenSpan) (listed : Listed) → tick_of text n itags tag ≡ Ok listed → OneTick itags tag listed
+  tick_is itags tag listed e =
+      let one = bind_ok (kind_of text n tag) (λ kind. unless (is_tick_head kind) (f.WrongShape tag.from) >> tags_of text n itags (alone tag ∷ [])) listed e in
+      let two = passed (is_tick_head one.0) (f.WrongShape tag.from) (tags_of text n itags (alone tag ∷ [])) listed one.2 in
+      let tags = tags_are (record { tags = []; itags = itags }) (alone tag ∷ []) listed two.1 apart_none in
+      let part = one_part tags.new tag tags.means in
+      let t = part.0 in
+      let kind : MeansKind text kinds tag t.kind = part.2.kind in
+      let found = kind_found tag t.kind kind.kind kind.here kind.name in
+      let same : one.0 ≡ kind_head t.kind kind.kind = ok_same one.0 (kind_head t.kind kind.kind) (sym one.1 ∙ found) in
+      let keys_are : keys.Alone ≡ t.keys = (keys_found kind.kind.keyed w.Alone t.keys part.2.keys).2 in
+      let tag_is : t ≡ record { kind = t.kind; keys = keys.Alone } = (λ i. record { kind = t.kind; keys = sym keys_are i }) in
+      let new : tags.new ≡ record { kind = t.kind; keys = keys.Alone } ∷ [] = part.1 ∙ ap (λ (r : TagRef). r ∷ []) tag_is in
+      let all : listed.tags ≡ tags.new = sym tags.tags in
+      let many : total part_count tags.new ≡ total part_count listed.tags = ap (total part_count) (sym all) in
+      let count = tags.itags in
+      record {
+        number = t.kind;
+        kind = kind;
+        ticks = subst (λ (h : KindHead). is_tick_head h ≡ true) same two.0;
+        tags = all ∙ new;
+        counted = omega (arith, count, many);
+        few = tags.few;
+      }
+
+  pub record OneClock (d : Drafted) (v : WrittenClock) (more : Drafted) : Type 0 where
+    pub source : Source
+    pub means : MeansClock text kinds v source
+    pub third : n.version ≡ 3
+    pub few : d.itags ≤ 256 → d.itags + total part_count source.tags ≤ 256
+    pub is : with_one_source d source ≡ more
+
+  pub clock_is : (d : Drafted) (at : ℕ) (v : WrittenClock) (more : Drafted) → with_clock text n d at v.name v.every v.rate v.tag ≡ Ok more → OneClock d v more
+  unfolding with_clock
+  clock_is d at v more e =
+      let made = λ (period rate : ℕ) (listed : Listed). record d {
+        sources = d.sources ++ record { name = name_of text v.name; file = []; every = Some period; rate = rate; slack = 0; tags = listed.tags } ∷ [];
+        itags = listed.itags;
+      } in
+      let last = λ (period rate : ℕ). tick_of text n d.itags v.tag >>= λ listed. Ok (record d {
+        sources = d.sources ++ record { name = name_of text v.name; file = []; every = Some period; rate = rate; slack = 0; tags = listed.tags } ∷ [];
+        itags = listed.itags;
+      }) in
+      let one = passed (is_version_3 n) (f.WrongShape at) (period_of v.every >>= λ period. rate_of v.rate >>= λ rate. last period rate) more e in
+      let two = bind_ok (period_of v.every) (λ period. rate_of v.rate >>= λ rate. last period rate) more one.1 in
+      let three = bind_ok (rate_of v.rate) (λ rate. last two.0 rate) more two.2 in
+      let four = bind_ok (tick_of text n d.itags v.tag) (λ listed. Ok (record d {
+        sources = d.sources ++ record { name = name_of text v.name; file = []; every = Some two.0; rate = three.0; slack = 0; tags = listed.tags } ∷ [];
+        itags = listed.itags;
+      })) more three.2 in
+      let value = written_value v.every.value in
+      let within = passed (nat_le 1 value && nat_le value (2 ^ 62)) (f.WrongShape v.every.at) (Ok value) two.0 two.1 in
+      let period : value ≡ two.0 = ok_same value two.0 within.1 in
+      let tick = tick_is d.itags v.tag four.0 four.1 in
+      let k = tick.kind.kind in
+      let front = and_left (not k.keyed && not k.has_item) (not k.has_value) tick.ticks in
+      let source : Source = record { name = name_of text v.name; file = []; every = Some two.0; rate = three.0; slack = 0; tags = four.0.tags } in
+      let counted = tick.counted in record {
+        source = source;
+        means = record {
+          name = refl;
+          no_file = refl;
+          period = ap (λ (m : ℕ). Some m) (sym period);
+          some_period = true_le 1 value (and_left (nat_le 1 value) (nat_le value (2 ^ 62)) within.0);
+          few_period = true_le value (2 ^ 62) (and_right (nat_le 1 value) (nat_le value (2 ^ 62)) within.0);
+          rate = rate_is v.rate three.0 three.1;
+          slack = refl;
+          number = tick.number;
+          kind = tick.kind;
+          no_key = not_true k.keyed (and_left (not k.keyed) (not k.has_item) front);
+          no_item = not_true k.has_item (and_right (not k.keyed) (not k.has_item) front);
+          no_value = not_true k.has_value (and_right (not k.keyed && not k.has_item) (not k.has_value) tick.ticks);
+          tags = tick.tags;
+        };
+        third = true_eq n.version 3 one.0;
+        few = λ le. (let most = tick.few le in omega (arith, most, counted));
+        is = (λ i. record d { sources = d.sources ++ source ∷ []; itags = counted i }) ∙ ok_same (made two.0 three.0 four.0) more four.2;
+      }
+
+  tick_found : (itags : ℕ) (tag : WrittenSpan) (number : ℕ) (kind : MeansKind text kinds tag number) → kind.kind.keyed ≡ false
+      → kind.kind.has_item ≡ false → kind.kind.has_value ≡ false
+      → itags + total part_count (record { kind = number; keys = keys.Alone } ∷ []) ≤ 256
+      → tick_of text n itags tag ≡ Ok (record {
+        tags = record { kind = number; keys = keys.Alone } ∷ [];
+        itags = itags + total part_count (record { kind = number; keys = keys.Alone } ∷ []);
+      })
+  tick_found itags tag number kind no_key no_item no_value few =
+      let t : TagRef = record { kind = number; keys = keys.Alone } in
+      let listed : Listed = record { tags = t ∷ []; itags = itags + total part_count (t ∷ []) } in
+      let head = kind_head number kind.kind in
+      let k = kind.kind in
+      let ticks : is_tick_head head ≡ true = (λ i. not (no_key i) && not (no_item i) && not (no_value i)) in
+      binds (kind_of text n tag) (λ kind. unless (is_tick_head kind) (f.WrongShape tag.from) >> tags_of text n itags (alone tag ∷ [])) head listed
+      (kind_found tag number k kind.here kind.name)
+      (passes (is_tick_head head) (f.WrongShape tag.from) (tags_of text n itags (alone tag ∷ [])) listed ticks
+      (tags_found (record { tags = []; itags = itags }) (alone tag ∷ []) (t ∷ []) (record { kind = kind; keys = no_key }, tt)
+      (apart_push [] t refl apart_none) few))
+
+  pub clock_found : (d : Drafted) (at : ℕ) (v : WrittenClock) (s : Source) → MeansClock text kinds v s → n.version ≡ 3
+      → d.itags + total part_count s.tags ≤ 256 → with_clock text n d at v.name v.every v.rate v.tag ≡ Ok (with_one_source d s)
+  unfolding with_clock
+  clock_found d at v s is third few =
+      let value = written_value v.every.value in
+      let t : TagRef = record { kind = is.number; keys = keys.Alone } in
+      let listed : Listed = record { tags = t ∷ []; itags = d.itags + total part_count (t ∷ []) } in
+      let within : (nat_le 1 value && nat_le value (2 ^ 62)) ≡ true =
+      both (nat_le 1 value) (nat_le value (2 ^ 62)) (le_true 1 value is.some_period) (le_true value (2 ^ 62) is.few_period) in
+      let last = λ (period rate : ℕ). tick_of text n d.itags v.tag >>= λ listed. Ok (record d {
+        sources = d.sources ++ record { name = name_of text v.name; file = []; every = Some period; rate = rate; slack = 0; tags = listed.tags } ∷ [];
+        itags = listed.itags;
+      }) in
+      passes (is_version_3 n) (f.WrongShape at) (period_of v.every >>= λ period. rate_of v.rate >>= λ rate. last period rate) (with_one_source d s)
+      (eq_true n.version 3 third)
+      (binds (period_of v.every) (λ period. rate_of v.rate >>= λ rate. last period rate) value (with_one_source d s)
+      (passes (nat_le 1 value && nat_le value (2 ^ 62)) (f.WrongShape v.every.at) (Ok value) value within refl)
+      (binds (rate_of v.rate) (λ rate. last value rate) s.rate (with_one_source d s) (rate_found v.rate s.rate is.rate)
+      (binds (tick_of text n d.itags v.tag) (λ listed. Ok (record d {
+        sources = d.sources ++ record { name = name_of text v.name; file = []; every = Some value; rate = s.rate; slack = 0; tags = listed.tags } ∷ [];
+        itags = listed.itags;
+      })) listed (with_one_source d s)
+      (tick_found d.itags v.tag is.number is.kind is.no_key is.no_item is.no_value
+      (subst (λ (ts : List TagRef). d.itags + total part_count ts ≤ 256) is.tags few))
+      (ok_ok (record d {
+        sources = d.sources ++ record { name = name_of text v.name; file = []; every = Some value; rate = s.rate; slack = 0; tags = t ∷ [] } ∷ [];
+        itags = d.itags + total part_count (t ∷ []);
+      })
+      (with_one_source d s)
+      (λ i. record d {
+        sources = d.sources ++ record {
+          name = sym is.name i;
+          file = sym is.no_file i;
+          every = sym is.period i;
+          rate = s.rate;
+          slack = sym is.slack i;
+          tags = sym is.tags i;
+        } ∷ [];
+        itags = d.itags + total part_count (sym is.tags i);
       })))))

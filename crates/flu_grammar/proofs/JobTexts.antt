@@ -39,7 +39,7 @@ use Rattle.flu_grammar.specs.Means.{AllDiffer, IfWritten}
 use Rattle.flu_grammar.specs.Cells.{family_name}
 use Rattle.flu_grammar.specs.Declared.{DeclaredKind, WrittenNames, names_in, families_in, kinds_in, depends_in, ons_in, sources_in, lists_in, list_names}
 use Rattle.flu_grammar.specs.Declared.{family_lists_in, kind_lists_in}
-use Rattle.flu_grammar.specs.Sources.{MeansDepend, MeansSource}
+use Rattle.flu_grammar.specs.Sources.{MeansDepend, MeansFeed}
 use Rattle.flu_grammar.specs.Jobs.{MeansVersion, MeansNames, MeansList, without_list, MeansDeclaredKind, MeansJob, IsJobText}
 use Rattle.flu_grammar.specs.Laws.{JobsAreGrammar, TextsHaveOneJob}
 use Rattle.flu_grammar.proofs.Lists.{differ_none, differ_cons, differ_tail, differ_head, get_behind, pairs_left, pairs_length}
@@ -111,6 +111,7 @@ families_one text (d.Names at s texts) = inl refl
 families_one text (d.Depends a b relation) = inl refl
 families_one text (d.On kind actions) = inl refl
 families_one text (d.Source s file rate slack tags) = inl refl
+families_one text (d.Clock at s every rate tag) = inl refl
 
 kinds_one : (text : List ℕ) (y : Declaration) → GivesOne text kind_name (kinds_in text) y
 kinds_one text (d.Cell s cells sort) = inl refl
@@ -120,6 +121,7 @@ kinds_one text (d.Names at s texts) = inl refl
 kinds_one text (d.Depends a b relation) = inl refl
 kinds_one text (d.On kind actions) = inl refl
 kinds_one text (d.Source s file rate slack tags) = inl refl
+kinds_one text (d.Clock at s every rate tag) = inl refl
 
 lists_one : (text : List ℕ) (y : Declaration) → GivesOne text (λ (l : WrittenNames). name_of text l.name) lists_in y
 lists_one text (d.Cell s cells sort) = inl refl
@@ -128,6 +130,7 @@ lists_one text (d.Names at s texts) = inr (record { name = s; texts = texts }, r
 lists_one text (d.Depends a b relation) = inl refl
 lists_one text (d.On kind actions) = inl refl
 lists_one text (d.Source s file rate slack tags) = inl refl
+lists_one text (d.Clock at s every rate tag) = inl refl
 
 -- no list is said of a family where it is declared
 without_lists : (text : List ℕ) (ds : Declarations) → map without_list (all_families text ds) ≡ all_families text ds
@@ -139,6 +142,7 @@ without_lists text (d.Names at s texts ∷ ds) = without_lists text ds
 without_lists text (d.Depends a b relation ∷ ds) = without_lists text ds
 without_lists text (d.On kind actions ∷ ds) = without_lists text ds
 without_lists text (d.Source s file rate slack tags ∷ ds) = without_lists text ds
+without_lists text (d.Clock at s every rate tag ∷ ds) = without_lists text ds
 
 pub know_families : (text : List ℕ) (ds : Declarations) (n : Naming) → Named text ds n → AllDiffer (all_names text ds) → KnowFamilies n (all_families text ds)
 know_families text ds n named own = record {
@@ -173,6 +177,7 @@ as_many_sources text (d.Names at s texts ∷ ds) = as_many_sources text ds
 as_many_sources text (d.Depends a b relation ∷ ds) = as_many_sources text ds
 as_many_sources text (d.On kind actions ∷ ds) = as_many_sources text ds
 as_many_sources text (d.Source s file rate slack tags ∷ ds) = ap (λ (m : ℕ). suc m) (as_many_sources text ds)
+as_many_sources text (d.Clock at s every rate tag ∷ ds) = ap (λ (m : ℕ). suc m) (as_many_sources text ds)
 
 pub as_many_lists : (text : List ℕ) (ds : Declarations) → length (flat_map (list_names_in text) ds) ≡ length (flat_map lists_in ds)
 as_many_lists text ds = ap length (lists_named text ds) ∙ length-map (flat_map lists_in ds) (λ (l : WrittenNames). name_of text l.name)
@@ -186,6 +191,7 @@ as_many_families text (d.Names at s texts ∷ ds) = as_many_families text ds
 as_many_families text (d.Depends a b relation ∷ ds) = as_many_families text ds
 as_many_families text (d.On kind actions ∷ ds) = as_many_families text ds
 as_many_families text (d.Source s file rate slack tags ∷ ds) = as_many_families text ds
+as_many_families text (d.Clock at s every rate tag ∷ ds) = as_many_families text ds
 
 as_many_kinds_declared : (text : List ℕ) (ds : Declarations) → length (flat_map kind_lists_in ds) ≡ length (all_kinds text ds)
 as_many_kinds_declared text [] = refl
@@ -195,6 +201,7 @@ as_many_kinds_declared text (d.Names at s texts ∷ ds) = as_many_kinds_declared
 as_many_kinds_declared text (d.Depends a b relation ∷ ds) = as_many_kinds_declared text ds
 as_many_kinds_declared text (d.On kind actions ∷ ds) = as_many_kinds_declared text ds
 as_many_kinds_declared text (d.Source s file rate slack tags ∷ ds) = as_many_kinds_declared text ds
+as_many_kinds_declared text (d.Clock at s every rate tag ∷ ds) = as_many_kinds_declared text ds
 
 -- what a declared kind is does not depend on the list that names its items
 kind_with : (text : List ℕ) (version : ℕ) (families : List Family) (ds : Declarations) (declared : DeclaredKind) (k : PlainKind) (l : Option ℕ)
@@ -290,7 +297,7 @@ job_means text written job e =
     sym (length-map job_families without_list) ∙ ap length without in
     let job_kinds_many = as_many_kinds x.kinds x.kind_lists in
     let depends_many = pairs_length (MeansDepend text kinds) (flat_map depends_in ds) x.depends is.depends in
-    let sources_many = pairs_length (MeansSource text kinds) (flat_map sources_in ds) x.sources is.sources in
+    let sources_many = pairs_length (MeansFeed text kinds) (flat_map sources_in ds) x.sources is.sources in
     let named_many = as_many_sources text ds in
     let itags = itags_counted 0 x.sources in
     let drafted_itags = is.itags in
@@ -343,7 +350,7 @@ job_found text written job is =
     let few_families = is.few_families in
     let few_lists = is.few_lists in
     let depends_many = pairs_length (MeansDepend text kinds) (flat_map depends_in ds) job.depends is.depends in
-    let sources_many = pairs_length (MeansSource text kinds) (flat_map sources_in ds) job.sources is.sources in
+    let sources_many = pairs_length (MeansFeed text kinds) (flat_map sources_in ds) job.sources is.sources in
     let named_many = as_many_sources text ds in
     let few_kinds = is.few_kinds in
     let few_depends = is.few_depends in

@@ -346,6 +346,7 @@ texts_weight (d.Names at name texts) = total span_weight texts
 texts_weight (d.Depends a b relation) = 0
 texts_weight (d.On kind actions) = 0
 texts_weight (d.Source name file rate slack tags) = 0
+texts_weight (d.Clock at name every rate tag) = 0
 
 texts_weigh : (mark : Word) (texts : List WrittenSpan) → total span_weight texts ≤ total sign_weight (signs_between mark text_signs texts)
 texts_weigh mark [] = omega arith
@@ -402,6 +403,7 @@ lists_weigh (d.Names at name texts ∷ ds) = omega (arith, lists_weigh ds)
 lists_weigh (d.Depends a b relation ∷ ds) = omega (arith, lists_weigh ds)
 lists_weigh (d.On kind actions ∷ ds) = omega (arith, lists_weigh ds)
 lists_weigh (d.Source name file rate slack tags ∷ ds) = omega (arith, lists_weigh ds)
+lists_weigh (d.Clock at name every rate tag ∷ ds) = omega (arith, lists_weigh ds)
 
 -- ---- the actions of all kinds
 -- how many tokens the actions of a kind of this name have in a declaration
@@ -459,6 +461,7 @@ module _ (text : List ℕ) where
       omega (arith, no_actions (λ k. 0) (λ k. refl) ks, texts_weigh (w.Mark m.Comma) texts)
   one_declaration ks differ (d.Depends a b relation) = omega (arith, no_actions (λ k. 0) (λ k. refl) ks)
   one_declaration ks differ (d.Source name file rate slack tags) = omega (arith, no_actions (λ k. 0) (λ k. refl) ks)
+  one_declaration ks differ (d.Clock at name every rate tag) = omega (arith, no_actions (λ k. 0) (λ k. refl) ks)
   one_declaration ks differ (d.On kind actions) =
       omega (
         arith,

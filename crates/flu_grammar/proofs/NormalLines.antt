@@ -1,4 +1,6 @@
 -- How long names, numbers and the lines of a normal form are that no `on` and no list of names is.
+use Rattle.flu_parse.specs.Printing.{head_of}
+use Rattle.flu_model.specs.Rules.{has_origin, origin_fits, is_tick_tag}
 use Rattle.std.proofs.Common.{◌≡◌, ◌<◌, ◌≤◌, ◌+◌, ◌*◌, ◌^◌, ◌-◌, ℕ, Bool, true, false, cond, Option, Some, None, List, [], ◌∷◌, ◌++◌, map}
 use Rattle.std.proofs.Common.{length, refl, sym, subst, arith, length-append}
 use Rattle.std.specs.Prelude.{nat_lt, nat_le, ◌==◌, ◌&&◌, ◌||◌, slice_get, codes, option_map}
@@ -247,37 +249,57 @@ module _ (p : Program) where
       by true = omega (arith, digits 5 n (omega arith) (omega (arith, small)) (omega (arith, small)))
       by false = omega arith
 
-  pub source_few : (s : Source) → source_fits p.kinds s ≡ true → length (source_line (map plain_kind p.kinds) s) ≤ 331 + 48 * length (tags_of_source s)
-  source_few s fits =
-      let five = and_left (is_name s.name && is_file_text s.file && nat_le s.rate 1000000000 && nat_le s.slack 60000 && nat_lt 0 (length s.tags)
-      && list_all (tag_ref_fits p.kinds) s.tags) _ fits in
-      let tags = and_right (is_name s.name && is_file_text s.file && nat_le s.rate 1000000000 && nat_le s.slack 60000 && nat_lt 0 (length s.tags))
-      (list_all (tag_ref_fits p.kinds) s.tags) five in
-      let four = and_left (is_name s.name && is_file_text s.file && nat_le s.rate 1000000000 && nat_le s.slack 60000) (nat_lt 0 (length s.tags))
-      (and_left (is_name s.name && is_file_text s.file && nat_le s.rate 1000000000 && nat_le s.slack 60000 && nat_lt 0 (length s.tags))
-      (list_all (tag_ref_fits p.kinds) s.tags) five) in
-      let slack = true_le s.slack 60000 (and_right (is_name s.name && is_file_text s.file && nat_le s.rate 1000000000) (nat_le s.slack 60000) four) in
-      let three = and_left (is_name s.name && is_file_text s.file && nat_le s.rate 1000000000) (nat_le s.slack 60000) four in
-      let rate = true_le s.rate 1000000000 (and_right (is_name s.name && is_file_text s.file) (nat_le s.rate 1000000000) three) in
-      let two = and_left (is_name s.name && is_file_text s.file) (nat_le s.rate 1000000000) three in
-      let name = name_few s.name (and_left (is_name s.name) (is_file_text s.file) two) in
+  -- what begins the line of a source
+  head_of_few : (s : Source) (every : Option ℕ) → length s.name ≤ 32 → s.rate ≤ 1000000000 → s.slack ≤ 60000 → has_origin p.kinds s every ≡ true
+      → length (head_of s every) ≤ 328
+  head_of_few s None name rate slack fits =
       let file = true_le (length s.file) 256 (and_right (nat_lt 0 (length s.file)) (is_short s.file)
-      (and_left (nat_lt 0 (length s.file) && is_short s.file) _ (and_right (is_name s.name) (is_file_text s.file) two))) in
-      let items = separated (codes ", ") (tag_text (map plain_kind p.kinds)) s.tags in
-      let listed = separated_few (codes ", ") (tag_text (map plain_kind p.kinds)) s.tags in
-      let few = tags_few s.tags tags in
+      (and_left (nat_lt 0 (length s.file) && is_short s.file) _ fits)) in
       omega (
         arith,
         name,
         file,
-        listed,
-        few,
         slack_few s.slack slack,
         digits 10 s.rate (omega arith) (omega (arith, rate)) (omega (arith, rate)),
-        three_long (source_head s) items line_end,
         length-append s.file (34 ∷ []),
         seven_long s.name (codes " ") (quoted s.file) (codes " rate ") (decimal s.rate) (slack_text s.slack) (codes ": "),
       )
+  head_of_few s (Some every) name rate slack fits =
+      let within : Bool = nat_le 1 every && nat_le every (2 ^ 62) in
+      let file : Bool = length s.file == 0 in
+      let prompt : Bool = s.slack == 0 in
+      let one : Bool = length s.tags == 1 in
+      let four = and_left (within && file && prompt && one) (list_all (is_tick_tag p.kinds) s.tags) fits in
+      let two = and_left (within && file) prompt (and_left (within && file && prompt) one four) in
+      let period = true_le every (2 ^ 62) (and_right (nat_le 1 every) (nat_le every (2 ^ 62)) (and_left within file two)) in
+      omega (
+        arith,
+        name,
+        digits 19 every (omega arith) (omega (arith, period)) (omega (arith, period)),
+        digits 10 s.rate (omega arith) (omega (arith, rate)) (omega (arith, rate)),
+        six_long s.name (codes " every ") (decimal every) (codes " rate ") (decimal s.rate) (codes ": "),
+      )
+
+  pub source_few : (s : Source) → source_fits p.kinds s ≡ true → length (source_line (map plain_kind p.kinds) s) ≤ 331 + 48 * length (tags_of_source s)
+  source_few s fits =
+      let origin : Bool = origin_fits p.kinds s in
+      let five = and_left (is_name s.name && origin && nat_le s.rate 1000000000 && nat_le s.slack 60000 && nat_lt 0 (length s.tags)
+      && list_all (tag_ref_fits p.kinds) s.tags) _ fits in
+      let tags = and_right (is_name s.name && origin && nat_le s.rate 1000000000 && nat_le s.slack 60000 && nat_lt 0 (length s.tags))
+      (list_all (tag_ref_fits p.kinds) s.tags) five in
+      let four = and_left (is_name s.name && origin && nat_le s.rate 1000000000 && nat_le s.slack 60000) (nat_lt 0 (length s.tags))
+      (and_left (is_name s.name && origin && nat_le s.rate 1000000000 && nat_le s.slack 60000 && nat_lt 0 (length s.tags))
+      (list_all (tag_ref_fits p.kinds) s.tags) five) in
+      let slack = true_le s.slack 60000 (and_right (is_name s.name && origin && nat_le s.rate 1000000000) (nat_le s.slack 60000) four) in
+      let three = and_left (is_name s.name && origin && nat_le s.rate 1000000000) (nat_le s.slack 60000) four in
+      let rate = true_le s.rate 1000000000 (and_right (is_name s.name && origin) (nat_le s.rate 1000000000) three) in
+      let two = and_left (is_name s.name && origin) (nat_le s.rate 1000000000) three in
+      let name = name_few s.name (and_left (is_name s.name) origin two) in
+      let head = head_of_few s s.every name rate slack (and_right (is_name s.name) origin two) in
+      let items = separated (codes ", ") (tag_text (map plain_kind p.kinds)) s.tags in
+      let listed = separated_few (codes ", ") (tag_text (map plain_kind p.kinds)) s.tags in
+      let few = tags_few s.tags tags in
+      omega (arith, head, listed, few, three_long (source_head s) items line_end)
 
   pub sources_few : (at : ℕ) (ss : List Source) → list_all (source_fits p.kinds) ss ≡ true
       → length (flat_map (source_line (map plain_kind p.kinds)) ss) ≤ 331 * length ss + 48 * length (itags_of_sources at ss)

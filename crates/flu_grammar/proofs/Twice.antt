@@ -1,4 +1,10 @@
 -- A name that is told to be named twice was named before, by its rule.
+use Rattle.flu_layout.specs.Spelling.{written_value}
+use Rattle.std.specs.Prelude.{is_some, if◌then◌else◌, ◌||◌}
+use Rattle.std.proofs.Common.{None, suc, Option}
+use Rattle.std.specs.List.{cons_option}
+use Rattle.flu_model.specs.Rules.{file_of_source}
+use Rattle.std.specs.List.{filter_map}
 use Rattle.std.proofs.Common.{◌≡◌, inl, inr, ℕ, ◌+◌, Bool, true, false, List, [], ◌∷◌, ◌++◌, length, Some, Ok, Err, refl, sym, ap, subst, ◌∙◌, arith}
 use Rattle.std.specs.Prelude.{not, ◌==◌, nat_lt, slice_get}
 use Rattle.std.specs.List.{list_any, flat_map, position_or_len}
@@ -20,7 +26,8 @@ use Rattle.flu_parse.specs.Actions.{resolved_actions}
 use Rattle.flu_parse.specs.Listings.{file_of}
 use Rattle.flu_parse.specs.Resolving.{Drafted, with_actions, with_on}
 use Rattle.flu_grammar.specs.Means.{IsNamed}
-use Rattle.flu_grammar.specs.Declared.{DeclaredKind, ons_in, sources_in}
+use Rattle.flu_grammar.specs.Declared.{DeclaredKind, WrittenSource, WrittenFeed, OfFile, OfClock, ons_in, sources_in}
+use Rattle.flu_grammar.specs.Sources.{MeansSource, MeansFeed}
 use Rattle.flu_grammar.specs.Faults.{IsOnTwice, IsFileTwice, TwiceNamedIsOnTwice, TwiceNamedIsFileTwice}
 use Rattle.flu_grammar.proofs.Lists.{some_same, met_at, pairs_right}
 use Rattle.flu_grammar.proofs.TextFaults.{fault_from, fault_then}
@@ -91,37 +98,73 @@ module _ (text : List ℕ) (n : Naming) (families : List Family) (kinds : List D
       given h is false any bad place = absurd cc
       given h is true any bad place = let same : kind.from ≡ at = cc in subst (λ (m : ℕ). IsOnTwice text done kind m) same (given_twice kind h is any)
 
+  -- the source that has a file
+  record FileAt (file : List ℕ) (ss : List Source) : Type 0 where
+    place : ℕ
+    source : Source
+    here : slice_get ss place ≡ Some source
+    no_period : source.every ≡ None
+    same : is_same_text file source.file ≡ true
+
+  further : (file : List ℕ) (s : Source) (ss : List Source) → FileAt file ss → FileAt file (s ∷ ss)
+  further file s ss at = record { place = suc at.place; source = at.source; here = at.here; no_period = at.no_period; same = at.same }
+
+  one_file_at : (file : List ℕ) (s : Source) (ss : List Source) (every : Option ℕ) → s.every ≡ every
+      → list_any (is_same_text file) (filter_map file_of_source (s ∷ ss)) ≡ true
+      → (list_any (is_same_text file) (filter_map file_of_source ss) ≡ true → FileAt file ss) → FileAt file (s ∷ ss)
+  one_file_at file s ss (Some every) is any more =
+      let none : file_of_source s ≡ None = ap (λ (o : Option ℕ). if is_some o then None else Some s.file) is in
+      further file s ss (more (ap (λ (o : Option (List ℕ)). list_any (is_same_text file) (cons_option o (filter_map file_of_source ss))) (sym none) ∙ any))
+  one_file_at file s ss None is any more =
+      let has : file_of_source s ≡ Some s.file = ap (λ (o : Option ℕ). if is_some o then None else Some s.file) is in
+      by (is_same_text file s.file) refl
+      (ap (λ (o : Option (List ℕ)). list_any (is_same_text file) (cons_option o (filter_map file_of_source ss))) (sym has) ∙ any)
+    where
+      by : (b : Bool) → is_same_text file s.file ≡ b → (is_same_text file s.file || list_any (is_same_text file) (filter_map file_of_source ss)) ≡ true
+          → FileAt file (s ∷ ss)
+      by true e any = record { place = 0; source = s; here = refl; no_period = is; same = e }
+      by false e any = further file s ss (more (ap (λ b. b || list_any (is_same_text file) (filter_map file_of_source ss)) (sym e) ∙ any))
+
+  file_at : (file : List ℕ) (ss : List Source) → list_any (is_same_text file) (filter_map file_of_source ss) ≡ true → FileAt file ss
+  file_at file [] any = absurd cc
+  file_at file (s ∷ ss) any = one_file_at file s ss s.every refl any (file_at file ss)
+
+  -- which is not a clock
+  of_file : (w : WrittenFeed) (s : Source) → MeansFeed text kinds w s → s.every ≡ None → (v : WrittenSource) × (w ≡ OfFile v) × MeansSource text kinds v s
+  of_file (OfFile v) s means none = (v, refl, means)
+  of_file (OfClock v) s means none = absurd (let both : None ≡ Some (written_value v.every.value) = sym none ∙ means.period in cc)
+
   -- a file that was met is that of an earlier source
-  pub read_twice : (file : WrittenSpan) → list_any (λ (s : Source). is_same_text (inside text file) s.file) x.sources ≡ true
+  pub read_twice : (file : WrittenSpan) → list_any (is_same_text (inside text file)) (filter_map file_of_source x.sources) ≡ true
       → IsFileTwice text done file file.from
   read_twice file any =
-      let met = met_at (λ (s : Source). is_same_text (inside text file) s.file) x.sources any in
-      let got = pairs_right _ (flat_map sources_in done) x.sources drafts.sources
-      (position_or_len (λ (s : Source). is_same_text (inside text file) s.file) x.sources) met.0 met.1 in
+      let met = file_at (inside text file) x.sources any in
+      let got = pairs_right (MeansFeed text kinds) (flat_map sources_in done) x.sources drafts.sources met.place met.source met.here in
+      let filed = of_file got.0 met.source got.2 met.no_period in
       record {
         here = refl;
-        place = position_or_len (λ (s : Source). is_same_text (inside text file) s.file) x.sources;
-        source = got.0;
-        earlier = got.1;
-        same = sym (got.2).file ∙ sym (bytes_is (inside text file) (met.0).file met.2);
+        place = met.place;
+        source = filed.0;
+        earlier = got.1 ∙ ap (λ (w : WrittenFeed). Some w) filed.1;
+        same = sym filed.2.file ∙ sym (bytes_is (inside text file) met.source.file met.same);
       }
 
   -- a file that an earlier source reads
   pub file_twice : (file : WrittenSpan) (at : ℕ) → file_of text x.sources file ≡ Err (f.TwiceNamed at) → IsFileTwice text done file at
   file_twice file at e =
       elim (fault_then (nat_lt 0 (length (inside text file))) (f.WrongShape file.from)
-      (unless (not (list_any (λ (s : Source). is_same_text (inside text file) s.file) x.sources)) (f.TwiceNamed file.from) >> Ok (inside text file))
+      (unless (not (list_any (is_same_text (inside text file)) (filter_map file_of_source x.sources))) (f.TwiceNamed file.from) >> Ok (inside text file))
       (f.TwiceNamed at) e) [
         | inl empty ↦ absurd (let bad : f.WrongShape file.from ≡ f.TwiceNamed at = empty.1 in cc)
         | inr some ↦
-            elim (fault_then (not (list_any (λ (s : Source). is_same_text (inside text file) s.file) x.sources)) (f.TwiceNamed file.from)
+            elim (fault_then (not (list_any (is_same_text (inside text file)) (filter_map file_of_source x.sources))) (f.TwiceNamed file.from)
             (let r : Found (List ℕ) = Ok (inside text file) in r) (f.TwiceNamed at) some.1) [
-              | inl again ↦ read (list_any (λ (s : Source). is_same_text (inside text file) s.file) x.sources) refl again.0 again.1
+              | inl again ↦ read (list_any (is_same_text (inside text file)) (filter_map file_of_source x.sources)) refl again.0 again.1
               | inr fine ↦ absurd (let bad : (let r : Found (List ℕ) = Ok (inside text file) in r) ≡ Err (f.TwiceNamed at) = fine.1 in cc)
             ]
       ]
     where
-      read : (b : Bool) → list_any (λ (s : Source). is_same_text (inside text file) s.file) x.sources ≡ b → not b ≡ false
+      read : (b : Bool) → list_any (is_same_text (inside text file)) (filter_map file_of_source x.sources) ≡ b → not b ≡ false
           → f.TwiceNamed file.from ≡ f.TwiceNamed at
           → IsFileTwice text done file at
       read false any bad place = absurd cc

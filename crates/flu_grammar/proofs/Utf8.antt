@@ -1,5 +1,6 @@
 -- The normal form of the job of a text is UTF-8: each name, file, text of a list and plain piece of a template stands in the text between two of its
 -- characters, and all else that is printed is ASCII.
+use Rattle.flu_parse.specs.Printing.{head_of}
 use Rattle.std.proofs.Common.{◌≡◌, ◌<◌, ◌≤◌, ◌+◌, ◌-◌, ◌%◌, ◌/◌, ℕ, zero, suc, ℤ, pos, negsuc, Bool, true, false, cond, Option, Some, None, List, []}
 use Rattle.std.proofs.Common.{◌∷◌, ◌++◌, map, length, refl, sym, ap, subst, ◌∙◌, arith}
 use Rattle.std.specs.Prelude.{nat_lt, nat_le, ◌==◌, ◌&&◌, ◌||◌, slice_get, slice_index, slice_range, codes}
@@ -33,7 +34,7 @@ use Rattle.flu_model.specs.Texts.{Unit as TimeUnit}
 use Rattle.flu_calendar.specs.declared.unit.Unit.TheVariants.{Seconds, Milliseconds, Microseconds}
 use Rattle.flu_model.specs.Templates.{family_name, written_key, written_cell, written_piece, written_template}
 use Rattle.flu_text.specs.declared.written.WrittenSpan.{WrittenSpan}
-use Rattle.flu_syntax.specs.Tree.{Tree, Deed, Action, Declarations, Cell, Tag, Names, Depends, On, Source as SourceLine}
+use Rattle.flu_syntax.specs.Tree.{Tree, Deed, Action, Declarations, Cell, Tag, Names, Depends, On, Source as SourceLine, Clock as ClockLine}
 use Rattle.flu_layout.specs.Laid.{line_end, quoted}
 use Rattle.flu_layout.specs.Lists.{separated, keys_text}
 use Rattle.flu_layout.specs.Spelling.{name_of, inside}
@@ -47,8 +48,9 @@ use Rattle.flu_grammar.specs.Terms.{MeansTerm, means_number, means_value, means_
 use Rattle.flu_grammar.specs.Terms.{means_negative, means_negation, means_operation, MeansExpression}
 use Rattle.flu_grammar.specs.Templates.{MeansPiece, MeansTemplate}
 use Rattle.flu_grammar.specs.Actions.{MeansDeed, means_add, means_raise, means_set, means_clear, means_clear_family, means_emit, means_flush, MeansAction}
-use Rattle.flu_grammar.specs.Declared.{DeclaredKind, WrittenNames, under_kind, families_in, kinds_in, actions_in, sources_in, lists_in}
-use Rattle.flu_grammar.specs.Sources.{MeansSource}
+use Rattle.flu_grammar.specs.Declared.{DeclaredKind, WrittenFeed, OfFile, OfClock, WrittenNames, under_kind, families_in, kinds_in, actions_in, sources_in}
+use Rattle.flu_grammar.specs.Declared.{lists_in}
+use Rattle.flu_grammar.specs.Sources.{MeansFeed}
 use Rattle.flu_grammar.specs.Jobs.{MeansNames, without_list, MeansDeclaredKind}
 use Rattle.flu_grammar.specs.Laws.{NormalFormIsUtf8}
 
@@ -172,6 +174,7 @@ module _ (text : List ℕ) (utf8 : IsUtf8 text) where
   families (Depends a b relation ∷ ds) = families ds
   families (On kind actions ∷ ds) = families ds
   families (SourceLine n file rate slack tags ∷ ds) = families ds
+  families (ClockLine at n every rate tag ∷ ds) = families ds
 
   declared : (ds : Declarations) → AllByRecursion (λ (k : DeclaredKind). Utf8 k.name) (flat_map (kinds_in text) ds)
   declared [] = tt
@@ -181,6 +184,7 @@ module _ (text : List ℕ) (utf8 : IsUtf8 text) where
   declared (Depends a b relation ∷ ds) = declared ds
   declared (On kind actions ∷ ds) = declared ds
   declared (SourceLine n file rate slack tags ∷ ds) = declared ds
+  declared (ClockLine at n every rate tag ∷ ds) = declared ds
 
   -- families have the names that they have without their lists
   families_named : (fs : List Family) → AllByRecursion named_family (map without_list fs) → AllByRecursion named_family fs
@@ -390,19 +394,34 @@ module _ (js : List PlainKind) (named : AllByRecursion named_kind js) where
   same_tags [] = tt
   same_tags (t ∷ ts) = (tt, same_tags ts)
 
+  head : (s : Source) (every : Option ℕ) → Utf8 s.name → Utf8 s.file → Utf8 (head_of s every)
+  head s None named file =
+      ascii (codes "source ") refl also named also blank also quotes file
+      also ascii (codes " rate ") refl also number s.rate also slack s.slack also ascii (codes ": ") refl
+  head s (Some every) named file =
+      ascii (codes "clock ") refl also named also ascii (codes " every ") refl also number every
+      also ascii (codes " rate ") refl also number s.rate also ascii (codes ": ") refl
+
   source : (s : Source) → Utf8 s.name → Utf8 s.file → Utf8 (source_line js s)
   source s named file =
-      let head = ascii (codes "source ") refl also named also blank also quotes file
-      also ascii (codes " rate ") refl also number s.rate also slack s.slack also ascii (codes ": ") refl in
       let listed = marked (λ (x y : TagRef). Unit {0}) (codes ", ") (tag_text js) (ascii (codes ", ") refl) (λ x y is. tag y) s.tags s.tags
       (same_tags s.tags) in
-      head also listed also end
+      head s s.every named file also listed also end
 
 unit_ascii : (iso : Option TimeUnit) → Utf8 (iso_text iso)
 unit_ascii None = none
 unit_ascii (Some Seconds) = ascii (codes " iso seconds") refl
 unit_ascii (Some Milliseconds) = ascii (codes " iso milliseconds") refl
 unit_ascii (Some Microseconds) = ascii (codes " iso microseconds") refl
+
+-- a source has a file of the text, and a clock has none
+feed_utf8 : (bytes : List ℕ) (utf8 : IsUtf8 bytes) (kinds : List DeclaredKind) (js : List PlainKind) (ks : AllByRecursion named_kind js) (w : WrittenFeed)
+    (s : Source) → MeansFeed bytes kinds w s → Utf8 (source_line js s)
+feed_utf8 bytes utf8 kinds js ks (OfFile written) s means =
+    source js ks s (name bytes utf8 written.name s.name means.name)
+    (subst Utf8 (sym means.file) (between bytes (written.file.from + 1) (written.file.to - 1) utf8))
+feed_utf8 bytes utf8 kinds js ks (OfClock written) s means =
+    source js ks s (name bytes utf8 written.name s.name means.name) (subst Utf8 (sym means.no_file) none)
 
 -- ---- the whole
 pub normal_form_is_utf8 : NormalFormIsUtf8
@@ -421,9 +440,8 @@ normal_form_is_utf8 bytes job is =
     let third = word (job.version == 3) (codes "version 3" ++ ties_text job.ties ++ iso_text job.iso ++ line_end) [] named none in
     let version = word (job.version == 2) (codes "version 2" ++ line_end) _ (ascii (codes "version 2" ++ line_end) refl) third in
     let ons = lines bytes utf8 job.families fs said job.version ds (flat_map (kinds_in bytes) ds) job.kinds ks means.kinds in
-    let sources = items (MeansSource bytes (flat_map (kinds_in bytes) ds)) (source_line job.kinds)
-    (λ written s source_means. source job.kinds ks s (name bytes utf8 written.name s.name source_means.name)
-    (subst Utf8 (sym source_means.file) (between bytes (written.file.from + 1) (written.file.to - 1) utf8)))
+    let sources = items (MeansFeed bytes (flat_map (kinds_in bytes) ds)) (source_line job.kinds)
+    (λ written s feed_means. feed_utf8 bytes utf8 (flat_map (kinds_in bytes) ds) job.kinds ks written s feed_means)
     (flat_map sources_in ds) job.sources means.sources in
     (version also names also cells job.lists ls job.families fs also tags job.lists ls job.kinds ks also depends job.kinds ks job.depends also ons
     also sources).is

@@ -1,5 +1,5 @@
 -- What each fault of a job text says: which rule is broken, and where.
-use Rattle.std.specs.Prelude.{◌≡◌, ◌≢◌, ◌<◌, ◌≤◌, ◌+◌, ◌^◌, ◌&&◌, ◌⊎◌, ℕ, Bool, true, false, List, []}
+use Rattle.std.specs.Prelude.{◌≡◌, ◌≢◌, ◌<◌, ◌≤◌, ◌+◌, ◌^◌, ◌&&◌, ◌||◌, ◌⊎◌, ℕ, Bool, true, false, List, []}
 use Rattle.std.specs.Prelude.{◌∷◌, ◌++◌, length, sum_by, Option, Some, Err, slice_get, codes, IsTrue}
 use Rattle.std.specs.List.{flat_map}
 use Rattle.std.specs.Str.{IsUtf8}
@@ -29,16 +29,16 @@ use Rattle.flu_syntax.specs.declared.tree.WrittenRelation.TheVariants as r
 use Rattle.flu_syntax.specs.declared.tree.WrittenTies.{WrittenTies}
 use Rattle.flu_syntax.specs.declared.tree.WrittenUnit.{WrittenUnit}
 use Rattle.flu_syntax.specs.declared.tree.WrittenHead.{WrittenHead}
-use Rattle.flu_syntax.specs.Tree.{Action, Declaration, Declarations, Cell, Tag, Names, Depends, On, Source, Job as WrittenJob}
+use Rattle.flu_syntax.specs.Tree.{Action, Declaration, Declarations, Cell, Tag, Names, Depends, On, Source, Clock, Job as WrittenJob}
 use Rattle.flu_syntax.specs.Grammar.{IsJob}
 use Rattle.flu_layout.specs.Spelling.{name_of, inside, written_value}
 use Rattle.flu_parse.specs.declared.faults.JobFault.{JobFault}
 use Rattle.flu_parse.specs.declared.faults.JobFault.TheVariants as j
-use Rattle.flu_parse.specs.Listings.{written_keys, tag_count}
+use Rattle.flu_parse.specs.Listings.{written_keys, tag_count, alone}
 use Rattle.flu_parse.specs.Printing.{unit_name}
 use Rattle.flu_parse.specs.Reading.{job_in}
 use Rattle.flu_grammar.specs.Texts.{IsShortText}
-use Rattle.flu_grammar.specs.Declared.{DeclaredKind, under_kind, WrittenSource, lists_in, list_names, families_in, kinds_in, depends_in, sources_in}
+use Rattle.flu_grammar.specs.Declared.{DeclaredKind, under_kind, WrittenFeed, feed_tags, lists_in, list_names, families_in, kinds_in, depends_in, sources_in}
 use Rattle.flu_grammar.specs.Sources.{MeansKind, MeansTag}
 use Rattle.flu_grammar.specs.Faults.{NoneIsNamed, IsNotContinued, OpensTooMany, IsDeclaredTwice, IsOnTwice, IsFileTwice}
 use Rattle.flu_grammar.specs.Jobs.{MeansVersion}
@@ -65,7 +65,7 @@ abbrev pub listed_itags : List WrittenTag → ℕ
 listed_itags tags = sum_by (λ (t : WrittenTag). tag_count t.keys) tags
 
 abbrev pub itags_in : Declarations → ℕ
-itags_in ds = sum_by (λ (s : WrittenSource). listed_itags s.tags) (flat_map sources_in ds)
+itags_in ds = sum_by (λ (s : WrittenFeed). listed_itags (feed_tags s)) (flat_map sources_in ds)
 
 -- an earlier part of the list has one of the tags of this one
 pub record IsListedTwice (text : List ℕ) (kinds : List DeclaredKind) (earlier : List WrittenTag) (t : WrittenTag) : Type 0 where
@@ -154,6 +154,23 @@ pub data BreaksDeclaration (text : List ℕ) (version : ℕ) (all before : Decla
   in_tags : (name file : WrittenSpan) (rate slack : Option WrittenNumber) (earlier later : List WrittenTag) (t : WrittenTag) (fault : JobFault)
       → BreaksTag text (flat_map (kinds_in text) all) (itags_in before) earlier t fault
       → BreaksDeclaration text version all before (Source name file rate slack (earlier ++ t ∷ later)) fault
+  -- only version 3 has clocks
+  clock_of_older : (at : ℕ) (name : WrittenSpan) (every : WrittenNumber) (rate : Option WrittenNumber) (tag : WrittenSpan) → version ≢ 3
+      → BreaksDeclaration text version all before (Clock at name every rate tag) (j.WrongShape at)
+  -- its period is from 1 to 2^62
+  no_period : (at : ℕ) (name : WrittenSpan) (every : WrittenNumber) (rate : Option WrittenNumber) (tag : WrittenSpan)
+      → (written_value every.value < 1) ⊎ (2 ^ 62 < written_value every.value)
+      → BreaksDeclaration text version all before (Clock at name every rate tag) (j.WrongShape every.at)
+  high_rate_of_clock : (at : ℕ) (name : WrittenSpan) (every rate : WrittenNumber) (tag : WrittenSpan) → 1000000000 < written_value rate.value
+      → BreaksDeclaration text version all before (Clock at name every (Some rate) tag) (j.OverLimit Rate (written_value rate.value))
+  -- its tag is of a kind without key, item and value
+  no_tick : (at : ℕ) (name : WrittenSpan) (every : WrittenNumber) (rate : Option WrittenNumber) (tag : WrittenSpan) (number : ℕ)
+      (x : MeansKind text (flat_map (kinds_in text) all) tag number)
+      → (x.kind.keyed || x.kind.has_item || x.kind.has_value) ≡ true
+      → BreaksDeclaration text version all before (Clock at name every rate tag) (j.WrongShape tag.from)
+  in_tick : (at : ℕ) (name : WrittenSpan) (every : WrittenNumber) (rate : Option WrittenNumber) (tag : WrittenSpan) (fault : JobFault)
+      → BreaksTag text (flat_map (kinds_in text) all) (itags_in before) [] (alone tag) fault
+      → BreaksDeclaration text version all before (Clock at name every rate tag) fault
 
 -- ---- a written job
 

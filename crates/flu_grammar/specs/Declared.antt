@@ -8,12 +8,13 @@ use Rattle.flu_text.specs.declared.written.WrittenNumber.{WrittenNumber}
 use Rattle.flu_syntax.specs.declared.tree.WrittenTag.{WrittenTag}
 use Rattle.flu_syntax.specs.declared.tree.WrittenRelation.{WrittenRelation}
 use Rattle.flu_syntax.specs.declared.tree.WrittenBy.{WrittenBy}
-use Rattle.flu_syntax.specs.Tree.{Declaration, Declarations, Cell, Tag, Names, Depends, On, Source, Action}
+use Rattle.flu_syntax.specs.Tree.{Declaration, Declarations, Cell, Tag, Names, Depends, On, Source, Clock, Action}
 use Rattle.flu_layout.specs.Spelling.{name_of}
 use Rattle.flu_parse.specs.Naming.{has_keys, keys_by, items_by}
+use Rattle.flu_parse.specs.Listings.{alone}
 use Rattle.flu_grammar.specs.Means.{Under}
 
--- the name that a declaration gives: the names of cells, tags, lists and sources are one set
+-- the name that a declaration gives: the names of cells, tags, lists, sources and clocks are one set
 abbrev pub names_in : List ℕ → Declaration → List (List ℕ)
 names_in text (Cell name cells sort) = name_of text name ∷ []
 names_in text (Tag name keyed item has_value) = name_of text name ∷ []
@@ -21,6 +22,7 @@ names_in text (Names at name texts) = name_of text name ∷ []
 names_in text (Depends a b relation) = []
 names_in text (On kind actions) = []
 names_in text (Source name file rate slack tags) = name_of text name ∷ []
+names_in text (Clock at name every rate tag) = name_of text name ∷ []
 
 -- a `cell` declares a family; which list names its keys is said apart
 abbrev pub families_in : List ℕ → Declaration → List Family
@@ -30,6 +32,7 @@ families_in text (Names at name texts) = []
 families_in text (Depends a b relation) = []
 families_in text (On kind actions) = []
 families_in text (Source name file rate slack tags) = []
+families_in text (Clock at name every rate tag) = []
 
 -- a `tag` declares a kind
 pub record DeclaredKind : Type 0 where
@@ -50,6 +53,7 @@ kinds_in text (Names at name texts) = []
 kinds_in text (Depends a b relation) = []
 kinds_in text (On kind actions) = []
 kinds_in text (Source name file rate slack tags) = []
+kinds_in text (Clock at name every rate tag) = []
 
 pub record WrittenDepend : Type 0 where
   pub a : WrittenSpan
@@ -63,6 +67,7 @@ depends_in (Names at name texts) = []
 depends_in (Depends a b relation) = record { a = a; b = b; relation = relation } ∷ []
 depends_in (On kind actions) = []
 depends_in (Source name file rate slack tags) = []
+depends_in (Clock at name every rate tag) = []
 
 -- an `on` names a kind
 abbrev pub ons_in : List ℕ → Declaration → List (List ℕ)
@@ -72,6 +77,7 @@ ons_in text (Names at name texts) = []
 ons_in text (Depends a b relation) = []
 ons_in text (On kind actions) = name_of text kind ∷ []
 ons_in text (Source name file rate slack tags) = []
+ons_in text (Clock at name every rate tag) = []
 
 -- and has the actions of the kind of this name, if it is that one
 abbrev pub actions_in : List ℕ → List ℕ → Declaration → List Action
@@ -81,6 +87,7 @@ actions_in text kind_name (Names at name texts) = []
 actions_in text kind_name (Depends a b relation) = []
 actions_in text kind_name (On kind actions) = if bytes_eq (name_of text kind) kind_name then actions else []
 actions_in text kind_name (Source name file rate slack tags) = []
+actions_in text kind_name (Clock at name every rate tag) = []
 
 pub record WrittenSource : Type 0 where
   pub name : WrittenSpan
@@ -89,13 +96,34 @@ pub record WrittenSource : Type 0 where
   pub slack : Option WrittenNumber
   pub tags : List WrittenTag
 
-abbrev pub sources_in : Declaration → List WrittenSource
+pub record WrittenClock : Type 0 where
+  pub name : WrittenSpan
+  pub every : WrittenNumber
+  pub rate : Option WrittenNumber
+  pub tag : WrittenSpan
+
+-- a source of events has a file, or it is a clock
+pub data WrittenFeed : Type 0 where
+  OfFile : (source : WrittenSource) → WrittenFeed
+  OfClock : (clock : WrittenClock) → WrittenFeed
+
+abbrev pub feed_name : WrittenFeed → WrittenSpan
+feed_name (OfFile source) = source.name
+feed_name (OfClock clock) = clock.name
+
+-- a clock lists one tag, without brackets
+abbrev pub feed_tags : WrittenFeed → List WrittenTag
+feed_tags (OfFile source) = source.tags
+feed_tags (OfClock clock) = alone clock.tag ∷ []
+
+abbrev pub sources_in : Declaration → List WrittenFeed
 sources_in (Cell name cells sort) = []
 sources_in (Tag name keyed item has_value) = []
 sources_in (Names at name texts) = []
 sources_in (Depends a b relation) = []
 sources_in (On kind actions) = []
-sources_in (Source name file rate slack tags) = record { name = name; file = file; rate = rate; slack = slack; tags = tags } ∷ []
+sources_in (Source name file rate slack tags) = OfFile (record { name = name; file = file; rate = rate; slack = slack; tags = tags }) ∷ []
+sources_in (Clock at name every rate tag) = OfClock (record { name = name; every = every; rate = rate; tag = tag }) ∷ []
 
 -- ---- lists of names
 
@@ -111,6 +139,7 @@ lists_in (Names at name texts) = record { name = name; texts = texts } ∷ []
 lists_in (Depends a b relation) = []
 lists_in (On kind actions) = []
 lists_in (Source name file rate slack tags) = []
+lists_in (Clock at name every rate tag) = []
 
 -- the names of all lists, in the order of their declarations
 abbrev pub list_names : List ℕ → Declarations → List (List ℕ)
@@ -124,6 +153,7 @@ family_lists_in (Names at name texts) = []
 family_lists_in (Depends a b relation) = []
 family_lists_in (On kind actions) = []
 family_lists_in (Source name file rate slack tags) = []
+family_lists_in (Clock at name every rate tag) = []
 
 abbrev pub kind_lists_in : Declaration → List (Option WrittenBy)
 kind_lists_in (Cell name cells sort) = []
@@ -132,6 +162,7 @@ kind_lists_in (Names at name texts) = []
 kind_lists_in (Depends a b relation) = []
 kind_lists_in (On kind actions) = []
 kind_lists_in (Source name file rate slack tags) = []
+kind_lists_in (Clock at name every rate tag) = []
 
 -- ---- versions
 
@@ -140,7 +171,7 @@ abbrev pub IsListIn : ℕ → Option WrittenBy → Type 0
 IsListIn version None = Unit {0}
 IsListIn version (Some by) = version ≡ 3
 
--- In version 3 `item` means the event's item, so no family is called so; and only there a kind has items, and are there lists.
+-- In version 3 `item` means the event's item, so no family is called so; and only there a kind has items, and are there lists and clocks.
 abbrev pub IsDeclaredIn : List ℕ → ℕ → Declaration → Type 0
 IsDeclaredIn text version (Cell name cells sort) = (version ≡ 3 → name_of text name ≢ codes "item") × IsListIn version (keys_by cells)
 IsDeclaredIn text version (Tag name keyed item has_value) = is_some item ≡ true → version ≡ 3
@@ -148,3 +179,4 @@ IsDeclaredIn text version (Names at name texts) = version ≡ 3
 IsDeclaredIn text version (Depends a b relation) = Unit {0}
 IsDeclaredIn text version (On kind actions) = Unit {0}
 IsDeclaredIn text version (Source name file rate slack tags) = Unit {0}
+IsDeclaredIn text version (Clock at name every rate tag) = version ≡ 3

@@ -14,7 +14,7 @@ use Rattle.flu_model.specs.declared.jobs.Program.{Program}
 use Rattle.flu_model.specs.declared.plans.Node.{Node}
 use Rattle.flu_model.specs.Erasure.{Job}
 use Rattle.flu_text.specs.declared.written.WrittenSpan.{WrittenSpan}
-use Rattle.flu_syntax.specs.Tree.{Action, Declaration, Declarations, Cell, Tag, Names, Depends, On, Source as SourceLine}
+use Rattle.flu_syntax.specs.Tree.{Action, Declaration, Declarations, Cell, Tag, Names, Depends, On, Source as SourceLine, Clock}
 use Rattle.flu_layout.specs.Spelling.{name_of, inside}
 use Rattle.flu_parse.specs.declared.faults.JobFault.{JobFault}
 use Rattle.flu_parse.specs.declared.faults.JobFault.TheVariants as j
@@ -29,7 +29,7 @@ use Rattle.flu_plan.specs.Resolving.{names_of, kid_of, kind_of as plan_kind_of, 
 use Rattle.flu_plan.specs.Reading.{plan_in}
 use Rattle.flu_grammar.specs.Means.{AllDiffer}
 use Rattle.flu_grammar.specs.Texts.{IsShortText}
-use Rattle.flu_grammar.specs.Declared.{DeclaredKind, WrittenSource, names_in, families_in, kinds_in, ons_in, sources_in}
+use Rattle.flu_grammar.specs.Declared.{DeclaredKind, WrittenSource, OfFile, names_in, families_in, kinds_in, ons_in, sources_in}
 use Rattle.flu_grammar.specs.Plans.{IsPlanText}
 use Rattle.flu_grammar.specs.Jobs.{IsJobText}
 
@@ -126,6 +126,7 @@ spans_in (Names at name texts) = name ∷ []
 spans_in (Depends a b relation) = []
 spans_in (On kind actions) = []
 spans_in (SourceLine name file rate slack tags) = name ∷ []
+spans_in (Clock at name every rate tag) = name ∷ []
 
 -- The declaration of this name at this place is the first that gives a name which an earlier one gives.
 pub record IsDeclaredTwice (text : List ℕ) (ds : Declarations) (at : ℕ) : Type 0 where
@@ -160,7 +161,7 @@ pub record IsFileTwice (text : List ℕ) (before : Declarations) (file : Written
   pub here : at ≡ file.from
   pub place : ℕ
   pub source : WrittenSource
-  pub earlier : slice_get (flat_map sources_in before) place ≡ Some source
+  pub earlier : slice_get (flat_map sources_in before) place ≡ Some (OfFile source)
   pub same : inside text source.file ≡ inside text file
 
 abbrev pub TwiceNamedIsFileTwice : Type 0

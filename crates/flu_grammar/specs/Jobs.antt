@@ -1,15 +1,14 @@
 -- What a job text is, and which job it means: tokens, a job that is written by the grammar, and what each of its declarations says.
 use Rattle.std.specs.Prelude.{◌≡◌, ◌≤◌, ◌^◌, ℕ, List, map, length, Option, Some, None, slice_get, IsTrue}
-use Rattle.std.specs.List.{flat_map, list_all}
+use Rattle.std.specs.List.{flat_map, filter_map, list_all}
 use Rattle.flu_lemmas.specs.Items.{Pairs}
 use Rattle.flu_model.specs.declared.jobs.Family.{Family}
-use Rattle.flu_model.specs.declared.jobs.Source.{Source}
 use Rattle.flu_model.specs.Contents.{key_count}
 use Rattle.flu_model.specs.Erasure.{PlainKind, Job}
 use Rattle.flu_model.specs.Listing.{itags_of_sources}
 use Rattle.flu_model.specs.ListRules.{is_listed_text}
 use Rattle.flu_model.specs.Numberings.{Numbering}
-use Rattle.flu_model.specs.Rules.{is_version}
+use Rattle.flu_model.specs.Rules.{is_version, file_of_source}
 use Rattle.flu_model.specs.Texts.{Unit as TimeUnit}
 use Rattle.flu_text.specs.declared.words.Token.{Token}
 use Rattle.flu_text.specs.Grammar.{AreTokens}
@@ -26,7 +25,7 @@ use Rattle.flu_grammar.specs.Texts.{IsShortText}
 use Rattle.flu_grammar.specs.Actions.{MeansAction}
 use Rattle.flu_grammar.specs.Declared.{DeclaredKind, WrittenNames, under_kind, IsDeclaredIn, names_in, lists_in, list_names, families_in, family_lists_in}
 use Rattle.flu_grammar.specs.Declared.{kinds_in, kind_lists_in, depends_in, ons_in, actions_in, sources_in}
-use Rattle.flu_grammar.specs.Sources.{MeansDepend, MeansSource}
+use Rattle.flu_grammar.specs.Sources.{MeansDepend, MeansFeed}
 
 -- version 1, 2 or 3, and 1 if none is written
 abbrev pub MeansVersion : Option WrittenHead → ℕ → Type 0
@@ -102,8 +101,8 @@ pub record MeansJob (text : List ℕ) (written : WrittenJob) (job : Job) : Type 
       → (number : ℕ) × IsNamed (λ (k : DeclaredKind). k.name) (flat_map (kinds_in text) written.declarations) name number
   pub own_ons : AllDiffer (flat_map (ons_in text) written.declarations)
   pub depends : Pairs (MeansDepend text (flat_map (kinds_in text) written.declarations)) (flat_map depends_in written.declarations) job.depends
-  pub sources : Pairs (MeansSource text (flat_map (kinds_in text) written.declarations)) (flat_map sources_in written.declarations) job.sources
-  pub own_files : AllDiffer (map (λ (s : Source). s.file) job.sources)
+  pub sources : Pairs (MeansFeed text (flat_map (kinds_in text) written.declarations)) (flat_map sources_in written.declarations) job.sources
+  pub own_files : AllDiffer (filter_map file_of_source job.sources)
   pub few_lists : length job.lists ≤ 64
   pub few_families : length job.families ≤ 64
   pub few_kinds : length job.kinds ≤ 64

@@ -1,5 +1,5 @@
 -- What written dependencies and sources mean, with the kinds that are declared.
-use Rattle.std.specs.Prelude.{◌≡◌, ◌≢◌, ◌<◌, ◌≤◌, ℕ, Bool, true, false, List, [], Option, Some, None, slice_get}
+use Rattle.std.specs.Prelude.{◌≡◌, ◌≢◌, ◌<◌, ◌≤◌, ◌^◌, ℕ, Bool, true, false, List, [], ◌∷◌, Option, Some, None, slice_get}
 use Rattle.flu_lemmas.specs.Items.{Pairs}
 use Rattle.flu_model.specs.declared.jobs.Depend.{Depend}
 use Rattle.flu_model.specs.declared.jobs.Keys.{Keys}
@@ -16,7 +16,7 @@ use Rattle.flu_syntax.specs.declared.tree.WrittenRelation.{WrittenRelation}
 use Rattle.flu_syntax.specs.declared.tree.WrittenRelation.TheVariants as r
 use Rattle.flu_layout.specs.Spelling.{name_of, inside, written_value}
 use Rattle.flu_grammar.specs.Cells.{IsKey}
-use Rattle.flu_grammar.specs.Declared.{DeclaredKind, WrittenDepend, WrittenSource}
+use Rattle.flu_grammar.specs.Declared.{DeclaredKind, WrittenDepend, WrittenSource, WrittenClock, WrittenFeed, OfFile, OfClock}
 
 -- the declared kind of this number has the written name
 pub record MeansKind (text : List ℕ) (kinds : List DeclaredKind) (written : WrittenSpan) (number : ℕ) : Type 0 where
@@ -63,7 +63,28 @@ pub record MeansSource (text : List ℕ) (kinds : List DeclaredKind) (written : 
   pub name : source.name ≡ name_of text written.name
   pub file : source.file ≡ inside text written.file
   pub some_file : source.file ≢ []
+  pub no_period : source.every ≡ None
   pub rate : MeansNumber 1 1000000000 written.rate source.rate
   pub slack : MeansNumber 0 60000 written.slack source.slack
   pub tags : Pairs (MeansTag text kinds) written.tags source.tags
   pub apart : AreApart source.tags
+
+-- A clock has no file and no slack, and a period from 1 to 2^62; its tag is of a kind without key, item and value.
+pub record MeansClock (text : List ℕ) (kinds : List DeclaredKind) (written : WrittenClock) (source : Source) : Type 0 where
+  pub name : source.name ≡ name_of text written.name
+  pub no_file : source.file ≡ []
+  pub period : source.every ≡ Some (written_value written.every.value)
+  pub some_period : 1 ≤ written_value written.every.value
+  pub few_period : written_value written.every.value ≤ 2 ^ 62
+  pub rate : MeansNumber 1 1000000000 written.rate source.rate
+  pub slack : source.slack ≡ 0
+  pub number : ℕ
+  pub kind : MeansKind text kinds written.tag number
+  pub no_key : kind.kind.keyed ≡ false
+  pub no_item : kind.kind.has_item ≡ false
+  pub no_value : kind.kind.has_value ≡ false
+  pub tags : source.tags ≡ record { kind = number; keys = keys.Alone } ∷ []
+
+abbrev pub MeansFeed : List ℕ → List DeclaredKind → WrittenFeed → Source → Type 0
+MeansFeed text kinds (OfFile written) source = MeansSource text kinds written source
+MeansFeed text kinds (OfClock written) source = MeansClock text kinds written source

@@ -81,7 +81,7 @@ fn push_after(alloc: Global, told: &mut String, time: u64, after: Span) -> Resul
     push_line(told, line.as_str())
 }
 
-// Appends how many events each source has, and from when to when.
+// Appends how many events each source has, or ticks each clock, and from when to when.
 fn push_sources(
     alloc: Global,
     told: &mut String,
@@ -96,10 +96,13 @@ fn push_sources(
             last,
         } = span_of(program, itags, Chosen::Source(number));
         let name = source.name.as_str();
+        let is_clock = source.every.is_some();
+        let word = if is_clock { "clock" } else { "source" };
+        let event = if is_clock { "tick" } else { "event" };
         let line = match events {
-            0 => format!(in alloc; "source {name}: no event")?,
-            1 => format!(in alloc; "source {name}: 1 event, at {first}")?,
-            _ => format!(in alloc; "source {name}: {events} events, at {first} to {last}")?,
+            0 => format!(in alloc; "{word} {name}: no {event}")?,
+            1 => format!(in alloc; "{word} {name}: 1 {event}, at {first}")?,
+            _ => format!(in alloc; "{word} {name}: {events} {event}s, at {first} to {last}")?,
         };
         push_line(told, line.as_str())?;
         number = number.saturating_add(1);
@@ -133,7 +136,8 @@ fn push_kinds(
     Ok(())
 }
 
-// Appends that two sources may have different units of time, if all times of one are far below all times of the other.
+// Appends that two sources may have different units of time, if all times of one are far below all times of the other. Clocks tick behind the rows of
+// the others, whatever their units.
 fn push_units(
     alloc: Global,
     told: &mut String,
@@ -146,7 +150,7 @@ fn push_units(
     for source in program.sources.items() {
         let span = span_of(program, itags, Chosen::Source(number));
         number = number.saturating_add(1);
-        if span.first <= span.last {
+        if span.first <= span.last && source.every.is_none() {
             let name = source.name.as_str();
             low = lower(low, name, span.last);
             high = higher(high, name, span.first);

@@ -19,14 +19,42 @@ const MOST_LEVELS: u32 = 32;
 /// More than the number of halvings of any text's tokens.
 const HALVINGS: u32 = 32;
 
-/// The tags of a source with which there are too many itags.
+/// The tags of a source, or the tag of a clock, with which there are too many itags.
 pub fn itags_place(job: &WrittenJob) -> Option<usize> {
     let mut itags = 0i64;
     for declaration in job.declarations.items() {
-        if let WrittenDeclaration::Source { tags, .. } = declaration {
-            let place = place_in_tags(tags.items(), &mut itags);
-            if place.is_some() {
-                return place;
+        let place = match declaration {
+            WrittenDeclaration::Source { tags, .. } => place_in_tags(tags.items(), &mut itags),
+            WrittenDeclaration::Clock { tag, .. } => {
+                itags = itags.saturating_add(1);
+                if itags > MOST_ITAGS {
+                    Some(tag.from)
+                } else {
+                    None
+                }
+            }
+            _ => None,
+        };
+        if place.is_some() {
+            return place;
+        }
+    }
+    None
+}
+
+/// The name of the n-th of the sources, clocks among them.
+pub fn source_place(job: &WrittenJob, count: u64) -> Option<usize> {
+    let mut met = 0u64;
+    for declaration in job.declarations.items() {
+        let name = match declaration {
+            WrittenDeclaration::Source { name, .. } => Some(name.from),
+            WrittenDeclaration::Clock { name, .. } => Some(name.from),
+            _ => None,
+        };
+        if name.is_some() {
+            met = met.saturating_add(1);
+            if met == count {
+                return name;
             }
         }
     }

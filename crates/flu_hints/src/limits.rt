@@ -2,6 +2,7 @@
 
 use crate::jobs::{
     actions_place, height_place, itags_place, list_place, listed_name_place, nesting_place,
+    source_place,
 };
 use crate::plans::{depth_place, predicates_place};
 use flu_model::What;
@@ -28,7 +29,7 @@ pub fn limit_place(alloc: Global, what: What, count: u64, text: &[u8]) -> Option
         What::Depth => depth_place(alloc, text, found),
         What::Families => place_of_word(found, Reserved::Cell, count),
         What::Kinds => place_of_word(found, Reserved::Tag, count),
-        What::Sources => place_of_word(found, Reserved::Source, count),
+        What::Sources => place_before(found, source_place(&job_in(alloc, text, found)?, count)?),
         What::Depends => place_of_word(found, Reserved::Depends, count),
         What::Nodes => place_of_word(found, Reserved::Node, count),
         What::Predicates => predicates_place(found, count),
@@ -55,6 +56,18 @@ fn place_of_word(found: &[Token], word: Reserved, count: u64) -> Option<usize> {
                 return Some(token.from);
             }
         }
+    }
+    None
+}
+
+// The place of the token before the one at a place.
+fn place_before(found: &[Token], place: usize) -> Option<usize> {
+    let mut before = None;
+    for token in found {
+        if token.from == place {
+            return before;
+        }
+        before = Some(token.from);
     }
     None
 }

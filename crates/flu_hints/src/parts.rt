@@ -4,6 +4,7 @@ use crate::hints::refusal_hint;
 use crate::places::push_line;
 use crate::reasons::Failure;
 use crate::words::word_at;
+use flu_apart::Reason;
 use flu_combine::PartialDefect;
 use flu_lines::{FileDefect, NodeDefect, PartRefusal};
 use flu_model::{Node, Plan};
@@ -23,6 +24,10 @@ const FIRST_PARTIAL: usize = 3;
 /// What keeps a node from being apart.
 const SHARED: &str =
     "a tag of the node or of one below it reads or owns that cell, and a tag of another node uses it too";
+
+/// What keeps each node of a job with a clock from being apart.
+const CLOCK: &str =
+    "a clock ticks behind the rows of all sources, of which a process of its own reads only some";
 
 /// What a person who sees that a part command was refused may want to know; empty if nothing is known.
 ///
@@ -47,7 +52,7 @@ fn node_hint(alloc: Global, plan: &Plan, why: NodeDefect) -> Result<String, Allo
     let mut told = String::new(alloc);
     match why {
         NodeDefect::Unknown => push_nodes(alloc, &mut told, plan)?,
-        NodeDefect::NotApart(node, _) => push_not_apart(alloc, &mut told, plan, node)?,
+        NodeDefect::NotApart(node, why) => push_not_apart(alloc, &mut told, plan, node, why)?,
     }
     Ok(told)
 }
@@ -94,7 +99,7 @@ fn push_partial(
             push_line(told, "it names this plan, which has no node of that name")?;
             push_nodes(alloc, told, plan)?;
         }
-        PartialDefect::NotApart(node, _) => push_not_apart(alloc, told, plan, node)?,
+        PartialDefect::NotApart(node, why) => push_not_apart(alloc, told, plan, node, why)?,
         PartialDefect::Twice(_) => {
             push_line(
                 told,
@@ -186,13 +191,28 @@ fn push_nodes(alloc: Global, told: &mut String, plan: &Plan) -> Result<(), Alloc
     push_line(told, line.as_str())
 }
 
-// Appends what it means that a node may not be apart, and which nodes are above it.
+// Appends what it means that a node may not be apart, and what to do.
 fn push_not_apart(
     alloc: Global,
     told: &mut String,
     plan: &Plan,
     node: u32,
+    why: Reason,
 ) -> Result<(), AllocError> {
+    match why {
+        Reason::Clock(_) => {
+            push_line(told, CLOCK)?;
+            push_line(
+                told,
+                "run the job as a whole, or give the ticks as rows of a source with a file in place of the clock",
+            )
+        }
+        Reason::Shared(_) => push_shared(alloc, told, plan, node),
+    }
+}
+
+// Appends what it means that a node shares a cell, and which nodes are above it.
+fn push_shared(alloc: Global, told: &mut String, plan: &Plan, node: u32) -> Result<(), AllocError> {
     push_line(told, SHARED)?;
     let mut line = String::from_str(
         alloc,

@@ -2,7 +2,7 @@
 
 use crate::places::push_line;
 use flu_calendar::{read_time, times_end};
-use flu_model::{Keys, NameList, Program, Source, TagRef, Unit, moments_a_time};
+use flu_model::{Keys, NameList, Program, Source, TagRef, Unit, end_of_times};
 use flu_streams::Why;
 use std::alloc::{AllocError, Global};
 
@@ -189,14 +189,24 @@ fn bad_row_reason(program: &Program, row: &str) -> Option<&'static str> {
         None => time_reason(time),
     };
     if reason.is_none() && is_too_late(program, time) {
-        return Some(
-            "the time is too great: 2^63, divided by the sources and by ties, is the limit; a smaller number of ties or a coarser unit raises it",
-        );
+        return Some(if has_clocks(program) {
+            "the time is too great: 2^63, divided by the sources and by ties, is the limit, and a tick of each clock has to come after it"
+        } else {
+            "the time is too great: 2^63, divided by the sources and by ties, is the limit; a smaller number of ties or a coarser unit raises it"
+        });
     }
     reason.or_else(|| rest_reason(program.version, rest))
 }
 
-// Whether a time that has a form has moments of 2^63 or more.
+fn has_clocks(program: &Program) -> bool {
+    program
+        .sources
+        .items()
+        .iter()
+        .any(|source| source.every.is_some())
+}
+
+// Whether a time that has a form is no time of a row, which is where it has moments of 2^63 or more, or no tick of a clock can come after it.
 fn is_too_late(program: &Program, time: &str) -> bool {
     let number = if is_digits(time) {
         time.parse::<u64>().ok()
@@ -206,7 +216,7 @@ fn is_too_late(program: &Program, time: &str) -> bool {
             .and_then(|unit| read_time(unit, time.as_bytes()))
     };
     match number {
-        Some(number) => number >= (1 << 63) / moments_a_time(program),
+        Some(number) => number >= end_of_times(program),
         None => false,
     }
 }

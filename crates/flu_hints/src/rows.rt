@@ -5,7 +5,7 @@ use crate::places::{push_line, short_text};
 use crate::row_reasons::push_reason;
 use flu_model::{Program, Source};
 use flu_streams::SourceFault;
-use std::alloc::AllocError;
+use std::alloc::{AllocError, Global};
 use std::rt;
 
 /// The four forms of a row.
@@ -17,7 +17,8 @@ const FORMS_WITH_ITEMS: &str =
     "  an event of a kind with items is TIME,TAG,ITEM,VALUE or TIME,TAG,ITEM
 ";
 
-/// The text of the row that is a defect of a source of this job, in the source's file, why it is one, and the forms that rows have.
+/// The text of the row that is a defect of a source of this job, in the source's file, why it is one, and the forms that rows have; of a clock, the
+/// tick that is a defect and why.
 pub fn row_hint<R: rt::Files + AllocGlobal>(
     rt: &R,
     program: &Program,
@@ -25,6 +26,10 @@ pub fn row_hint<R: rt::Files + AllocGlobal>(
 ) -> Result<String, AllocError> {
     let mut told = String::new(rt.alloc());
     if let Some(source) = program.sources.items().get(fault.source as usize) {
+        if source.every.is_some() {
+            push_tick(rt.alloc(), &mut told, program, source, fault)?;
+            return Ok(told);
+        }
         push_row(rt, &mut told, program, source, fault)?;
     }
     told.push_str(FORMS)?;
@@ -37,6 +42,21 @@ pub fn row_hint<R: rt::Files + AllocGlobal>(
 // Whether a kind of the job has items.
 fn has_items(program: &Program) -> bool {
     program.kinds.items().iter().any(|kind| kind.has_item)
+}
+
+// Appends which tick of a clock is a defect, and why: a clock has no file, so that there is no row to show.
+fn push_tick(
+    alloc: Global,
+    told: &mut String,
+    program: &Program,
+    clock: &Source,
+    fault: SourceFault,
+) -> Result<(), AllocError> {
+    let name = clock.name.as_str();
+    let row = fault.row;
+    let head = format!(in alloc; "clock {name}, tick {row}")?;
+    push_line(told, head.as_str())?;
+    push_reason(alloc, told, program, clock, fault.why, None)
 }
 
 // Appends a row of a source's file to a text, with the file's name and its number, and why it is a defect.

@@ -19,11 +19,13 @@ pub fn bytes_to_read<R: rt::Files + AllocGlobal>(
     Some(bytes)
 }
 
-// The bytes of the files of a job's sources, if these are all regular files.
+// The bytes of the files of a job's sources, if these are all regular files; a clock has none.
 fn source_bytes<R: rt::Files + AllocGlobal>(rt: &R, program: &Program) -> Option<u64> {
     let mut bytes = 0u64;
     for source in program.sources.items() {
-        bytes = bytes.saturating_add(length_of(rt, source.file.as_str())?);
+        if source.every.is_none() {
+            bytes = bytes.saturating_add(length_of(rt, source.file.as_str())?);
+        }
     }
     Some(bytes)
 }

@@ -164,7 +164,7 @@ fn push_first_name(
     };
     let mut is_declared = false;
     for (place, token) in found.iter().enumerate() {
-        let is_declared_here = is_declared || names_list(found.as_slice(), place);
+        let is_declared_here = is_declared || is_named_here(found.as_slice(), place);
         if is_declared_here && spelled(text, token) == Some(wanted) {
             let (number, _) = line_begin(text.as_bytes(), token.from);
             let advice = format!(in alloc;
@@ -203,15 +203,19 @@ fn word_advice(alloc: Global, language: Language, text: &[u8], at: usize) -> Opt
     None
 }
 
-// Whether the token at this place is the name of a list: it stands between `names` and a colon.
-fn names_list(found: &[Token], place: usize) -> bool {
+// Whether the token at this place is the name of a list or a clock: it stands between `names` and a colon, or between `clock` and `every`.
+fn is_named_here(found: &[Token], place: usize) -> bool {
     let Some(before) = place.checked_sub(1).and_then(|place| found.get(place)) else {
         return false;
     };
     let Some(behind) = found.get(place.saturating_add(1)) else {
         return false;
     };
-    before.word == Word::Name(Contextual::Names) && behind.word == Word::Mark(Mark::Colon)
+    match before.word {
+        Word::Name(Contextual::Names) => behind.word == Word::Mark(Mark::Colon),
+        Word::Name(Contextual::Clock) => behind.word == Word::Name(Contextual::Every),
+        _ => false,
+    }
 }
 
 // Whether a name is declared by the word before it.

@@ -160,13 +160,16 @@ fn is_used(program: &Program, list: u32) -> bool {
             .any(|kind| kind.list == Some(list))
 }
 
-// Appends the files of sources that cannot be found, each with the system's reason.
+// Appends the files of sources that cannot be found (a clock has none), each with the system's reason.
 fn push_absent<R: rt::Files + AllocGlobal>(
     rt: &R,
     told: &mut String,
     program: &Program,
 ) -> Result<(), AllocError> {
     for source in program.sources.items() {
+        if source.every.is_some() {
+            continue;
+        }
         let file = source.file.as_str();
         if let Err(error) = fs::metadata(rt, file) {
             let name = source.name.as_str();

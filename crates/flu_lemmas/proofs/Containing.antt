@@ -1,6 +1,8 @@
 -- What a list contains, beside what std's Elements say.
-use Rattle.std.proofs.Common.{◌≡◌, ◌≢◌, ◌<◌, ◌≤◌, ℕ, zero, suc, Bool, true, false, ◌⊎◌, inl, inr, List, [], ◌∷◌, length, get_or, refl, sym, subst, ◌∙◌, arith}
-use Rattle.std.specs.Prelude.{Contains, slice_index_or}
+use Rattle.std.proofs.Common.{◌≡◌, ◌≢◌, ◌<◌, ◌≤◌, ℕ, zero, suc, Bool, true, false, ◌⊎◌, inl, inr, List, [], ◌∷◌, Option, Some, None, length, get_or}
+use Rattle.std.proofs.Common.{refl, sym, ap, subst, ◌∙◌, arith}
+use Rattle.std.specs.List.{cons_option, filter_map}
+use Rattle.std.specs.Prelude.{Contains, slice_get, slice_index_or}
 use Rattle.std.specs.Bool.{Decides}
 use Rattle.std.proofs.lemmas.Bool.{both_ways}
 use Rattle.std.proofs.lemmas.List.{get_or_default}
@@ -17,6 +19,20 @@ contains_cases {X} x y xs there = at there.0 there.1 there.2
     at : (k : ℕ) → k < length (x ∷ xs) → slice_index_or (x ∷ xs) k y ≡ y → (x ≡ y) ⊎ Contains xs y
     at zero lt e = inl e
     at (suc k) lt e = inr (k, omega arith, e)
+
+-- what is kept of later elements, where something may be kept of the first one
+pub kept_later : {X : Type 0} (o : Option X) (xs : List X) (x : X) → Contains xs x → Contains (cons_option o xs) x
+kept_later None xs x there = there
+kept_later (Some y) xs x there = contains_later y x xs there
+
+-- what is kept of an element is among all that is kept
+pub kept_at : {X Y : Type 0} (keep : X → Option Y) (xs : List X) (i : ℕ) (x : X) (y : Y) → slice_get xs i ≡ Some x → keep x ≡ Some y
+    → Contains (filter_map keep xs) y
+kept_at keep [] i x y is kept = absurd cc
+kept_at keep (z ∷ xs) zero x y is kept =
+    let same : z ≡ x = cc in
+    subst (λ o. Contains (cons_option o (filter_map keep xs)) y) (sym (ap keep same ∙ kept)) (contains_here y (filter_map keep xs))
+kept_at keep (z ∷ xs) (suc i) x y is kept = kept_later (keep z) (filter_map keep xs) y (kept_at keep xs i x y is kept)
 
 pub contains_none : {X : Type 0} (x : X) → Contains [] x → ⊥
 contains_none x there = let lt = there.1 in omega (arith, lt)

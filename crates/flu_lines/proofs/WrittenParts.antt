@@ -6,16 +6,11 @@ use Rattle.std.specs.Prelude.{codes}
 pub head_steps : (head text end : List ℕ) → head ++ (text ++ end) ≡ head ++ text ++ end
 head_steps head text end = sym (append_assoc head text end)
 
-not_apart : (name apart tag on cell end : List ℕ) → (name ++ apart) ++ (tag ++ on ++ cell ++ end) ≡ name ++ apart ++ tag ++ on ++ cell ++ end
-not_apart name apart tag on cell end = simp append_assoc
-
 -- why a node may not be apart
-pub not_apart_steps : (name node tag cell : List ℕ) → name ≡ node
-    → (name ++ codes " can't be apart: ") ++ (tag ++ codes " on " ++ cell ++ codes "\n")
-    ≡ node ++ codes " can't be apart: " ++ tag ++ codes " on " ++ cell ++ codes "\n"
-not_apart_steps name node tag cell is =
-    ap (λ (n : List ℕ). (n ++ codes " can't be apart: ") ++ (tag ++ codes " on " ++ cell ++ codes "\n")) is
-    ∙ not_apart node (codes " can't be apart: ") tag (codes " on ") cell (codes "\n")
+pub not_apart_steps : (name node text : List ℕ) → name ≡ node
+    → (name ++ codes " can't be apart: ") ++ (text ++ codes "\n") ≡ node ++ codes " can't be apart: " ++ text ++ codes "\n"
+not_apart_steps name node text is =
+    ap (λ (n : List ℕ). (n ++ codes " can't be apart: ") ++ (text ++ codes "\n")) is ∙ head_steps (node ++ codes " can't be apart: ") text (codes "\n")
 
 file_line : (head name colon text end : List ℕ) → (head ++ (name ++ colon)) ++ (text ++ end) ≡ head ++ name ++ colon ++ text ++ end
 file_line head name colon text end = simp append_assoc

@@ -5,6 +5,7 @@ use Rattle.flu_model.specs.Reports.{text_of_tag, text_of_cell}
 use Rattle.flu_model.specs.declared.jobs.Program.{Program}
 use Rattle.flu_model.specs.declared.plans.Node.{Node}
 use Rattle.flu_apart.specs.declared.reason.Reason.{Reason}
+use Rattle.flu_apart.specs.declared.reason.Reason.TheVariants.{Clock, Shared}
 use Rattle.flu_receiving.specs.declared.fault.PartialFault.{PartialFault}
 use Rattle.flu_receiving.specs.declared.fault.PartialFault.TheVariants as texts
 use Rattle.flu_combine.specs.declared.fault.PartialDefect.{PartialDefect}
@@ -16,10 +17,13 @@ use Rattle.flu_lines.specs.declared.parts.FileDefect.TheVariants.{SameName, Part
 use Rattle.flu_lines.specs.Lines.{fault_line, plan_line}
 use Rattle.flu_lines.specs.Names.{node_name, source_name}
 
--- why a node may not be apart: the tag of its subtree, and the cell that this one uses
+-- why a node may not be apart: the first clock of the job; or the tag of its subtree, and the cell that this one uses
+abbrev pub reason_text : Program → Reason → List ℕ
+reason_text p (Clock number) = codes "clock " ++ source_name p number
+reason_text p (Shared shared) = text_of_tag p shared.tag ++ codes " on " ++ text_of_cell p shared.cell
+
 abbrev pub not_apart_text : Program → List Node → ℕ → Reason → List ℕ
-not_apart_text p nodes u reason =
-    node_name nodes u ++ codes " can't be apart: " ++ text_of_tag p reason.tag ++ codes " on " ++ text_of_cell p reason.cell
+not_apart_text p nodes u reason = node_name nodes u ++ codes " can't be apart: " ++ reason_text p reason
 
 -- ---- the node
 -- what is wrong with the node that has this name, or that none has

@@ -7,13 +7,14 @@ ghost use Rattle.flu_model.specs.Reports.{text_of_tag, text_of_cell};
 ghost use Rattle.flu_lines.specs.Lines.{plan_line, IsSaid};
 ghost use Rattle.flu_lines.specs.Names.{node_name};
 ghost use Rattle.flu_lines.specs.PartAnswer.{line_of_part};
-ghost use Rattle.flu_lines.specs.PartLines.{not_apart_text, node_defect_line, text_fault_text, partial_defect_text, file_defect_text, file_defect_line};
+ghost use Rattle.flu_lines.specs.PartLines.{reason_text, not_apart_text, node_defect_line, text_fault_text, partial_defect_text, file_defect_text};
+ghost use Rattle.flu_lines.specs.PartLines.{file_defect_line};
 
 use crate::lines::write_line;
 use crate::names::{node_name, source_name, write_cell, write_tag};
 use crate::parts::{FileDefect, NodeDefect, PartRefusal};
 use crate::pieces::{digits_of, write_pieces};
-use flu_apart::Reason;
+use flu_apart::{Reason, SharedUse};
 use flu_combine::PartialDefect;
 use flu_model::{Plan, Program};
 use flu_outside::{Failed, Sink};
@@ -98,13 +99,27 @@ fn write_not_apart<E: Sink>(
     write_reason(err, program, reason)
 }
 
-// Writes a tag and a cell on which a node can't be apart, up to the end of the line.
+// Writes a clock, or a tag and a cell, by which a node can't be apart, up to the end of the line.
 fn write_reason<E: Sink>(err: &mut E, program: &Program, reason: Reason) -> Result<(), Failed>
-    ensures { Writes (text_of_tag program.now reason.tag ++ codes " on " ++ text_of_cell program.now reason.cell ++ codes "\n")
+    ensures { Writes (reason_text program.now reason ++ codes "\n")
         (E.taken err.old) (E.taken err.new) (E.faults err.old) (E.faults err.new) result }
 {
-    write_tag(err, program, reason.tag, b" on ")?;
-    write_cell(err, program, reason.cell, b"\n")
+    match reason {
+        Reason::Clock(number) => {
+            let name = source_name(program, number).as_bytes();
+            write_pieces(err, &[b"clock ", name, b"\n"])
+        }
+        Reason::Shared(shared) => write_shared(err, program, shared),
+    }
+}
+
+// Writes a tag and a cell that is shared, up to the end of the line.
+fn write_shared<E: Sink>(err: &mut E, program: &Program, shared: SharedUse) -> Result<(), Failed>
+    ensures { Writes (text_of_tag program.now shared.tag ++ codes " on " ++ text_of_cell program.now shared.cell ++ codes "\n")
+        (E.taken err.old) (E.taken err.new) (E.faults err.old) (E.faults err.new) result }
+{
+    write_tag(err, program, shared.tag, b" on ")?;
+    write_cell(err, program, shared.cell, b"\n")
 }
 
 // Writes the line of what is wrong with a file.

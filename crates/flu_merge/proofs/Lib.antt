@@ -1,6 +1,7 @@
 mod Moments
 mod Turns
 mod Spread
+mod Clocks
 mod Sound
 mod Files
 mod Times

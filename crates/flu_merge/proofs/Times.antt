@@ -1,7 +1,7 @@
 -- The events of the files at their moments, each at its time, are those of the rows as they are read. So the merged list is the stable merge of the files.
 use Rattle.std.proofs.Common.{◌≡◌, ℕ, ◌+◌, ◌*◌, ◌≤◌, ◌<◌, Bool, true, false, cond, not, ◌&&◌, List, [], ◌∷◌, ◌++◌, map, length}
 use Rattle.std.proofs.Common.{refl, sym, ap, subst, ◌∙◌, arith, length-append}
-use Rattle.std.specs.Prelude.{unwrap_or, sum_by, IsPermutation}
+use Rattle.std.specs.Prelude.{pos, unwrap_or, sum_by, if◌then◌else◌, IsPermutation}
 use Rattle.std.specs.List.{filter, flat_map, AllByRecursion}
 use Rattle.std.specs.Ordering.{nat_cmp, is_lt}
 use Rattle.std.proofs.Math.Nat.{mul-div_cancel}
@@ -15,16 +15,18 @@ use Rattle.flu_model.specs.declared.jobs.Source.{Source}
 use Rattle.flu_model.specs.Erasure.{job_of}
 use Rattle.flu_model.specs.Merging.{events_of, merged}
 use Rattle.flu_model.specs.Moments.{moments_a_time, at_its_time, timing_of}
+use Rattle.flu_model.specs.Rules.{is_clock}
 use Rattle.flu_outside.specs.Outside.{Contents}
 use Rattle.flu_rows.specs.declared.row.Row.{Row}
 use Rattle.flu_rows.specs.declared.row.Row.TheVariants.{Event, Beat, End}
 use Rattle.flu_rows.specs.Row.{form_of}
 use Rattle.flu_streams.specs.Before.{with_before, each_with_before}
-use Rattle.flu_streams.specs.Good.{rows_in, event_of, at_moments, lists_of}
+use Rattle.flu_streams.specs.Good.{rows_in, ticks_in, event_of, at_moments, lists_of}
 use Rattle.flu_streams.specs.Holding.{item_of}
 use Rattle.flu_streams.specs.Tags.{place_named, given_to, width}
 use Rattle.flu_streams.proofs.Moments.{moments_some}
-use Rattle.flu_merge.specs.Merge.{events_of_rows, events_of_files, at_their_times, GoodFilesAreMerged}
+use Rattle.flu_merge.specs.Merge.{events_of_rows, events_of_ticks, events_of_source, events_of_files, at_their_times, GoodFilesAreMerged}
+use Rattle.flu_merge.proofs.Clocks.{tick_event}
 use Rattle.flu_merge.proofs.Files.{events_in, merged_by_moments}
 use Rattle.flu_merge.proofs.Moments.{time_of_row}
 
@@ -63,18 +65,35 @@ module _ (p : Program) where
   rows_at_times s i first inside earlier (Beat time ∷ rows) = rows_at_times s i first inside (earlier ++ time ∷ []) rows
   rows_at_times s i first inside earlier (End ∷ rows) = rows_at_times s i first inside (earlier ++ []) rows
 
+  -- ---- ticks at their moments and at their times
+  ticks_at_times : (i first : ℕ) → i < length p.sources → (ticks : List ℕ)
+      → map (at_its_time p) (map (tick_event (timing_of p i) first) ticks) ≡ events_of_ticks first ticks
+  ticks_at_times i first inside [] = refl
+  ticks_at_times i first inside (t ∷ ticks) =
+      let at = time_of_row p i t 0 inside in
+      let rest = ticks_at_times i first inside ticks in
+      λ k. record { time = at k; itag = record { 0 = first }; item = 0; value = pos 0 } ∷ rest k
+
   module _ (left : Contents) where
-    abbrev read_in : List Source × Source → List EventOf
-    read_in e = events_of_rows p.kinds e.1 (sum_by width e.0) (rows_in (form_of (job_of p)) left e.1)
+    source_at_times : (before : List Source) (s : Source) → length before < length p.sources
+        → map (at_its_time p) (events_in p left (before, s)) ≡ events_of_source p left (before, s)
+    source_at_times before s inside =
+        elim (is_clock s) as (λ c. map (at_its_time p)
+        (if c then map (tick_event (timing_of p (length before)) (sum_by width before)) (ticks_in p left (before, s))
+        else events_of (map (item_of p.kinds s (sum_by width before)) (at_moments (timing_of p (length before)) [] (rows_in (form_of (job_of p)) left s))))
+        ≡ (if c then events_of_ticks (sum_by width before) (ticks_in p left (before, s))
+        else events_of_rows p.kinds s (sum_by width before) (rows_in (form_of (job_of p)) left s))) [
+          | true ↦ ticks_at_times (length before) (sum_by width before) inside (ticks_in p left (before, s))
+          | false ↦ rows_at_times s (length before) (sum_by width before) inside [] (rows_in (form_of (job_of p)) left s)
+        ]
 
     files_at_times : (before sources : List Source) → length before + length sources ≤ length p.sources
-        → map (at_its_time p) (flat_map (events_in p left) (with_before before sources)) ≡ flat_map read_in (with_before before sources)
+        → map (at_its_time p) (flat_map (events_in p left) (with_before before sources)) ≡ flat_map (events_of_source p left) (with_before before sources)
     files_at_times before [] few = refl
     files_at_times before (s ∷ sources) few =
         let more = with_before (before ++ s ∷ []) sources in
         let one = length-append before (s ∷ []) in
-        let here : map (at_its_time p) (events_in p left (before, s)) ≡ read_in (before, s) =
-        rows_at_times s (length before) (sum_by width before) (omega (arith, few)) [] (rows_in (form_of (job_of p)) left s) in
+        let here = source_at_times before s (omega (arith, few)) in
         let rest = files_at_times (before ++ s ∷ []) sources (omega (arith, few, one)) in
         map-append (at_its_time p) (events_in p left (before, s)) (flat_map (events_in p left) more) ∙ (λ k. here k ++ rest k)
 

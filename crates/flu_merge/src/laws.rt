@@ -5,8 +5,8 @@ ghost use Rattle.flu_merge.specs.Moments.{RowsHaveTheirMoments};
 ghost use Rattle.flu_merge.specs.Ticks.{RoundsTellTicks};
 
 /// For good sources the merged list, each event at its time, is the stable merge, by time, of the events of their files as they are read, as `sort -s` by time
-/// gives it for the files one after another: all events, sorted by time; at one time by source, as declared; and in one source as in its file. This holds in
-/// every version.
+/// gives it for the files one after another: all events, sorted by time; at one time by source, as declared; and in one source as in its file. In the place of
+/// a clock are its ticks. This holds in every version.
 pub fn good_files_are_merged()
     ensures { GoodFilesAreMerged }
 {}
@@ -20,6 +20,4 @@ pub fn rows_have_their_moments()
 /// they are the ticks among the rows that were read.
 pub fn rounds_tell_ticks()
     ensures { RoundsTellTicks }
-{
-    flu_moments::laws::moments_part_ticks();
-}
+{}

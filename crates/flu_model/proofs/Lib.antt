@@ -1,2 +1,3 @@
 pub mod ItagLemmas
 pub mod NameLemmas
+pub mod TimeLemmas

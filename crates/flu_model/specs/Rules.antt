@@ -1,7 +1,7 @@
 -- The rules that every job keeps: its names, its shapes and its limits. Each is a test, which computes.
 use Rattle.std.specs.Prelude.{ℕ, ◌+◌, ◌^◌, ℤ, pos, negsuc, Bool, true, false, not, nat_lt, nat_le, ◌==◌, ◌&&◌, ◌||◌, Option, Some, None, List, [], ◌∷◌, ◌++◌}
-use Rattle.std.specs.Prelude.{map, length, max, slice_get}
-use Rattle.std.specs.List.{list_all, list_any}
+use Rattle.std.specs.Prelude.{map, length, max, slice_get, is_some, if◌then◌else◌}
+use Rattle.std.specs.List.{list_all, list_any, filter_map}
 use Rattle.std.specs.Cmp.Lexicographic.{pointwise}
 use Rattle.flu_model.specs.declared.jobs.Sort.{Sort}
 use Rattle.flu_model.specs.declared.jobs.Sort.TheVariants.{Sum, Max, Last}
@@ -12,7 +12,8 @@ use Rattle.flu_model.specs.declared.jobs.CellRef.{CellRef}
 use Rattle.flu_model.specs.declared.jobs.Expr.{Expr}
 use Rattle.flu_model.specs.declared.jobs.Expr.TheVariants.{Lit, Value, Key, Item, Time, Read, Has, Neg', Not', Two'}
 use Rattle.flu_model.specs.declared.jobs.Piece.{Piece}
-use Rattle.flu_model.specs.declared.jobs.Piece.TheVariants.{Plain, Value as ValueField, Key as KeyField, Item as ItemField, Time as TimeField, Read as ReadField, CellValue, FamilyCell}
+use Rattle.flu_model.specs.declared.jobs.Piece.TheVariants.{Plain, Value as ValueField, Key as KeyField, Item as ItemField, Time as TimeField}
+use Rattle.flu_model.specs.declared.jobs.Piece.TheVariants.{Read as ReadField, CellValue, FamilyCell}
 use Rattle.flu_model.specs.declared.jobs.Act.{Act}
 use Rattle.flu_model.specs.declared.jobs.Act.TheVariants.{Add, Raise, Set, Clear, ClearFamily, Emit, Flush}
 use Rattle.flu_model.specs.declared.jobs.Action.{Action}
@@ -217,10 +218,37 @@ is_same_tag a b = (a.kind == b.kind) && (a.key == b.key)
 abbrev pub is_file_text : List ℕ → Bool
 is_file_text t = nat_lt 0 (length t) && is_short t && list_all is_text_byte t
 
+-- a clock lists one tag, of a kind without key, item and value
+abbrev pub is_tick_kind : Option Kind → Bool
+is_tick_kind None = false
+is_tick_kind (Some k) = not k.keyed && not k.has_item && not k.has_value
+
+abbrev pub is_tick_tag : List Kind → TagRef → Bool
+is_tick_tag kinds r = is_tick_kind (slice_get kinds r.kind)
+
+abbrev pub clock_fits : List Kind → ℕ → Source → Bool
+clock_fits kinds every s =
+    nat_le 1 every && nat_le every (2 ^ 62) && (length s.file == 0) && (s.slack == 0) && (length s.tags == 1) && list_all (is_tick_tag kinds) s.tags
+
+-- a source has a file, or it is a clock with a period
+abbrev pub is_clock : Source → Bool
+is_clock s = is_some s.every
+
+abbrev pub has_origin : List Kind → Source → Option ℕ → Bool
+has_origin kinds s None = is_file_text s.file
+has_origin kinds s (Some every) = clock_fits kinds every s
+
+abbrev pub origin_fits : List Kind → Source → Bool
+origin_fits kinds s = has_origin kinds s s.every
+
 abbrev pub source_fits : List Kind → Source → Bool
 source_fits kinds s =
-    is_name s.name && is_file_text s.file && nat_le s.rate 1000000000 && nat_le s.slack 60000 && nat_lt 0 (length s.tags)
+    is_name s.name && origin_fits kinds s && nat_le s.rate 1000000000 && nat_le s.slack 60000 && nat_lt 0 (length s.tags)
     && list_all (tag_ref_fits kinds) s.tags && are_distinct is_same_tag (tags_of_source s)
+
+-- the file of a source; a clock has none
+abbrev pub file_of_source : Source → Option (List ℕ)
+file_of_source s = if is_clock s then None else Some s.file
 
 -- ---- the whole
 
@@ -247,7 +275,7 @@ have_own_names lists families kinds sources =
     (map (λ (f : Family). f.name) families ++ map (λ (k : Kind). k.name) kinds ++ map (λ (s : Source). s.name) sources ++ map (λ (l : Numbering). l.name) lists)
 
 abbrev pub have_own_files : List Source → Bool
-have_own_files sources = are_distinct is_same_text (map (λ (s : Source). s.file) sources)
+have_own_files sources = are_distinct is_same_text (filter_map file_of_source sources)
 
 -- a tag of a declared kind, with a key in range
 abbrev pub tag_fits : List Kind → Tag → Bool

@@ -1,4 +1,4 @@
--- What the versions of the language have: items, division, families that are cleared whole, and fields of a flush that name a family
+-- What the versions of the language have: items, division, families that are cleared whole, fields of a flush that name a family, and clocks
 -- came with version 3. Each is a test, which computes.
 use Rattle.std.specs.Prelude.{ℕ, ◌^◌, nat_le, Bool, true, false, not, ◌==◌, ◌&&◌, ◌||◌, Option, Some, None, List, codes, if◌then◌else◌}
 use Rattle.std.specs.List.{list_all, list_any}
@@ -11,12 +11,14 @@ use Rattle.flu_model.specs.declared.jobs.Op.TheVariants.{Plus, Minus, Times, Div
 use Rattle.flu_model.specs.declared.jobs.Expr.{Expr}
 use Rattle.flu_model.specs.declared.jobs.Expr.TheVariants.{Lit, Value, Key, Item, Time, Read, Has, Neg', Not', Two'}
 use Rattle.flu_model.specs.declared.jobs.Piece.{Piece}
-use Rattle.flu_model.specs.declared.jobs.Piece.TheVariants.{Plain, Value as ValueField, Key as KeyField, Item as ItemField, Time as TimeField, Read as ReadField, CellValue, FamilyCell}
+use Rattle.flu_model.specs.declared.jobs.Piece.TheVariants.{Plain, Value as ValueField, Key as KeyField, Item as ItemField, Time as TimeField}
+use Rattle.flu_model.specs.declared.jobs.Piece.TheVariants.{Read as ReadField, CellValue, FamilyCell}
 use Rattle.flu_model.specs.declared.jobs.Act.{Act}
 use Rattle.flu_model.specs.declared.jobs.Act.TheVariants.{Add, Raise, Set, Clear, ClearFamily, Emit, Flush}
 use Rattle.flu_model.specs.declared.jobs.Action.{Action}
 use Rattle.flu_model.specs.declared.jobs.Kind.{Kind}
-use Rattle.flu_model.specs.Rules.{is_same_text}
+use Rattle.flu_model.specs.declared.jobs.Source.{Source}
+use Rattle.flu_model.specs.Rules.{is_same_text, is_clock}
 
 -- ---- what asks for an item
 
@@ -145,3 +147,7 @@ ties_fit version ties = nat_le 1 ties && nat_le ties (2 ^ 31) && (version == 3 |
 abbrev pub iso_fits : ℕ → Option Unit → Bool
 iso_fits version None = true
 iso_fits version (Some unit) = version == 3
+
+-- clocks came with version 3
+abbrev pub clocks_fit : ℕ → List Source → Bool
+clocks_fit version sources = (version == 3) || not (list_any is_clock sources)

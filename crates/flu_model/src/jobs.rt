@@ -2,7 +2,7 @@
 
 ghost use Rattle.std.specs.Prelude.{◌≤◌, length, IsTrue};
 ghost use Rattle.flu_model.specs.Listing.{itags_of_sources};
-ghost use Rattle.flu_model.specs.Versions.{fit_version, ties_fit, iso_fits};
+ghost use Rattle.flu_model.specs.Versions.{fit_version, ties_fit, iso_fits, clocks_fit};
 ghost use Rattle.flu_model.specs.Rules.{is_version, are_families, are_kinds, are_depends, are_sources, have_own_names, have_own_files};
 ghost use Rattle.flu_model.specs.ListRules.{are_lists, fit_lists};
 
@@ -154,12 +154,15 @@ pub struct TagRef {
     pub keys: Keys,
 }
 
-/// A source of events: a file by its name, with the tags that it lists, how many events a second are to be expected of each,
-/// which serves plans alone, and how late a row may be, from 0 to 60,000 in the unit of its times.
+/// A source of events: a file by its name, or a clock by its period, `every`, from 1 to 2^62 in the unit of times. It has the tags that it
+/// lists, how many events a second are to be expected of each, which serves plans alone, and how late a row may be, from 0 to 60,000 in the
+/// unit of its times. A clock ticks at the multiples of its period; its `file` is empty, none of its ticks is late, and it lists one tag,
+/// of a kind without key, item and value.
 #[derive(Drop)]
 pub struct Source {
     pub name: Name,
     pub file: Text,
+    pub every: Option<u64>,
     pub rate: u64,
     pub slack: u64,
     pub tags: List<TagRef>,
@@ -167,7 +170,7 @@ pub struct Source {
 
 /// A job. Its names, shapes and sizes keep the rules of the language (`docs/LANGUAGE.md`), so no caller can make another. The
 /// version of the language, 1 to 3, says how tags that only read a cell may share it, and whether there are items. In version 3 a source may
-/// have up to `ties` rows at one time, from 1 to 2,147,483,648; before it `ties` is 1. With a unit, `iso`, times count it from
+/// have up to `ties` rows at one time, from 1 to 2,147,483,648, and there are clocks; before it `ties` is 1. With a unit, `iso`, times count it from
 /// 1970-01-01T00:00:00 UTC on: rows may write them as text, and the report and `{time}` show them so.
 #[derive(Drop)]
 pub struct Program {
@@ -195,6 +198,7 @@ pub struct Program {
     pub ghost lists_fit: { IsTrue (fit_lists version lists families kinds) },
     pub ghost depends_fit: { IsTrue (are_depends kinds depends) },
     pub ghost sources_fit: { IsTrue (are_sources kinds sources) },
+    pub ghost clocks_fit: { IsTrue (clocks_fit version sources) },
     pub ghost own_names: { IsTrue (have_own_names lists families kinds sources) },
     pub ghost own_files: { IsTrue (have_own_files sources) },
 }

@@ -28,7 +28,7 @@ pub use jobs::{
 pub use limits::{KEY_COUNT, What};
 pub use lists::List;
 pub use modes::Mode;
-pub use moments::{Timing, at_its_time, moments_a_time, time_of_moment, timing_of};
+pub use moments::{Timing, at_its_time, end_of_times, moments_a_time, time_of_moment, timing_of};
 pub use names::tag_text;
 pub use numbering::{NameList, NameTexts};
 pub use plans::{Node, Plan, Pred, matches};

@@ -1,64 +1,75 @@
--- How far ticks are behind rows.
-use Rattle.std.proofs.Common.{◌≡◌, ℕ, ◌+◌, ◌-◌, ◌*◌, ◌/◌, ◌%◌, ◌<◌, ◌≤◌, inl, inr, List, ap, ◌∙◌, arith}
+-- How far ticks are behind rows, and that the first and the last row tell them.
+use Rattle.std.proofs.Common.{◌≡◌, ℕ, ◌<◌, ◌≤◌, ◌%◌, min, max, inl, inr, List, [], ◌∷◌, ap, sym, ◌∙◌, arith}
 use Rattle.std.specs.Prelude.{Contains}
 use Rattle.std.proofs.lemmas.Bool.{cases_lt}
 use Rattle.std.proofs.lemmas.List.Elements.{All-weaker, All-contains, All-contains_itself}
-use Rattle.std.proofs.lemmas.Nat.{div-add-mod', mod_below}
-use Rattle.flu_moments.specs.Clocks.{tick_moment, IsNextTick, IsTick, IsSpan, ticks_among}
-use Rattle.flu_moments.specs.Moments.{time_of}
-use Rattle.flu_moments.specs.TickLaws.{TicksAreNear}
+use Rattle.flu_lemmas.proofs.Containing.{contains_here, contains_later, contains_cases, contains_none, contains_one}
+use Rattle.flu_moments.specs.Clocks.{tick_moment, IsTick, IsSpan, next_tick, first_of, last_of, ticks_between, ticks_among}
+use Rattle.flu_moments.specs.TickLaws.{TicksAreWithin, SpansTellTicks}
 use Rattle.flu_moments.proofs.ComputedLemmas.{ticks_are_computed}
-use Rattle.flu_moments.proofs.MomentLemmas.{product_le}
-use Rattle.flu_moments.proofs.StepLemmas.{multiple_of, steps_apart}
 use Rattle.flu_moments.proofs.TickLemmas.{any_within}
 
-module _ (sources ties every clock : ℕ) (any : 0 < ties) (at : clock < sources) (some : 0 < every) where
-  -- a tick at a later time than that of a moment is above the moment
-  above_its_time : (m time : ℕ) → time_of sources ties m < time → m < tick_moment sources ties clock time
-  above_its_time m time less =
-      let width = product_le 1 sources ties (omega arith) in
-      let whole = div-add-mod' m (sources * ties) in
-      let rest = mod_below m (sources * ties) (omega arith) in
-      let steps = product_le (time_of sources ties m + 1) time (sources * ties) (omega arith) in
-      omega arith
+-- ---- the last tick
+tick_is_within : (sources ties every clock first last end time : ℕ) (rows : List ℕ) → IsSpan first last rows → end % every ≡ 0
+    → last < tick_moment sources ties clock end → IsTick sources ties every clock rows time → time ≤ end
+tick_is_within sources ties every clock first last end time rows span multiple behind is =
+    elim (cases_lt end time) [
+      | inl far ↦ (let row = any_within (λ m. tick_moment sources ties clock end ≤ m) rows (is.none_after_all end multiple far) in
+          let within = All-contains (λ m. (first ≤ m) × (m ≤ last)) rows row.0 span.between row.1 in
+          let low = within.1 in
+          let over = row.2 in
+          absurd (omega arith))
+      | inr le ↦ le
+    ]
 
-  next_is_near : (m time : ℕ) → IsNextTick sources ties every clock m time → time ≤ time_of sources ties m + every
-  next_is_near m time next =
-      let t = time_of sources ties m in
-      let whole = div-add-mod' t every in
-      let rest = mod_below t every some in
-      let least = next.least ((t / every + 1) * every) (multiple_of (t / every + 1) every some) (above_its_time m ((t / every + 1) * every) (omega arith)) in
-      omega arith
+pub ticks_are_within : TicksAreWithin
+ticks_are_within sources ties every clock first last end rows any at some span multiple behind =
+    All-weaker (Contains (ticks_among sources ties every clock rows)) (λ time. time ≤ end)
+    (λ time there. tick_is_within sources ties every clock first last end time rows span multiple behind
+    (((ticks_are_computed sources ties every clock rows any at some).each time).0 there))
+    (ticks_among sources ties every clock rows) (All-contains_itself (ticks_among sources ties every clock rows))
 
-  -- the multiple before another
-  before_is : (time : ℕ) → every ≤ time → time % every ≡ 0 → (time - every) % every ≡ 0
-  before_is time le multiple =
-      let one : every % every ≡ 0 = ap (λ x. x % every) (let e : every ≡ 1 * every = omega arith in e) ∙ multiple_of 1 every some in
-      let steps = steps_apart every time every some one multiple le in
-      let is = steps.1 in
-      let less : time - every ≡ steps.0 * every = omega arith in
-      ap (λ x. x % every) less ∙ multiple_of steps.0 every some
+-- ---- the first and the last row
+below : (m : ℕ) (ms : List ℕ) (x : ℕ) → Contains (m ∷ ms) x → first_of m ms ≤ x
+below m [] x there = let same = contains_one m x there in omega (arith, same)
+below m (y ∷ ys) x there =
+    elim (contains_cases m x (y ∷ ys) there) [
+      | inl same ↦ omega (arith, same)
+      | inr later ↦ (let le = below y ys x later in omega (arith, le))
+    ]
 
-  tick_is_near : (first last time : ℕ) (rows : List ℕ) → IsSpan first last rows → IsTick sources ties every clock rows time
-      → time ≤ time_of sources ties last + every
-  tick_is_near first last time rows span is =
-      elim (cases_lt (time_of sources ties last + every) time) [
-        | inl far ↦ (let row = any_within (λ m. tick_moment sources ties clock (time - every) ≤ m) rows
-            (is.none_after_all (time - every) (before_is time (omega arith) is.multiple) (omega arith)) in
-            let behind = row.2 in
-            let within = All-contains (λ m. (first ≤ m) × (m ≤ last)) rows row.0 span.between row.1 in
-            let low = within.1 in
-            let above = above_its_time last (time - every) (omega arith) in
-            absurd (omega arith))
-        | inr le ↦ le
-      ]
+above : (m : ℕ) (ms : List ℕ) (x : ℕ) → Contains (m ∷ ms) x → x ≤ last_of m ms
+above m [] x there = let same = contains_one m x there in omega (arith, same)
+above m (y ∷ ys) x there =
+    elim (contains_cases m x (y ∷ ys) there) [
+      | inl same ↦ omega (arith, same)
+      | inr later ↦ (let le = above y ys x later in omega (arith, le))
+    ]
 
-pub ticks_are_near : TicksAreNear
-ticks_are_near = record {
-  next = λ sources ties every clock m time any at some. next_is_near sources ties every clock any at some m time;
-  all = λ sources ties every clock first last rows any at some span.
-      All-weaker (Contains (ticks_among sources ties every clock rows)) (λ time. time ≤ time_of sources ties last + every)
-      (λ time there. tick_is_near sources ties every clock any at some first last time rows span
-      (((ticks_are_computed sources ties every clock rows any at some).each time).0 there))
-      (ticks_among sources ties every clock rows) (All-contains_itself (ticks_among sources ties every clock rows));
-}
+from_first : (m : ℕ) (ms : List ℕ) (b : ℕ) → ((x : ℕ) → Contains (m ∷ ms) x → b ≤ x) → b ≤ first_of m ms
+from_first m [] b all = all m (contains_here m [])
+from_first m (y ∷ ys) b all =
+    let one = all m (contains_here m (y ∷ ys)) in
+    let rest = from_first y ys b (λ x there. all x (contains_later m x (y ∷ ys) there)) in
+    omega (arith, one, rest)
+
+to_last : (m : ℕ) (ms : List ℕ) (b : ℕ) → ((x : ℕ) → Contains (m ∷ ms) x → x ≤ b) → last_of m ms ≤ b
+to_last m [] b all = all m (contains_here m [])
+to_last m (y ∷ ys) b all =
+    let one = all m (contains_here m (y ∷ ys)) in
+    let rest = to_last y ys b (λ x there. all x (contains_later m x (y ∷ ys) there)) in
+    omega (arith, one, rest)
+
+pub spans_tell_ticks : SpansTellTicks
+spans_tell_ticks sources ties every clock first last [] span = absurd (contains_none first span.has_first)
+spans_tell_ticks sources ties every clock first last (m ∷ ms) span =
+    let within = All-contains (λ x. (first ≤ x) × (x ≤ last)) (m ∷ ms) in
+    let low = below m ms first span.has_first in
+    let low' = from_first m ms first (λ x there. (within x span.between there).0) in
+    let high = above m ms last span.has_last in
+    let high' = to_last m ms last (λ x there. (within x span.between there).1) in
+    let ordered = (within first span.between span.has_first).1 in
+    let firsts : first_of m ms ≡ first_of first (last ∷ []) = omega (arith, low, low', ordered) in
+    let lasts : last_of m ms ≡ last_of first (last ∷ []) = omega (arith, high, high', ordered) in
+    ap (λ f. ticks_between (next_tick sources ties every clock f) (next_tick sources ties every clock (last_of m ms)) every) firsts
+    ∙ ap (λ l. ticks_between (next_tick sources ties every clock (first_of first (last ∷ []))) (next_tick sources ties every clock l) every) lasts

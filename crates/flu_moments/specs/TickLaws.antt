@@ -1,15 +1,16 @@
 -- Laws of ticks.
-use Rattle.std.specs.Prelude.{◌≡◌, ◌↔◌, ℕ, ◌+◌, ◌<◌, ◌≤◌, nat_le, List, [], ◌++◌, length, slice_index, All, Any, Contains}
+use Rattle.std.specs.Prelude.{◌≡◌, ◌↔◌, ℕ, ◌+◌, ◌<◌, ◌≤◌, ◌%◌, nat_le, List, [], ◌∷◌, ◌++◌, length, slice_index, All, Any, Contains}
 use Rattle.std.specs.List.{filter}
 use Rattle.flu_moments.specs.Clocks.{tick_moment, IsNextTick, IsTick, IsTicks, IsSpan, AreBetween, ticks_among}
-use Rattle.flu_moments.specs.Moments.{time_of, border}
+use Rattle.flu_moments.specs.Moments.{border}
 
 -- there is one next tick after each moment, and one list of ticks for each list of rows
 pub record TicksAreDetermined : Type 0 where
   pub next : (sources ties every clock m time time' : ℕ) → IsNextTick sources ties every clock m time → IsNextTick sources ties every clock m time'
       → time ≡ time'
   pub some_next : (sources ties every clock m : ℕ) → 0 < ties → clock < sources → 0 < every → (time : ℕ) × IsNextTick sources ties every clock m time
-  pub ticks : (sources ties every clock : ℕ) (rows ticks ticks' : List ℕ) → IsTicks sources ties every clock rows ticks → IsTicks sources ties every clock rows ticks'
+  pub ticks : (sources ties every clock : ℕ) (rows ticks ticks' : List ℕ) → IsTicks sources ties every clock rows ticks
+      → IsTicks sources ties every clock rows ticks'
       → ticks ≡ ticks'
   pub some_ticks : (sources ties every clock : ℕ) (rows : List ℕ) → 0 < ties → clock < sources → 0 < every
       → (ticks : List ℕ) × IsTicks sources ties every clock rows ticks
@@ -64,12 +65,17 @@ pub record FrontsTellTicks : Type 0 where
       → filter (λ time. nat_le time last) (ticks_among sources ties every clock rows)
       ≡ filter (λ time. nat_le time last) (ticks_among sources ties every clock front)
 
--- the next tick after a moment is at most a period behind its time, and so are all ticks among rows behind the time of the last row
-pub record TicksAreNear : Type 0 where
-  pub next : (sources ties every clock m time : ℕ) → 0 < ties → clock < sources → 0 < every → IsNextTick sources ties every clock m time
-      → time ≤ time_of sources ties m + every
-  pub all : (sources ties every clock first last : ℕ) (rows : List ℕ) → 0 < ties → clock < sources → 0 < every → IsSpan first last rows
-      → All (λ time. time ≤ time_of sources ties last + every) (ticks_among sources ties every clock rows)
+-- no tick among rows is behind a multiple whose tick is behind the last row
+abbrev pub TicksAreWithin : Type 0
+TicksAreWithin =
+    (sources ties every clock first last end : ℕ) (rows : List ℕ) → 0 < ties → clock < sources → 0 < every → IsSpan first last rows → end % every ≡ 0
+    → last < tick_moment sources ties clock end → All (λ time. time ≤ end) (ticks_among sources ties every clock rows)
+
+-- rows with the same first and last row have the same ticks
+abbrev pub SpansTellTicks : Type 0
+SpansTellTicks =
+    (sources ties every clock first last : ℕ) (rows : List ℕ) → IsSpan first last rows
+    → ticks_among sources ties every clock rows ≡ ticks_among sources ties every clock (first ∷ last ∷ [])
 
 -- the ticks among rows are those that are computed from the first and the last row
 abbrev pub TicksAreComputed : Type 0

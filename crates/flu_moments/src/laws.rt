@@ -2,7 +2,8 @@
 
 ghost use Rattle.flu_moments.specs.Laws.{MomentsAreApart, MomentsAreInOrder, BordersPartTimes, AllowedTimesFit, OneRowAtATime};
 ghost use Rattle.flu_moments.specs.MergeLaws.{MomentsMerge, MergeIsStableSort};
-ghost use Rattle.flu_moments.specs.TickLaws.{TicksAreDetermined, TicksFollowRows, TicksAreComputed, TicksAreNear, MomentsPartTicks, RowsTellTicks, FrontsTellTicks};
+ghost use Rattle.flu_moments.specs.TickLaws.{TicksAreDetermined, TicksFollowRows, TicksAreComputed, TicksAreWithin, SpansTellTicks, MomentsPartTicks};
+ghost use Rattle.flu_moments.specs.TickLaws.{RowsTellTicks, FrontsTellTicks};
 
 /// Moments are one to one, and their order is that of the rows: by time, then by source, then by place.
 pub fn moments_order_rows()
@@ -19,12 +20,13 @@ pub fn borders_part_times()
 {}
 
 /// A clock has one next tick after each moment and one list of ticks for each list of rows, which the first and the last row tell, and the
-/// ticks follow the rows.
+/// ticks follow the rows: none is behind a multiple whose tick is behind the last row.
 pub fn ticks_follow_rows()
     ensures determined { TicksAreDetermined }
     ensures follow { TicksFollowRows }
     ensures computed { TicksAreComputed }
-    ensures near { TicksAreNear }
+    ensures within { TicksAreWithin }
+    ensures spans { SpansTellTicks }
 {}
 
 /// A clock has one list of ticks between two moments, which a moment between them parts, and the ticks up to a border that some row is behind

@@ -1,8 +1,10 @@
 //! Reading the sources that a node needs.
 
-ghost use Rattle.std.specs.Prelude.{◌≡◌, ◌≢◌, length, OnOk, IfOk, IfErr, IsErrOf, Err};
+ghost use Rattle.std.specs.Prelude.{◌≡◌, ◌≢◌, false, length, OnOk, IfOk, IfErr, IsErrOf, Err};
+ghost use Rattle.std.specs.List.{list_any};
 ghost use Rattle.flu_model.specs.Itags.{count_of_itags};
 ghost use Rattle.flu_model.specs.Listed.{listed};
+ghost use Rattle.flu_model.specs.Rules.{is_clock};
 ghost use Rattle.flu_outside.specs.Outside.{WhereTold, SameCounts};
 ghost use Rattle.flu_outside.specs.Taking.{TookFronts};
 ghost use Rattle.flu_deps.specs.Checking.{program_of};
@@ -20,7 +22,7 @@ use flu_selected::gather_selected;
 use flu_streams::GatherFault;
 use std::alloc::Global;
 
-/// Reads each source that a node of a valid plan needs to its end, and no other.
+/// Reads each source that a node of a valid plan needs to its end, and no other. No source is a clock: else the node could not be apart.
 pub(crate) fn gather_needed<F: Files>(
     alloc: Global,
     files: &mut F,
@@ -28,7 +30,8 @@ pub(crate) fn gather_needed<F: Files>(
     v: &Valid,
     w: u32,
 ) -> Result<Streams, GatherFault>
-    requires { IsValidFor (program_of c.now) v.now }
+    requires valid { IsValidFor (program_of c.now) v.now }
+    requires no_clocks { list_any is_clock (program_of c.now).sources ≡ false }
     ensures good { OnOk result (ReadAreGood (program_of c.now) (read_by c.now v.now w) (F.left files.old) (F.left files.new)) }
     ensures lists { IfOk result (AreReadLists (program_of c.now) (read_by c.now v.now w) (F.left files.old) (F.left files.new)) }
     ensures itags { IfOk result (λ streams. length (listed streams) ≡ count_of_itags (program_of c.now)) }

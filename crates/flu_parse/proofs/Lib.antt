@@ -5,6 +5,7 @@ pub mod TermLemmas
 pub mod ScanLemmas
 pub mod ResolveLemmas
 pub mod Steps
+pub mod Ticks
 pub mod ReadingLemmas
 pub mod Distinct
 pub mod Looks

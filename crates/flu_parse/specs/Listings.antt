@@ -1,13 +1,13 @@
 -- Written sources and the tags that they list.
-use Rattle.std.specs.Prelude.{ℕ, ◌+◌, Bool, not, nat_lt, nat_le, List, [], ◌∷◌, ◌++◌, length, Option, Some, None, Ok}
-use Rattle.std.specs.List.{list_any}
+use Rattle.std.specs.Prelude.{ℕ, ◌+◌, ◌^◌, ◌&&◌, Bool, not, nat_lt, nat_le, List, [], ◌∷◌, ◌++◌, length, Option, Some, None, Ok}
+use Rattle.std.specs.List.{list_any, filter_map}
 use Rattle.flu_model.specs.declared.limits.What.TheVariants.{Itags, Rate, Slack}
 use Rattle.flu_model.specs.declared.jobs.Keys.{Keys}
 use Rattle.flu_model.specs.declared.jobs.Keys.TheVariants as keys
 use Rattle.flu_model.specs.declared.jobs.TagRef.{TagRef}
 use Rattle.flu_model.specs.declared.jobs.Source.{Source}
 use Rattle.flu_model.specs.Listing.{listed_keys}
-use Rattle.flu_model.specs.Rules.{is_same_text}
+use Rattle.flu_model.specs.Rules.{is_same_text, file_of_source}
 use Rattle.flu_rules.specs.Keys.{share_tag}
 use Rattle.flu_text.specs.declared.written.WrittenSpan.{WrittenSpan}
 use Rattle.flu_text.specs.declared.written.WrittenNumber.{WrittenNumber}
@@ -16,6 +16,7 @@ use Rattle.flu_text.specs.declared.written.WrittenKeys.TheVariants as w
 use Rattle.flu_syntax.specs.declared.tree.WrittenTag.{WrittenTag}
 use Rattle.flu_layout.specs.Spelling.{inside, written_value}
 use Rattle.flu_parse.specs.declared.faults.JobFault.TheVariants as f
+use Rattle.flu_parse.specs.declared.names.KindHead.{KindHead}
 use Rattle.flu_parse.specs.Faults.{Found, ◌>>=◌, ◌>>◌, unless, each}
 use Rattle.flu_parse.specs.Naming.{Naming, kind_of}
 use Rattle.flu_parse.specs.Cells.{resolved_key}
@@ -80,9 +81,30 @@ slack_of (Some s) = do
   unless (nat_le (written_value s.value) 60000) (f.OverLimit Slack (written_value s.value))
   Ok (written_value s.value)
 
+-- the period of a clock, from 1 to 2^62
+abbrev pub period_of : WrittenNumber → Found ℕ
+period_of every = do
+  unless (nat_le 1 (written_value every.value) && nat_le (written_value every.value) (2 ^ 62)) (f.WrongShape every.at)
+  Ok (written_value every.value)
+
+-- a kind without key, item and value
+abbrev pub is_tick_head : KindHead → Bool
+is_tick_head kind = not kind.keyed && not kind.has_item && not kind.has_value
+
+-- a kind's name without brackets
+abbrev pub alone : WrittenSpan → WrittenTag
+alone kind = record { kind = kind; keys = w.Alone }
+
+-- the tag of a clock
+abbrev pub tick_of : List ℕ → Naming → ℕ → WrittenSpan → Found Listed
+tick_of text n itags tag = do
+  kind ← kind_of text n tag
+  unless (is_tick_head kind) (f.WrongShape tag.from)
+  tags_of text n itags (alone tag ∷ [])
+
 -- a file that no earlier source reads
 abbrev pub file_of : List ℕ → List Source → WrittenSpan → Found (List ℕ)
 file_of text sources file = do
   unless (nat_lt 0 (length (inside text file))) (f.WrongShape file.from)
-  unless (not (list_any (λ (s : Source). is_same_text (inside text file) s.file) sources)) (f.TwiceNamed file.from)
+  unless (not (list_any (is_same_text (inside text file)) (filter_map file_of_source sources))) (f.TwiceNamed file.from)
   Ok (inside text file)

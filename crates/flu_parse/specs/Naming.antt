@@ -1,5 +1,6 @@
--- The names of a job: families, kinds, sources and lists, each in the order of their declarations, in one set of names.
-use Rattle.std.specs.Prelude.{ℕ, ◌+◌, Bool, true, false, not, ◌==◌, ◌&&◌, ◌||◌, List, [], ◌∷◌, ◌++◌, map, length, Option, Some, None, is_some, if◌then◌else◌, Ok, Err}
+-- The names of a job: families, kinds, sources and lists, each in the order of their declarations, in one set of names. A clock is a source.
+use Rattle.std.specs.Prelude.{ℕ, ◌+◌, Bool, true, false, not, ◌==◌, ◌&&◌, ◌||◌, List, [], ◌∷◌, ◌++◌, map, length, Option, Some, None, is_some, if◌then◌else◌}
+use Rattle.std.specs.Prelude.{Ok, Err}
 use Rattle.std.specs.List.{list_any}
 use Rattle.std.specs.Str.{bytes_eq}
 use Rattle.flu_model.specs.declared.jobs.Sort.{Sort}
@@ -126,6 +127,7 @@ declare text n (w.Depends a b relation) = do
   Ok (record n { depends = n.depends + 1 })
 declare text n (w.On kind actions) = Ok n
 declare text n (w.Source s file rate slack tags) = with_source text n s
+declare text n (w.Clock at s every rate tag) = with_source text n s
 
 abbrev pub no_names : Naming
 no_names = record { families = []; kinds = []; sources = []; lists = []; depends = 0; version = 1 }

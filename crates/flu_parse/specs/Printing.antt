@@ -1,5 +1,5 @@
 -- The normal form of a job text: the version if it is not 1, lists of names, cells, tags, `depends`, the actions of the kinds that have some,
--- and sources, each on a line of its own.
+-- and sources and clocks as they are declared, each on a line of its own.
 use Rattle.std.specs.Prelude.{ℕ, nat_lt, ◌==◌, if◌then◌else◌, Bool, true, false, Option, Some, None, List, [], ◌∷◌, ◌++◌, slice_get, codes}
 use Rattle.std.specs.Fmt.{decimal, signed_decimal}
 use Rattle.std.specs.List.{flat_map}
@@ -158,9 +158,13 @@ tag_text kinds t = kind_name (slice_get kinds t.kind) ++ keys_text t.keys
 abbrev pub slack_text : ℕ → List ℕ
 slack_text slack = if nat_lt 0 slack then codes " slack " ++ decimal slack else []
 
--- the rate is always there
+-- what begins a line of a source with a file, or of a clock with a period; the rate is always there
+abbrev pub head_of : Source → Option ℕ → List ℕ
+head_of s None = codes "source " ++ s.name ++ codes " " ++ quoted s.file ++ codes " rate " ++ decimal s.rate ++ slack_text s.slack ++ codes ": "
+head_of s (Some every) = codes "clock " ++ s.name ++ codes " every " ++ decimal every ++ codes " rate " ++ decimal s.rate ++ codes ": "
+
 abbrev pub source_head : Source → List ℕ
-source_head s = codes "source " ++ s.name ++ codes " " ++ quoted s.file ++ codes " rate " ++ decimal s.rate ++ slack_text s.slack ++ codes ": "
+source_head s = head_of s s.every
 
 abbrev pub source_line : List PlainKind → Source → List ℕ
 source_line kinds s = source_head s ++ separated (codes ", ") (tag_text kinds) s.tags ++ line_end

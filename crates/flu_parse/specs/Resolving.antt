@@ -32,7 +32,7 @@ use Rattle.flu_parse.specs.Faults.{Found, ◌>>=◌, ◌>>◌, unless, each}
 use Rattle.flu_parse.specs.Naming.{Naming, in_version, is_version_3, families_of, keys_by, items_by, naming_of, kind_of}
 use Rattle.flu_parse.specs.Actions.{resolved_actions}
 use Rattle.flu_parse.specs.Lists.{texts_of, list_of, listed_families, listed_kinds}
-use Rattle.flu_parse.specs.Listings.{Listed, tags_of, rate_of, slack_of, file_of}
+use Rattle.flu_parse.specs.Listings.{Listed, tags_of, rate_of, slack_of, file_of, period_of, tick_of}
 
 -- the job as far as its declarations were processed, with the numbers of the kinds whose `on` was met, and for the families and the kinds
 -- that were met the lists that name their keys and their items
@@ -98,7 +98,19 @@ with_source text n d name file written_rate written_slack tags = do
   slack ← slack_of written_slack
   listed ← tags_of text n d.itags tags
   Ok (record d {
-    sources = d.sources ++ record { name = name_of text name; file = bytes; rate = rate; slack = slack; tags = listed.tags } ∷ [];
+    sources = d.sources ++ record { name = name_of text name; file = bytes; every = None; rate = rate; slack = slack; tags = listed.tags } ∷ [];
+    itags = listed.itags;
+  })
+
+-- A clock is a source without a file, none of whose events is late; only version 3 has clocks.
+unfoldable pub with_clock : List ℕ → Naming → Drafted → ℕ → WrittenSpan → WrittenNumber → Option WrittenNumber → WrittenSpan → Found Drafted
+with_clock text n d at name every written_rate tag = do
+  unless (is_version_3 n) (f.WrongShape at)
+  period ← period_of every
+  rate ← rate_of written_rate
+  listed ← tick_of text n d.itags tag
+  Ok (record d {
+    sources = d.sources ++ record { name = name_of text name; file = []; every = Some period; rate = rate; slack = 0; tags = listed.tags } ∷ [];
     itags = listed.itags;
   })
 
@@ -138,6 +150,7 @@ with_declaration text n d (w.Names at name texts) = with_names text n d at name 
 with_declaration text n d (w.Depends a b relation) = with_depend text n d a b relation
 with_declaration text n d (w.On name actions) = with_on text n d name actions
 with_declaration text n d (w.Source name file rate slack tags) = with_source text n d name file rate slack tags
+with_declaration text n d (w.Clock at name every rate tag) = with_clock text n d at name every rate tag
 
 -- a kind without `on` has no actions; its head says nothing of a list
 abbrev pub idle_kind : List ℕ × KindHead → PlainKind

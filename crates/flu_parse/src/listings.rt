@@ -1,25 +1,25 @@
 //! Written sources and the tags that they list.
 
-ghost use Rattle.std.specs.Prelude.{◌≡◌, ◌+◌, ◌==◌, ◌&&◌, ◌<◌, ◌≤◌, ◌^◌, nat_le, max, min, List, length};
+ghost use Rattle.std.specs.Prelude.{◌≡◌, ◌+◌, ◌==◌, ◌&&◌, ◌<◌, ◌≤◌, ◌^◌, nat_le, max, min, List, length, ◌∷◌, []};
 ghost use Rattle.std.specs.List.{list_any};
-ghost use Rattle.flu_model.specs.Rules.{is_same_text};
 ghost use Rattle.flu_model.specs.Listing.{listed_keys};
 ghost use Rattle.flu_model.specs.declared.jobs.Keys.TheVariants.{Range};
 ghost use Rattle.flu_rules.specs.Keys.{first_key, last_key, share_tag};
 ghost use Rattle.flu_parse.specs.Faults.{Gives};
 ghost use Rattle.flu_parse.specs.Naming.{naming};
 ghost use Rattle.flu_parse.specs.Listings.{are_bracketed, written_keys, keys_of, tag_count, Listed, with_tag, tags_of, rate_of, slack_of, file_of};
+ghost use Rattle.flu_parse.specs.Listings.{period_of, is_tick_head, alone, tick_of};
 ghost use Rattle.flu_parse.specs.Resolving.{tags_listed};
 
 use crate::cells::resolved_key;
 use crate::drafts::TagList;
 use crate::faults::JobFault;
-use crate::names::Names;
+use crate::names::{KindHead, Names};
 use crate::naming::kind_of;
 use crate::terms::shape_at;
 use flu_layout::{inside, written_value};
 use flu_model::{Keys, Source, TagRef, What};
-use flu_rules::tags_meet_by_their_ends;
+use flu_rules::{reads_file, tags_meet_by_their_ends};
 use flu_syntax::{WrittenKeys, WrittenNumber, WrittenSpan, WrittenTag};
 use std::alloc::Global;
 
@@ -31,6 +31,9 @@ const GREATEST_RATE: u64 = 1_000_000_000;
 
 /// The greatest slack of a source, in the unit of its times.
 const GREATEST_SLACK: u64 = 60_000;
+
+/// The greatest period of a clock, in the unit of times.
+const GREATEST_PERIOD: u64 = 1 << 62;
 
 fn are_bracketed(keyed: bool, keys: &WrittenKeys) -> bool
     ensures { result ≡ are_bracketed keyed keys.now }
@@ -236,10 +239,58 @@ pub fn slack_of(written: &Option<WrittenNumber>) -> Result<u64, JobFault>
     }
 }
 
-fn is_read(sources: &[Source], file: &str) -> bool
-    ensures { result ≡ list_any (λ source. is_same_text file.now source.file) sources.now }
+/// The period of a clock that is written.
+pub fn period_of(written: WrittenNumber) -> Result<u64, JobFault>
+    ensures { Gives (λ period. period) result (period_of written) }
 {
-    sources.iter().any(|source| file == source.file.as_str())
+    let period = written_value(written.value);
+    shape_at(1 <= period && period <= GREATEST_PERIOD, written.at)?;
+    Ok(period)
+}
+
+fn is_tick_head(kind: KindHead) -> bool
+    ensures { result ≡ is_tick_head kind }
+{
+    !kind.keyed && !kind.has_item && !kind.has_value
+}
+
+// The tags of one kind that is written without brackets.
+fn tag_alone(
+    alloc: Global,
+    text: &str,
+    names: &Names,
+    itags: u64,
+    kind: WrittenSpan,
+) -> Result<TagList, JobFault>
+    ensures { Gives tags_listed result (tags_of text.now (naming names.now) itags (alone kind ∷ [])) }
+{
+    let mut listed = TagList {
+        tags: Vec::new(alloc),
+        itags,
+    };
+    let tag = WrittenTag {
+        kind,
+        keys: WrittenKeys::Alone,
+    };
+    match add_tag(text, names, &mut listed, &tag) {
+        Ok(()) => Ok(listed),
+        Err(fault) => Err(fault),
+    }
+}
+
+/// The tag of a clock, and how many itags there are with it, or the first fault in it.
+pub fn tick_of(
+    alloc: Global,
+    text: &str,
+    names: &Names,
+    itags: u64,
+    written: WrittenSpan,
+) -> Result<TagList, JobFault>
+    ensures { Gives tags_listed result (tick_of text.now (naming names.now) itags written) }
+{
+    let kind = kind_of(names, text, written)?;
+    shape_at(is_tick_head(kind), written.from)?;
+    tag_alone(alloc, text, names, itags, written)
 }
 
 /// The file that is written, which no earlier source reads.
@@ -254,7 +305,7 @@ pub fn file_of<'t>(
     if file.len() == 0 {
         return Err(JobFault::WrongShape { at: span.from });
     }
-    if is_read(sources, file) {
+    if reads_file(sources, file) {
         return Err(JobFault::TwiceNamed { at: span.from });
     }
     Ok(file)

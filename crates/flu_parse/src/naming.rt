@@ -5,7 +5,8 @@ ghost use Rattle.std.specs.List.{list_any};
 ghost use Rattle.std.specs.Str.{bytes_eq};
 ghost use Rattle.flu_syntax.specs.Tree.{declaration_of};
 ghost use Rattle.flu_parse.specs.Faults.{Gives};
-ghost use Rattle.flu_parse.specs.Naming.{naming, no_names, look_up, is_declared, fresh_name, with_family, with_kind, with_source, with_list, declare, naming_of};
+ghost use Rattle.flu_parse.specs.Naming.{naming, no_names, look_up, is_declared, fresh_name, with_family, with_kind, with_source, with_list, declare};
+ghost use Rattle.flu_parse.specs.Naming.{naming_of};
 ghost use Rattle.flu_parse.specs.Naming.{is_version_3, takes_items, families_of, family_of, kind_of, has_keys};
 
 use crate::faults::JobFault;
@@ -176,7 +177,9 @@ fn declare<'t>(
             Ok(())
         }
         WrittenDeclaration::On { .. } => Ok(()),
-        WrittenDeclaration::Source { name, .. } => declare_source(names, text, *name),
+        WrittenDeclaration::Source { name, .. } | WrittenDeclaration::Clock { name, .. } => {
+            declare_source(names, text, *name)
+        }
     }
 }
 

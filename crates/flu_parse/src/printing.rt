@@ -1,6 +1,6 @@
 //! The normal form of a job text.
 
-ghost use Rattle.std.specs.Prelude.{◌≡◌, ◌≤◌, ◌++◌, [], length, OnOk, IfOk, map, slice_get, option_map, unwrap_or, codes};
+ghost use Rattle.std.specs.Prelude.{◌≡◌, ◌≤◌, ◌++◌, [], length, OnOk, IfOk, map, slice_get, option_map, unwrap_or, codes, None, Some};
 ghost use Rattle.std.specs.List.{flat_map};
 ghost use Rattle.std.specs.String.{string_bytes};
 ghost use Rattle.flu_model.specs.Erasure.{job_of, plain_kind};
@@ -9,7 +9,7 @@ ghost use Rattle.flu_layout.specs.Laid.{quoted};
 ghost use Rattle.flu_layout.specs.Lists.{separated};
 ghost use Rattle.flu_parse.specs.Printing.{ties_text, iso_text, version_line, names_line, name_of_list, list_name, by_text, sort_text, keyed_text, cell_line};
 ghost use Rattle.flu_parse.specs.Printing.{item_text, value_text, tag_line, kind_name, same_text, depends_line};
-ghost use Rattle.flu_parse.specs.Printing.{on_line, tag_text, slack_text, source_head, source_line, normal_form};
+ghost use Rattle.flu_parse.specs.Printing.{on_line, tag_text, slack_text, head_of, source_head, source_line, normal_form};
 ghost use Rattle.flu_parse.specs.Reading.{job_in};
 
 use crate::laws::printed_is_read;
@@ -267,8 +267,8 @@ fn add_slack(text: &mut String, slack: u64) -> Result<(), AllocError>
     Ok(())
 }
 
-fn add_source_head(text: &mut String, source: &Source) -> Result<(), AllocError>
-    ensures { OnOk result (string_bytes text.new ≡ string_bytes text.old ++ source_head source.now) }
+fn add_file_head(text: &mut String, source: &Source) -> Result<(), AllocError>
+    ensures { OnOk result (string_bytes text.new ≡ string_bytes text.old ++ head_of source.now None) }
 {
     let name = source.name.as_str();
     let file = source.file.as_str();
@@ -276,6 +276,23 @@ fn add_source_head(text: &mut String, source: &Source) -> Result<(), AllocError>
     write!(text, "source {name} \"{file}\" rate {rate}")?;
     add_slack(text, source.slack)?;
     text.push_str(": ")
+}
+
+fn add_clock_head(text: &mut String, source: &Source, every: u64) -> Result<(), AllocError>
+    ensures { OnOk result (string_bytes text.new ≡ string_bytes text.old ++ head_of source.now (Some every)) }
+{
+    let name = source.name.as_str();
+    let rate = source.rate;
+    write!(text, "clock {name} every {every} rate {rate}: ")
+}
+
+fn add_source_head(text: &mut String, source: &Source) -> Result<(), AllocError>
+    ensures { OnOk result (string_bytes text.new ≡ string_bytes text.old ++ source_head source.now) }
+{
+    match source.every {
+        None => add_file_head(text, source),
+        Some(every) => add_clock_head(text, source, every),
+    }
 }
 
 fn add_source(text: &mut String, kinds: &[Kind], source: &Source) -> Result<(), AllocError>
@@ -313,8 +330,9 @@ fn printed(alloc: Global, p: &Program) -> Result<String, AllocError>
 }
 
 /// A job as a text, in normal form (`docs/LANGUAGE.md`): the version if it is not 1, with the rows at one time if they may be several and the
-/// unit of the times if there is one, lists of names, cells, tags, `depends`, the actions of the kinds that have some, and sources, each on a
-/// line of its own with one blank between words. Each operator is in parentheses of its own, numbers have no needless zeros, the rate is
+/// unit of the times if there is one, lists of names, cells, tags, `depends`, the actions of the kinds that have some, and sources and clocks as
+/// they are declared, each on a line of its own with one blank between words. Each operator is in parentheses of its own, numbers have no needless
+/// zeros, the rate is
 /// always there, and the slack if it is not 0.
 ///
 /// The text is read as this job again, if it has at most 1,048,576 bytes.

@@ -87,9 +87,10 @@ fn read_parts(alloc: Global, bytes: &[u8]) -> Result<JobParts, JobFault>
 /// `iso` in versions 1 and 2, and at a unit other than `seconds`, `milliseconds` and `microseconds`, in this order. At last the
 /// declarations are checked again, token by token, where [`JobFault::UnknownName`] comes before [`JobFault::WrongShape`], that before
 /// [`JobFault::OverLimit`], and that before [`JobFault::TwiceNamed`]. So it is with lists of names: [`JobFault::WrongShape`] at the word
-/// `names` and the word `by` in versions 1 and 2; [`JobFault::UnknownName`] at the name behind `by` where no list has it; and at a text of
+/// `names`, the word `clock` and the word `by` in versions 1 and 2; [`JobFault::UnknownName`] at the name behind `by` where no list has it; and at a text of
 /// a list [`JobFault::WrongShape`] where it may not be in one, [`JobFault::OverLimit`] where it is the 65,537th, and
-/// [`JobFault::TwiceNamed`] where it is in the list already. [`JobFault::NoMemory`] if memory runs out.
+/// [`JobFault::TwiceNamed`] where it is in the list already. With a clock there is [`JobFault::WrongShape`] at a period that is not from 1 to
+/// 2^62, and at a tag of a kind with a key, an item or a value. [`JobFault::NoMemory`] if memory runs out.
 pub fn read_job(alloc: Global, bytes: &[u8]) -> Result<Program, JobFault>
     ensures { Gives job_of result (job_in bytes.now) }
 {

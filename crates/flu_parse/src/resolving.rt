@@ -6,14 +6,15 @@ ghost use Rattle.flu_model.specs.Erasure.{plain_action, plain_kind};
 ghost use Rattle.flu_syntax.specs.Tree.{action_of as action_seen, declaration_of, job_of};
 ghost use Rattle.flu_parse.specs.Faults.{Gives};
 ghost use Rattle.flu_parse.specs.Naming.{naming, in_version};
-ghost use Rattle.flu_parse.specs.Resolving.{drafted, same_of, with_depend, with_actions, with_on, with_source, with_cell, with_tag, with_names, with_declaration, idle_kind};
+ghost use Rattle.flu_parse.specs.Resolving.{drafted, same_of, with_depend, with_actions, with_on, with_source, with_clock, with_cell, with_tag, with_names};
+ghost use Rattle.flu_parse.specs.Resolving.{with_declaration, idle_kind};
 ghost use Rattle.flu_parse.specs.Resolving.{cell_name_fits, item_word_fits, first_draft, draft_of, version_of};
 ghost use Rattle.flu_parse.specs.Resolving.{ties_counted, ties_of, unit_named, unit_of, iso_of, resolved, job_of_parts};
 
 use crate::actions::resolved_actions;
 use crate::drafts::{Draft, JobParts};
 use crate::faults::JobFault;
-use crate::listings::{file_of, rate_of, slack_of, tags_of};
+use crate::listings::{file_of, period_of, rate_of, slack_of, tags_of, tick_of};
 use crate::lists::{items_by, keys_by, list_of, listed_families, listed_kinds, texts_of};
 use crate::names::{KindHead, Names};
 use crate::naming::{families_of, is_version_3, kind_of, naming_of};
@@ -121,8 +122,41 @@ fn add_source(
     draft.sources.push(Source {
         name: Name::of(name),
         file: Text::of(file),
+        every: None,
         rate,
         slack,
+        tags: List::of(listed.tags),
+    })?;
+    draft.itags = itags;
+    Ok(())
+}
+
+#[tactic(auto, unfolding(crate::specs::Resolving::with_clock))]
+fn add_clock(
+    alloc: Global,
+    text: &str,
+    names: &Names,
+    draft: &mut Draft,
+    at: usize,
+    name: WrittenSpan,
+    every: WrittenNumber,
+    rate: &Option<WrittenNumber>,
+    tag: WrittenSpan,
+) -> Result<(), JobFault>
+    ensures { Gives (λ done. drafted draft.new) result (with_clock text.now (naming names.now) (drafted draft.old) at name every rate.now tag) }
+{
+    shape_at(is_version_3(names), at)?;
+    let period = period_of(every)?;
+    let rate = rate_of(rate)?;
+    let listed = tick_of(alloc, text, names, draft.itags, tag)?;
+    let itags = listed.itags;
+    let name = String::from_str(alloc, name_of(text, name))?;
+    draft.sources.push(Source {
+        name: Name::of(name),
+        file: Text::of(String::new(alloc)),
+        every: Some(period),
+        rate,
+        slack: 0,
         tags: List::of(listed.tags),
     })?;
     draft.itags = itags;
@@ -238,6 +272,13 @@ fn add_declaration(
             slack,
             tags.items(),
         ),
+        WrittenDeclaration::Clock {
+            at,
+            name,
+            every,
+            rate,
+            tag,
+        } => add_clock(alloc, text, names, draft, *at, *name, *every, rate, *tag),
     }
 }
 
@@ -382,8 +423,9 @@ fn iso_of(text: &str, version: u32, written: &Option<WrittenHead>) -> Result<Opt
 /// version other than 1, 2 and 3, at the word `ties` in versions 1 and 2, at a number behind it that is not from 1 to 2,147,483,648, at
 /// the word `iso` in versions 1 and 2, and at a unit that is none, in this order. Then the declarations are checked again, token by
 /// token, where an unknown name comes before a wrong shape, that before a limit, and that before what is named twice: in versions 1 and
-/// 2 there is a wrong shape at the words `names` and `by`, the name after `by` is of a list, and a text of a list has a wrong shape, is
-/// the 65,537th of its list, or is there already. [`JobFault::NoMemory`] if memory runs out.
+/// 2 there is a wrong shape at the words `names`, `clock` and `by`, the name after `by` is of a list, and a text of a list has a wrong
+/// shape, is the 65,537th of its list, or is there already; the period of a clock has a wrong shape if it is not from 1 to 2^62, and so has
+/// its tag if it is of a kind with a key, an item or a value. [`JobFault::NoMemory`] if memory runs out.
 #[tactic(auto, unfolding(crate::specs::Resolving::resolved))]
 pub fn resolve(alloc: Global, text: &str, job: &WrittenJob) -> Result<JobParts, JobFault>
     ensures { Gives job_of_parts result (resolved text.now (job_of job.now)) }

@@ -1,21 +1,14 @@
 -- If nothing failed, the status of a part command is the one that it and its files call for, or the one for out of memory.
-use Rattle.std.proofs.Common.{◌≡◌, ◌≢◌, ℕ, Bool, true, false, List, Option, Some, None, Ok, refl, sym, ap, subst, ◌∙◌, inl, inr, ◌⊎◌, arith}
-use Rattle.std.specs.Prelude.{◌||◌, Contains}
-use Rattle.std.specs.Str.{bytes_eq}
-use Rattle.std.proofs.lemmas.Bool.{false≢true}
+use Rattle.std.proofs.Common.{◌≡◌, ◌≢◌, ℕ, List, Option, Some, None, Ok, refl, sym, ap, subst, ◌∙◌, inl, inr, ◌⊎◌, arith}
+use Rattle.std.specs.Prelude.{Contains}
 use Rattle.std.proofs.lemmas.Option.{get_or_from_slice_get}
 use Rattle.flu_lemmas.proofs.Places.{position_below, position_passes}
-use Rattle.flu_lemmas.proofs.Searches.{list_any-map}
 use Rattle.flu_lemmas.proofs.Told.{of_told}
 use Rattle.flu_model.specs.declared.jobs.Program.{Program}
-use Rattle.flu_model.specs.declared.jobs.Source.{Source}
 use Rattle.flu_model.specs.declared.plans.Node.{Node}
-use Rattle.flu_model.specs.declared.events.Tag.{Tag}
-use Rattle.flu_model.specs.Modes.{mode_of, uses}
 use Rattle.flu_outside.specs.Outside.{Contents}
-use Rattle.flu_apart.specs.Apart.{MayBeApart, IsFirstReason}
-use Rattle.flu_apart.specs.Classes.{is_contributed, is_kept}
-use Rattle.flu_apart.specs.declared.reason.Reason.{Reason}
+use Rattle.flu_apart.specs.Apart.{MayBeApart}
+use Rattle.flu_apart.specs.Laws.{ReasonsAreOne}
 use Rattle.flu_streams.specs.declared.faults.SourceFault.{SourceFault}
 use Rattle.flu_streams.specs.Files.{files_of}
 use Rattle.flu_selected.specs.Laws.{first_read_fault}
@@ -45,7 +38,7 @@ use Rattle.flu_parts.specs.ReadNames.{IsReadPart}
 use Rattle.flu_parts.specs.Outcome.{Ended, OfCommand, OfNone, PartFaultsFirst, IsPlanRefused, Plan, OfNode}
 use Rattle.flu_parts.specs.Calling.{HasNodeRefused, HasFileRefused, PartCallsFor, Good, FaultyTexts, FaultyNode, FaultyFile, FaultySource}
 use Rattle.flu_parts.specs.Calling.{PartCallsForOneStatus, NoPartFailed, PartsCompleteByFaults}
-use Rattle.flu_parts.proofs.Names.{among_there}
+use Rattle.flu_parts.proofs.Names.{among_files, among_there}
 
 -- a command calls for one status, what ends it is called for, and of what partials and sources give one of three happens
 pub record LawsOfParts : Type 0 where
@@ -53,26 +46,20 @@ pub record LawsOfParts : Type 0 where
   pub job_fault : JobFaultIsCalledFor
   pub conflict : ConflictIsCalledFor
   pub plan_defect : PlanDefectIsCalledFor
+  pub reasons : ReasonsAreOne
   pub no_partial : NoPartialIsFaulty
   pub no_source : NoSourceIsFaulty
   pub apart : SourcesOrPartialsAreFaulty
 
 -- ---- what excludes what, of one program and one plan
 -- a node that may be apart has no defect
-no_reason : (p : Program) (nodes : List Node) (w : ℕ) (r : Reason) → MayBeApart p nodes w → IsFirstReason p nodes w r.tag r.cell → ⊥
-no_reason p nodes w r may first =
-    let why = first.reason in
-    let used = subst (λ (t : Tag). uses (mode_of p t r.cell) ≡ true) (sym why.tag) why.used in
-    let neither : (is_contributed p nodes w r.cell || is_kept p nodes w r.cell) ≡ false =
-    ap (λ (b : Bool). b || is_kept p nodes w r.cell) why.not_contributed ∙ why.not_kept in
-    false≢true (sym neither ∙ may why.itag r.cell why.in_range why.of_subtree used)
-
-no_node_defect : (p : Program) (nodes : List Node) (node : List ℕ) (w : ℕ) (why : NodeDefect) → IsNodeApart p nodes node w → IsNodeDefect p nodes node why → ⊥
-no_node_defect p nodes node w Unknown apart none = let e : None ≡ Some w = sym none ∙ apart.named in cc
-no_node_defect p nodes node w (NotApart u reason) apart defect =
+no_node_defect : ReasonsAreOne → (p : Program) (nodes : List Node) (node : List ℕ) (w : ℕ) (why : NodeDefect) → IsNodeApart p nodes node w
+    → IsNodeDefect p nodes node why → ⊥
+no_node_defect reasons p nodes node w Unknown apart none = let e : None ≡ Some w = sym none ∙ apart.named in cc
+no_node_defect reasons p nodes node w (NotApart u reason) apart defect =
     let e : Some w ≡ Some u = sym apart.named ∙ defect.0 in
     let same : w ≡ u = cc in
-    no_reason p nodes u reason (subst (MayBeApart p nodes) same apart.may) defect.1
+    (reasons p nodes u).none reason (subst (MayBeApart p nodes) same apart.may) defect.1
 
 -- sources that a node reads have no defect, or they have one
 good_or_faulty : (p : Program) (nodes : List Node) (node : List ℕ) (left : Contents) (v w : ℕ) (fault : SourceFault) → IsNodeApart p nodes node v
@@ -90,7 +77,7 @@ no_same_name p names place number none same =
     let there : Contains names found.0 =
     (place, position_below (is_file_of p.sources) names place same.first, get_or_from_slice_get names place found.0 found.0 found.1) in
     none found.0 there
-    (among_there (files_of p.sources) found.0 (list_any-map (bytes_eq found.0) (λ (s : Source). s.file) p.sources ∙ found.2))
+    (among_there (files_of p.sources) found.0 (among_files p.sources found.0 ∙ found.2))
 
 -- ---- what is so behind the texts, with the status of that
 data IsAt (command : PartCommand) (left : Contents) (p : Program) (nodes : List Node) (status : ℕ) : Type 0 where
@@ -102,7 +89,7 @@ data IsAt (command : PartCommand) (left : Contents) (p : Program) (nodes : List 
 module _ (laws : LawsOfParts) (left : Contents) (p : Program) (nodes : List Node) where
   good_node : (command : PartCommand) (text : List ℕ) (now : Contents) → IsTextOf command p nodes text (behind command left) now
       → HasNodeRefused command p nodes → ⊥
-  good_node (Partial job plan node) text now good bad = no_node_defect p nodes node good.0 bad.0 good.1 bad.1
+  good_node (Partial job plan node) text now good bad = no_node_defect laws.reasons p nodes node good.0 bad.0 good.1 bad.1
   good_node (Combine job plan partials) text now good bad = bad
 
   file_of_good : (names : List (List ℕ)) (text : List ℕ) (was now : Contents) (place : ℕ) (why : FileDefect) → AreNoSources names p
@@ -125,7 +112,7 @@ module _ (laws : LawsOfParts) (left : Contents) (p : Program) (nodes : List Node
 
   node_source : (command : PartCommand) (fault : SourceFault) → HasNodeRefused command p nodes
       → IsSourceDefect command p nodes (behind command left) fault → ⊥
-  node_source (Partial job plan node) fault bad other = no_node_defect p nodes node other.0 bad.0 other.1 bad.1
+  node_source (Partial job plan node) fault bad other = no_node_defect laws.reasons p nodes node other.0 bad.0 other.1 bad.1
   node_source (Combine job plan partials) fault bad other = bad
 
   node_file : (command : PartCommand) → HasNodeRefused command p nodes → HasFileRefused command left p nodes → ⊥

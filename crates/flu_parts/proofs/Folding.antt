@@ -1,7 +1,7 @@
 -- What is combined of the texts that other processes wrote is the report of the fold.
-use Rattle.std.proofs.Common.{◌≡◌, ◌<◌, ◌≤◌, ℕ, Bool, Some, List, [], ◌∷◌, length, sym, ap, subst, ◌∙◌}
+use Rattle.std.proofs.Common.{◌≡◌, ◌<◌, ◌≤◌, ℕ, Bool, false, Some, List, [], ◌∷◌, length, sym, ap, subst, ◌∙◌}
 use Rattle.std.specs.Prelude.{IsTrue}
-use Rattle.std.specs.List.{AllByRecursion}
+use Rattle.std.specs.List.{AllByRecursion, list_any}
 use Rattle.flu_lemmas.proofs.Places.{position_below}
 use Rattle.flu_outside.specs.Outside.{Contents}
 use Rattle.flu_outside.specs.Taking.{bytes_left}
@@ -10,7 +10,7 @@ use Rattle.flu_model.specs.declared.jobs.Program.{Program}
 use Rattle.flu_model.specs.declared.plans.Node.{Node}
 use Rattle.flu_model.specs.Contents.{nothing_held}
 use Rattle.flu_model.specs.Erasure.{job_of, IsSameJob}
-use Rattle.flu_model.specs.Rules.{is_same_text}
+use Rattle.flu_model.specs.Rules.{is_clock, is_same_text}
 use Rattle.flu_model.specs.Streaming.{are_streams}
 use Rattle.flu_contribution.specs.Contributions.{Contribution}
 use Rattle.flu_contribution.specs.Laws.{IsSetting}
@@ -33,6 +33,7 @@ use Rattle.flu_receiving.specs.Laws.{PartialsHaveOneText}
 use Rattle.flu_combine.specs.Laws.{sent_of_each, PartialsAreCombined, TextsAreWholePartials}
 use Rattle.flu_combine.specs.Names.{read_out}
 use Rattle.flu_combine.specs.Partials.{most_bytes, node_named, IsPartialOf, ArePartials}
+use Rattle.flu_combine.proofs.NoClocks.{no_clock_under}
 use Rattle.flu_words.specs.Parts.{Combine}
 use Rattle.flu_command.specs.Behind.{Named, plan_behind}
 use Rattle.flu_parts.specs.Planned.{behind}
@@ -59,7 +60,7 @@ pub record Lawful : Type 0 where
 
 -- a job and a plan for it, and what all their sources have
 module _ (law : Lawful) (p : Program) (nodes : List Node) (job plan : List ℕ) (has : IsJobText job (job_of p)) (planned : IsPlanText p plan nodes)
-    (whole : Contents) where
+    (no_clock : list_any is_clock p.sources ≡ false) (whole : Contents) where
   -- a text is the partial of a node of the sources that it reads, which have no defect
   pub record IsMadeAt (text : List ℕ) (w : ℕ) : Type 0 where
     there : w < length nodes
@@ -78,7 +79,7 @@ module _ (law : Lawful) (p : Program) (nodes : List Node) (job plan : List ℕ) 
       → ((name : List ℕ) → IsRead q (reads q nodes w) name → left name ≡ whole name) → IsMadeAt text w
   made_at q w text left now same there wrote files =
       let mine = (law.one_partial q p same).partial nodes w text left now wrote in
-      let agree = law.files p (reads p nodes w) left whole (λ name read. files name (same_read q w name same read)) in
+      let agree = law.files p (reads p nodes w) left whole no_clock (λ name read. files name (same_read q w name same read)) in
       record {
         there = there;
         good = sym agree.1 ∙ mine.good;
@@ -107,7 +108,7 @@ module _ (law : Lawful) (p : Program) (nodes : List Node) (job plan : List ℕ) 
 
   -- ---- its text is a whole partial
   good_streams : (w : ℕ) → IsReadGood p (reads p nodes w) whole → IsTrue (are_streams 0 (part_read p nodes whole w))
-  good_streams w good = law.streams p (selected p (reads p nodes w) whole) (law.defects p (reads p nodes w) whole ∙ good)
+  good_streams w good = law.streams p (selected p (reads p nodes w) whole) no_clock (law.defects p (reads p nodes w) whole no_clock ∙ good)
 
   is_partial : (text : List ℕ) (w : ℕ) → IsMadeAt text w → length text ≤ most_bytes
       → IsPartialOf p nodes text w (sent_by p nodes w (part_read p nodes whole w))
@@ -117,7 +118,7 @@ module _ (law : Lawful) (p : Program) (nodes : List Node) (job plan : List ℕ) 
       subst (λ (bytes : List ℕ). IsPartialOf p nodes bytes w (sent_by p nodes w lists)) (sym at.is)
       (law.are_whole p nodes w lists (law.utf8 job (job_of p) has) (law.has_text p plan nodes ((law.grammar p plan nodes).1 planned))
       planned.means.rules.own_names at.there (law.size p read) (good_streams w at.good)
-      (law.readable p read (law.defects p (reads p nodes w) whole ∙ at.good))
+      (law.readable p read no_clock (law.defects p (reads p nodes w) whole no_clock ∙ at.good))
       (subst (λ (bytes : List ℕ). length bytes ≤ most_bytes) at.is few))
 
   -- bytes are a partial of one node
@@ -159,8 +160,9 @@ combined_fold law whole left now job plan partials text wrote made same =
       valid = wrote.planned.valid;
       sorts = λ c. tt;
     } in
+    let no_clock = no_clock_under p nodes old partials is.ws is.queues is.some is.accepted.partials is.accepted.apart in
     let all =
-    all_made law p nodes (bytes_left left job) (plan_behind (Named job) plan left) wrote.planned.has wrote.planned.plan whole old partials is.ws is.queues
-    is.accepted.partials made in
-    let rest = law.files p (reads_rest p nodes is.ws) (read_out partials old) whole same in
+    all_made law p nodes (bytes_left left job) (plan_behind (Named job) plan left) wrote.planned.has wrote.planned.plan no_clock whole old partials is.ws
+    is.queues is.accepted.partials made in
+    let rest = law.files p (reads_rest p nodes is.ws) (read_out partials old) whole no_clock same in
     law.combined p nodes is.ws partials text whole old now setting is.accepted.apart all.0 (sym rest.1 ∙ is.good) all.1 same is

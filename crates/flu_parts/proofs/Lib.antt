@@ -1,4 +1,5 @@
 pub mod Names
+pub mod SomePartials
 pub mod BehindTexts
 pub mod Commands
 pub mod Outcomes

@@ -1,5 +1,5 @@
 -- What refuses a part command, in order: what refuses `valid JOB PLAN`; the node that it names, or a name of a partial; a partial; a source.
-use Rattle.std.specs.Prelude.{◌≡◌, ℕ, ◌<◌, Bool, Option, Some, None, List, [], length, position, slice_index_or, option_map}
+use Rattle.std.specs.Prelude.{◌≡◌, ℕ, ◌<◌, ◌&&◌, not, Bool, Option, Some, None, List, [], length, position, slice_index_or, option_map}
 use Rattle.std.specs.List.{list_any}
 use Rattle.std.specs.Str.{bytes_eq}
 use Rattle.flu_outside.specs.Outside.{Contents, WhereTold}
@@ -7,6 +7,7 @@ use Rattle.flu_model.specs.declared.jobs.Program.{Program}
 use Rattle.flu_model.specs.declared.jobs.Source.{Source}
 use Rattle.flu_model.specs.declared.plans.Node.{Node}
 use Rattle.flu_model.specs.Modes.{IsAccepted}
+use Rattle.flu_model.specs.Rules.{is_clock}
 use Rattle.flu_model.specs.Validity.{IsValid}
 use Rattle.flu_apart.specs.Apart.{IsFirstReason}
 use Rattle.flu_streams.specs.declared.faults.SourceFault.{SourceFault}
@@ -30,7 +31,7 @@ use Rattle.flu_parts.specs.Written.{AreNoSources}
 -- what is wrong with a name of a node: the plan has none of that name; or it may not be apart, for this first reason
 abbrev pub IsNodeDefect : Program → List Node → List ℕ → NodeDefect → Type 0
 IsNodeDefect p nodes name Unknown = node_named nodes name ≡ None
-IsNodeDefect p nodes name (NotApart u reason) = (node_named nodes name ≡ Some u) × IsFirstReason p nodes u reason.tag reason.cell
+IsNodeDefect p nodes name (NotApart u reason) = (node_named nodes name ≡ Some u) × IsFirstReason p nodes u reason
 
 -- the node that the command names has this defect, as a node of its plan
 abbrev pub HasNodeDefect : PartCommand → Option Contents → Option Contents → Program → List Node → List ℕ → NodeDefect → Type 0
@@ -39,14 +40,18 @@ HasNodeDefect (Partial job plan node) old new p nodes name why =
 HasNodeDefect (Combine job plan partials) old new p nodes name why = ⊥
 
 -- ---- the partials of `combine`
+-- whether a source has the file of a name; a clock has none
+abbrev pub has_file : List ℕ → Source → Bool
+has_file name s = not (is_clock s) && bytes_eq name s.file
+
 -- whether a name is the file of one of some sources
 abbrev pub is_file_of : List Source → List ℕ → Bool
-is_file_of sources name = list_any (λ s. bytes_eq name s.file) sources
+is_file_of sources name = list_any (has_file name) sources
 
 -- the first of some names that is the file of a source stands at this place, and this is the first source that has it
 pub record IsSameName (p : Program) (names : List (List ℕ)) (place number : ℕ) : Type 0 where
   pub first : position (is_file_of p.sources) names ≡ Some place
-  pub source : position (λ s. bytes_eq (slice_index_or names place []) s.file) p.sources ≡ Some number
+  pub source : position (has_file (slice_index_or names place [])) p.sources ≡ Some number
 
 -- what is wrong with the file at a place, of what the names have left: it is the file of a source; or no name is, and it is the first partial with a
 -- defect, which is this one

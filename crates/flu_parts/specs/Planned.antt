@@ -1,5 +1,5 @@
 -- What a part command reads before partials and sources: its job and its plan, as `valid JOB PLAN` reads them.
-use Rattle.std.specs.Prelude.{◌≡◌, ℕ, Some, List}
+use Rattle.std.specs.Prelude.{◌≡◌, ◌≢◌, ℕ, Some, List, [], ⊤}
 use Rattle.flu_outside.specs.Outside.{Contents}
 use Rattle.flu_model.specs.declared.jobs.Program.{Program}
 use Rattle.flu_model.specs.declared.plans.Node.{Node}
@@ -20,6 +20,11 @@ job_of_part (Combine job plan partials) = job
 abbrev pub plan_of_part : PartCommand → List ℕ
 plan_of_part (Partial job plan node) = plan
 plan_of_part (Combine job plan partials) = plan
+
+-- if it combines, there is a partial
+abbrev pub NamesSome : PartCommand → Type 0
+NamesSome (Partial job plan node) = ⊤
+NamesSome (Combine job plan partials) = partials ≢ []
 
 -- the command that reads the same job and the same plan, and asks the same of them
 abbrev pub texts_of : PartCommand → Command

@@ -15,6 +15,7 @@ pub fn part_commands_call_for_one_status()
 {
     flu_command::calling::files_call_for_one_status();
     flu_command::calling::what_ends_a_command_is_called_for();
+    flu_apart::laws::reasons_are_one();
     flu_combine::laws::one_of_three_happens();
 }
 
@@ -24,6 +25,7 @@ pub fn part_commands_complete_by_faults()
 {
     flu_command::calling::files_call_for_one_status();
     flu_command::calling::what_ends_a_command_is_called_for();
+    flu_apart::laws::reasons_are_one();
     flu_combine::laws::one_of_three_happens();
 }
 

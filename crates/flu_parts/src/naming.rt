@@ -1,13 +1,12 @@
 //! The node and the files that a part command names.
 
 ghost use Rattle.std.specs.Prelude.{◌≡◌, ◌<◌, ◌≤◌, None, Some, IfOk, IfErr, IfSome, length, map, position, string_bytes};
-ghost use Rattle.std.specs.Str.{bytes_eq};
 ghost use Rattle.flu_deps.specs.Checking.{program_of};
 ghost use Rattle.flu_deps.specs.Validated.{plan_of, IsValidFor};
 ghost use Rattle.flu_combine.specs.Partials.{node_named};
 ghost use Rattle.flu_parts.specs.Planned.{IsNodeApart};
 ghost use Rattle.flu_parts.specs.Written.{AreNoSources};
-ghost use Rattle.flu_parts.specs.Causes.{IsNodeDefect, IsSameName, is_file_of};
+ghost use Rattle.flu_parts.specs.Causes.{IsNodeDefect, IsSameName, has_file, is_file_of};
 
 use flu_apart::apart;
 use flu_deps::{Checked, Valid};
@@ -79,12 +78,19 @@ fn place_of_file(program: &Program, names: &[String]) -> Option<usize>
 fn is_file_of(sources: &[Source], name: &str) -> bool
     ensures { result ≡ is_file_of sources.now name.now }
 {
-    sources.iter().any(|source| name == source.file.as_str())
+    sources.iter().any(|source| has_file(source, name))
+}
+
+// Whether a source has the file of a name. A clock has none.
+fn has_file(source: &Source, name: &str) -> bool
+    ensures { result ≡ has_file name.now source.now }
+{
+    source.every.is_none() && name == source.file.as_str()
 }
 
 // The number of the first source with a file.
 fn source_with(program: &Program, name: &str) -> Option<u32>
-    ensures { result ≡ position (λ s. bytes_eq name.now s.file) program.now.sources }
+    ensures { result ≡ position (has_file name.now) program.now.sources }
 {
     match place_of_source(program.sources.items(), name) {
         Some(number) => Some(number as u32),
@@ -94,12 +100,10 @@ fn source_with(program: &Program, name: &str) -> Option<u32>
 
 // The place of the first source with a file.
 fn place_of_source(sources: &[Source], name: &str) -> Option<usize>
-    ensures value { result ≡ position (λ s. bytes_eq name.now s.file) sources.now }
+    ensures value { result ≡ position (has_file name.now) sources.now }
     ensures there { IfSome result (λ place. place < length sources.now) }
 {
-    sources
-        .iter()
-        .position(|source| name == source.file.as_str())
+    sources.iter().position(|source| has_file(source, name))
 }
 
 /// Names as texts.

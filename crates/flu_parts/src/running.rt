@@ -8,7 +8,7 @@ ghost use Rattle.flu_deps.specs.Validated.{plan_of};
 ghost use Rattle.flu_words.specs.Parts.{plain_part};
 ghost use Rattle.flu_command.specs.Taking.{TookOnly};
 ghost use Rattle.flu_top.specs.Ending.{call};
-ghost use Rattle.flu_parts.specs.Planned.{job_of_part, plan_of_part};
+ghost use Rattle.flu_parts.specs.Planned.{NamesSome, job_of_part, plan_of_part};
 ghost use Rattle.flu_parts.specs.ReadNames.{IsReadPart};
 ghost use Rattle.flu_parts.specs.Ending.{IsEnding, refusal_of_stop};
 
@@ -28,6 +28,7 @@ pub fn run<'a, F: Files, K: Sink>(
     out: &mut K,
     command: PartCommand<'a>,
 ) -> Result<(), PartRefusal<'a>>
+    requires { NamesSome (plain_part command) }
     ensures ends { IsEnding (call (F.left files.old) (F.left files.new) (F.faults files.old) (F.faults files.new) (F.put_faults files.old)
         (F.put_faults files.new) (K.taken out.old) (K.taken out.new) (K.faults out.old) (K.faults out.new)) (plain_part command.entry) result }
     ensures fronts { WhereTold (F.left files.old) (F.left files.new) TookFronts }

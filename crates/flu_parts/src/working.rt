@@ -1,6 +1,6 @@
 //! What a part command does once its job is accepted and its plan is valid for it.
 
-ghost use Rattle.std.specs.Prelude.{◌≡◌, ◌≢◌, ℕ, List, Err, map, string_bytes};
+ghost use Rattle.std.specs.Prelude.{◌≡◌, ◌≢◌, ℕ, List, [], Err, map, string_bytes};
 ghost use Rattle.flu_outside.specs.Outside.{WhereTold, SameCounts};
 ghost use Rattle.flu_outside.specs.Taking.{TookFronts};
 ghost use Rattle.flu_deps.specs.Checking.{program_of};
@@ -8,6 +8,7 @@ ghost use Rattle.flu_deps.specs.Validated.{plan_of, IsValidFor};
 ghost use Rattle.flu_words.specs.Parts.{Partial, Combine, plain_part};
 ghost use Rattle.flu_top.specs.Ending.{call};
 ghost use Rattle.flu_parts.specs.Ending.{IsEndBehind, LeavesBehind};
+ghost use Rattle.flu_parts.specs.Planned.{NamesSome};
 
 use crate::naming::{node_apart, same_name, texts_of};
 use crate::stops::Stop;
@@ -28,7 +29,8 @@ pub fn work<'a, F: Files, K: Sink>(
     valid: &Valid,
     command: PartCommand<'a>,
 ) -> Result<(), Stop<'a>>
-    requires { IsValidFor (program_of checked.now) valid.now }
+    requires valid { IsValidFor (program_of checked.now) valid.now }
+    requires some { NamesSome (plain_part command) }
     ensures ends { IsEndBehind (plain_part command.entry) (program_of checked.now) (plan_of valid.now).nodes
         (call (F.left files.old) (F.left files.new) (F.faults files.old) (F.faults files.new) (F.put_faults files.old) (F.put_faults files.new)
         (K.taken out.old) (K.taken out.new) (K.faults out.old) (K.faults out.new)) result }
@@ -80,7 +82,7 @@ fn write_part<'a, F: Files, K: Sink>(
     }
 }
 
-// Writes the report of the partials under some names, if none of them is the file of a source.
+// Writes the report of the partials under some names, one at least, if none of them is the file of a source.
 fn combine_parts<'a, F: Files, K: Sink>(
     alloc: Global,
     files: &mut F,
@@ -89,7 +91,8 @@ fn combine_parts<'a, F: Files, K: Sink>(
     valid: &Valid,
     partials: &'a [String],
 ) -> Result<(), Stop<'a>>
-    requires { IsValidFor (program_of checked.now) valid.now }
+    requires valid { IsValidFor (program_of checked.now) valid.now }
+    requires some { partials.now ≢ [] }
     ensures ends { (job plan : List ℕ) → IsEndBehind (Combine job plan (map string_bytes partials.now)) (program_of checked.now) (plan_of valid.now).nodes
         (call (F.left files.old) (F.left files.new) (F.faults files.old) (F.faults files.new) (F.put_faults files.old) (F.put_faults files.new)
         (K.taken out.old) (K.taken out.new) (K.faults out.old) (K.faults out.new)) result }

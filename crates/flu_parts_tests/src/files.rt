@@ -1,8 +1,10 @@
 //! Partials in files: what each node writes, combined with the sources of all others, is the report of the fold.
 
-ghost use Rattle.std.specs.Prelude.{◌<◌, ◌^◌};
+ghost use Rattle.std.specs.Prelude.{◌≡◌, ◌<◌, ◌^◌, false};
+ghost use Rattle.std.specs.List.{list_any};
 ghost use Rattle.flu_deps.specs.Checking.{program_of};
 ghost use Rattle.flu_deps.specs.Validated.{IsValidFor};
+ghost use Rattle.flu_model.specs.Rules.{is_clock};
 
 use crate::cases::{Case, PAGES, STATIONS, files_of, judged};
 use crate::parts::{Drawn, folded};
@@ -32,7 +34,8 @@ fn add_partial<R: Abort>(
     files: &mut HonestFiles,
     names: &mut Vec<Text>,
 ) -> Result<(), Fail>
-    requires { IsValidFor (program_of checked.now) valid.now }
+    requires valid { IsValidFor (program_of checked.now) valid.now }
+    requires no_clocks { list_any is_clock (program_of checked.now).sources ≡ false }
 {
     assert!(rt; w < valid.count(), "{w}");
     let mut sources = files_of(alloc, drawn.case, drawn.seed)?;
@@ -53,13 +56,15 @@ fn combined<R: Abort>(
     valid: &Valid,
     nodes: &[u32],
 ) -> Result<(Result<(), CombineFault>, MemSink), Fail>
-    requires { IsValidFor (program_of checked.now) valid.now }
+    requires valid { IsValidFor (program_of checked.now) valid.now }
+    requires no_clocks { list_any is_clock (program_of checked.now).sources ≡ false }
 {
     let mut files = files_of(alloc, drawn.case, drawn.seed)?;
     let mut names = Vec::new(alloc);
     for w in nodes {
         add_partial(rt, alloc, drawn, checked, valid, *w, &mut files, &mut names)?;
     }
+    assert!(rt; !names.is_empty());
     let mut out = MemSink::with_room(alloc, ROOM)?;
     let answer = combine(
         alloc,

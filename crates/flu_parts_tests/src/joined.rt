@@ -1,8 +1,10 @@
 //! What nodes apart send as text, read again and joined, gives the report of the fold.
 
-ghost use Rattle.std.specs.Prelude.{◌<◌, ◌^◌};
+ghost use Rattle.std.specs.Prelude.{◌≡◌, ◌<◌, ◌^◌, false};
+ghost use Rattle.std.specs.List.{list_any};
 ghost use Rattle.flu_deps.specs.Checking.{program_of};
 ghost use Rattle.flu_deps.specs.Validated.{IsValidFor};
+ghost use Rattle.flu_model.specs.Rules.{is_clock};
 
 use crate::cases::{Case, ITEMS, PAGES, STATIONS, judged};
 use crate::parts::{Drawn, folded, joined, partial};
@@ -26,7 +28,8 @@ fn queues<R: Abort>(
     valid: &Valid,
     nodes: &[u32],
 ) -> Result<Vec<Queue>, Fail>
-    requires { IsValidFor (program_of checked.now) valid.now }
+    requires valid { IsValidFor (program_of checked.now) valid.now }
+    requires no_clocks { list_any is_clock (program_of checked.now).sources ≡ false }
 {
     let mut queues = Vec::new(alloc);
     for w in nodes {
@@ -48,7 +51,8 @@ fn compare<R: Abort>(
     checked: &Checked,
     valid: &Valid,
 ) -> Result<(), Fail>
-    requires { IsValidFor (program_of checked.now) valid.now }
+    requires valid { IsValidFor (program_of checked.now) valid.now }
+    requires no_clocks { list_any is_clock (program_of checked.now).sources ≡ false }
 {
     let wanted = folded(alloc, drawn, checked.program())?;
     for nodes in drawn.case.apart {

@@ -1,10 +1,12 @@
 //! The parts of a run: the text of what a node apart sends, and the report of what is joined.
 
-ghost use Rattle.std.specs.Prelude.{◌≡◌, ◌<◌, ◌^◌, length, IfOk};
+ghost use Rattle.std.specs.Prelude.{◌≡◌, ◌<◌, ◌^◌, false, length, IfOk};
+ghost use Rattle.std.specs.List.{list_any};
 ghost use Rattle.flu_deps.specs.Checking.{program_of};
 ghost use Rattle.flu_deps.specs.Validated.{IsValidFor};
 ghost use Rattle.flu_model.specs.Itags.{count_of_itags};
 ghost use Rattle.flu_model.specs.Listed.{listed};
+ghost use Rattle.flu_model.specs.Rules.{is_clock};
 
 use crate::cases::{Case, files_of};
 use flu_cells::State;
@@ -39,13 +41,14 @@ pub fn folded(alloc: Global, drawn: Drawn, program: &Program) -> Result<Text, Fa
     Ok(report_text(alloc, program, outs)?)
 }
 
-// The streams of the sources that are read.
+// The streams of the sources that are read, none of which is a clock.
 fn selected(
     alloc: Global,
     drawn: Drawn,
     program: &Program,
     read: &SourcesRead,
 ) -> Result<Streams, Fail>
+    requires { list_any is_clock program.now.sources ≡ false }
     ensures { IfOk result (λ streams. length (listed streams) ≡ count_of_itags program.now) }
 {
     let mut files = files_of(alloc, drawn.case, drawn.seed)?;
@@ -68,7 +71,8 @@ pub fn partial(
     valid: &Valid,
     w: u32,
 ) -> Result<Vec<u8>, Fail>
-    requires { IsValidFor (program_of checked.now) valid.now }
+    requires valid { IsValidFor (program_of checked.now) valid.now }
+    requires no_clocks { list_any is_clock (program_of checked.now).sources ≡ false }
 {
     let program = checked.program();
     let read = sources_of_node(checked, valid, w);
@@ -94,7 +98,8 @@ pub fn joined(
     apart: &[u32],
     queues: Vec<Queue>,
 ) -> Result<Result<Text, JoinFault>, Fail>
-    requires { IsValidFor (program_of checked.now) valid.now }
+    requires valid { IsValidFor (program_of checked.now) valid.now }
+    requires no_clocks { list_any is_clock (program_of checked.now).sources ≡ false }
 {
     let program = checked.program();
     let read = sources_of_rest(checked, valid, apart);

@@ -71,7 +71,7 @@ kind_there p text s kind e =
 
 source_there : (p : Program) (text : List ℕ) (s : WrittenSpan) (source : Option ℕ) → source_of p text (Some s) ≡ Ok source → SourceThere p source
 source_there p text s source e =
-    let d : Source = record { name = []; file = []; rate = 0; slack = 0; tags = [] } in
+    let d : Source = record { name = []; file = []; every = None; rate = 0; slack = 0; tags = [] } in
     let test = λ (x : Source). is_same_text (name_of text s) x.name in
     let one = bind_ok (known s.from (source_named p.sources (name_of text s))) (λ n. Ok (Some n)) source e in
     let place = position-Some test p.sources one.0 d (known_ok s.from (source_named p.sources (name_of text s)) one.0 one.1) in

@@ -18,7 +18,7 @@ use Rattle.flu_model.specs.declared.jobs.Program.{Program}
 use Rattle.flu_model.specs.declared.plans.Pred.{Pred}
 use Rattle.flu_model.specs.declared.plans.Node.{Node}
 use Rattle.flu_model.specs.Numberings.{Numbering}
-use Rattle.flu_model.specs.Rules.{is_same_text, action_fits, kind_fits, is_file_text, tag_ref_fits, are_distinct, is_same_tag, source_fits}
+use Rattle.flu_model.specs.Rules.{is_same_text, action_fits, kind_fits, origin_fits, tag_ref_fits, are_distinct, is_same_tag, source_fits}
 use Rattle.flu_names.specs.Names.{is_name}
 use Rattle.flu_model.specs.Listing.{tags_of_source}
 use Rattle.flu_model.specs.PlanRules.{is_tree, are_small_keys}
@@ -56,14 +56,14 @@ kind_named families k h = three_left (is_name k.name) (nat_le (length k.actions)
 source_is_named : (kinds : List Kind) (s : Source) → source_fits kinds s ≡ true → is_name s.name ≡ true
 source_is_named kinds s h =
     let name = is_name s.name in
-    let file = is_file_text s.file in
+    let origin = origin_fits kinds s in
     let rate = nat_le s.rate 1000000000 in
     let slack = nat_le s.slack 60000 in
     let some = nat_lt 0 (length s.tags) in
     let tags = list_all (tag_ref_fits kinds) s.tags in
     let apart = are_distinct is_same_tag (tags_of_source s) in
-    let five = and_left (name && file && rate && slack && some) tags (and_left (name && file && rate && slack && some && tags) apart h) in
-    three_left name file rate (and_left (name && file && rate) slack (and_left (name && file && rate && slack) some five))
+    let five = and_left (name && origin && rate && slack && some) tags (and_left (name && origin && rate && slack && some && tags) apart h) in
+    three_left name origin rate (and_left (name && origin && rate) slack (and_left (name && origin && rate && slack) some five))
 
 names_fit : (p : Program) → NamesFit p
 names_fit p = record {

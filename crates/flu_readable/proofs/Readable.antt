@@ -1,8 +1,9 @@
 -- The rows of files have times and values in range, and there are few of them; so have the lists that they give.
 use Rattle.std.proofs.Common.{◌≡◌, ◌<◌, ◌≤◌, ◌+◌, ◌*◌, ◌-◌, ◌^◌, ℕ, zero, suc, ℤ, pos, Bool, true, false, cond, Option, Some, None, List, []}
-use Rattle.std.proofs.Common.{◌∷◌, ◌++◌, length, map, refl, ap, arith, drop, take}
+use Rattle.std.proofs.Common.{◌∷◌, ◌++◌, length, map, refl, sym, ap, subst, arith, drop, take}
 use lib.Signed.{mag}
-use Rattle.std.specs.Prelude.{◌==◌, ◌&&◌, nat_le, nat_lt, not, neg_ℤ, option_and_then, option_map, slice_index, sum_by, unwrap_or, FitsSigned, codes, IfSome, ⊤}
+use Rattle.std.specs.Prelude.{◌==◌, ◌&&◌, nat_le, nat_lt, not, neg_ℤ, option_and_then, option_map, slice_index, sum_by, unwrap_or, FitsSigned, codes, IfSome}
+use Rattle.std.specs.Prelude.{⊤, if◌then◌else◌}
 use Rattle.std.specs.Char.{is_ascii_digit}
 use Rattle.std.specs.Int.{w64}
 use Rattle.std.specs.List.{cons_option, filter_map, flat_map, list_all, range_with_len, AllByRecursion}
@@ -25,6 +26,7 @@ use Rattle.flu_model.specs.Numberings.{Numbering}
 use Rattle.flu_model.specs.declared.moments.Timing.{Timing}
 use Rattle.flu_model.specs.Merging.{events_of, all_events}
 use Rattle.flu_model.specs.Moments.{timing_of}
+use Rattle.flu_model.specs.Rules.{is_clock}
 use Rattle.flu_outside.specs.Outside.{Contents}
 use Rattle.flu_outside.specs.Taking.{bytes_left}
 use Rattle.flu_partial.specs.Partial.{IsTime}
@@ -45,12 +47,14 @@ use Rattle.flu_rows.specs.ItemNames.{items_named, named_item}
 use Rattle.flu_rows.specs.Row.{form_of, number_field, number_fields, named_fields, field_by, fields_by, one_field, two_fields, filled_len}
 use Rattle.flu_rows.specs.Row.{row_of, row_of_two, row_of_three, row_of_four}
 use Rattle.flu_sending.specs.Lines.{times_of, all_times}
+use Rattle.flu_selected.proofs.NoClocks.{lists_alone}
 use Rattle.flu_selected.specs.Laws.{LawOfLength}
 use Rattle.flu_streams.specs.declared.faults.SourceFault.{SourceFault}
 use Rattle.flu_streams.specs.Before.{with_before, or_else, first_some}
-use Rattle.flu_streams.specs.Good.{rows_in, items_held, fault_of_source, event_of, item_in, time_at, at_moments, items_at, lists_of_rows, lists_of}
+use Rattle.flu_streams.specs.Good.{lines_in, rows_in, items_held, fault_of_source, fault_of_rows, fault_of_clocks, event_of, item_in, time_at, at_moments}
+use Rattle.flu_streams.specs.Good.{items_at, lists_of_rows, lists_of}
 use Rattle.flu_streams.specs.Tags.{place_named, given, given_by, given_to, width}
-use Rattle.flu_streams.specs.Tests.{rows_of, times_of as row_times, first_of, first_defect}
+use Rattle.flu_streams.specs.Tests.{rows_of, times_of as row_times, first_of}
 use Rattle.flu_streams.proofs.Moments.{timing_fits}
 use Rattle.flu_streams.proofs.Ranges.{IsLow, moments_low, good_range}
 use Rattle.flu_readable.specs.Laws.{WhatIsReadIsReadable}
@@ -240,6 +244,14 @@ lines_read times form before (line ∷ lines) low = by (before + 1 == 2 ^ 32) re
     by true e more = (tt, omega (arith, low))
     by false e more = line_read times form before (read_lines form (before + 1) lines) low (more (not_last e)) line
 
+-- of a source, whose lines are those of its file; a clock has none
+source_read : TimesAreInRange → (form : RowForm) (left : Contents) (s : Source) → AreRightFrom 0 (lines_in form left s)
+source_read times form left s = by (is_clock s)
+  where
+    by : (b : Bool) → AreRightFrom 0 (if b then [] else read_file form (bytes_left left s.file))
+    by true = (tt, omega arith)
+    by false = lines_read times form 0 (lines_of (bytes_left left s.file)) (omega arith)
+
 -- ---- items
 abbrev IsRightItem : Item → Type 0
 IsRightItem (EventItem x) = IsTime x.time × IsWord x.value
@@ -394,13 +406,13 @@ module _ (times : TimesAreInRange) (p : Program) (left : Contents) where
   source_right e lt none =
       let form = form_of (job_of p) in
       let timing = timing_of p (length e.0) in
-      let bytes = bytes_left left e.1.file in
       let held = items_held form left e.0 in
       let rows = rows_in form left e.1 in
-      let right = lines_read times form 0 (lines_of bytes) (omega arith) in
+      let right = source_read times form left e.1 in
       let few = right.1 in
-      let sound : first_of timing p.kinds e.1 held (read_file form bytes) ≡ None = none_mapped _ (first_defect timing form p.kinds e.1 held bytes) none in
-      let low = moments_low timing (timing_fits p (length e.0) lt) [] rows (good_range timing p.kinds e.1 held (read_file form bytes) sound) in
+      let sound : first_of timing p.kinds e.1 held (lines_in form left e.1) ≡ None =
+      none_mapped _ (first_of timing p.kinds e.1 held (lines_in form left e.1)) none in
+      let low = moments_low timing (timing_fits p (length e.0) lt) [] rows (good_range timing p.kinds e.1 held (lines_in form left e.1) sound) in
       let many = length_at timing [] rows in
       lists_right p.kinds e.1 (sum_by width e.0) (at_moments timing [] rows) (range_with_len 0 (width e.1)) (right_at timing [] rows right.0 low)
       (omega (arith, few, many))
@@ -446,9 +458,11 @@ all_few (items ∷ lists) all =
     omega (arith, here, more, whole)
 
 pub read_is_readable : TimesAreInRange → LawOfLength → WhatIsReadIsReadable
-read_is_readable times size p left good =
+read_is_readable times size p left no_clock good =
     let lists = lists_of p left in
-    let all : AllByRecursion IsRightList lists = sources_right times p left [] p.sources (omega arith) good in
+    let rows : fault_of_rows p left ≡ None = (none_first (fault_of_rows p left) (fault_of_clocks p left) good).0 in
+    let all : AllByRecursion IsRightList lists =
+    subst (AllByRecursion IsRightList) (sym (lists_alone p left no_clock)) (sources_right times p left [] p.sources (omega arith) rows) in
     let few = all_few lists all in
     let one = size p left in
     let itags = p.few_itags in

@@ -2,7 +2,8 @@
 
 ghost use Rattle.flu_readable.specs.Laws.{WhatIsReadIsReadable};
 
-/// The lists of items that good sources give have moments below 2^63, values of 64 bits, and fewer than 2^64 events: rows keep these bounds, and what is
+/// The lists of items that good sources of a job without clocks give have moments below 2^63, values of 64 bits, and fewer than 2^64 events: rows
+/// keep these bounds, and what is
 /// read of a file has fewer than 2^32 rows.
 pub fn what_is_read_is_readable()
     ensures { WhatIsReadIsReadable }

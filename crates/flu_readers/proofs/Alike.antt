@@ -1,11 +1,12 @@
 -- What is read of sources, and their first defect, depend on the bytes of the files alone that are read.
-use Rattle.std.proofs.Common.{◌≡◌, ℕ, ◌+◌, false, List, [], ◌∷◌, ◌++◌, refl, sym, ap, ◌∙◌, inl, inr}
-use Rattle.std.specs.Prelude.{sum_by, option_map, unwrap_or, length, Contains}
+use Rattle.std.proofs.Common.{◌≡◌, ℕ, ◌+◌, false, List, [], ◌∷◌, ◌++◌, map, refl, sym, ap, subst, ◌∙◌, inl, inr}
+use Rattle.std.specs.Prelude.{sum_by, option_map, unwrap_or, length, Contains, if◌then◌else◌}
 use Rattle.std.specs.List.{flat_map, AllByRecursion}
 use Rattle.std.proofs.lemmas.Bool.{cases_Bool}
 use Rattle.std.proofs.lemmas.List.Sums.{sum_by-append}
 use Rattle.flu_model.specs.Erasure.{job_of}
 use Rattle.flu_model.specs.Moments.{timing_of}
+use Rattle.flu_model.specs.Rules.{is_clock}
 use Rattle.flu_lemmas.proofs.Containing.{contains_here, contains_later}
 use Rattle.flu_lemmas.proofs.Elements.{all_push}
 use Rattle.flu_model.specs.declared.jobs.Kind.{Kind}
@@ -17,9 +18,11 @@ use Rattle.flu_rows.specs.Reading.{read_file}
 use Rattle.flu_rows.specs.Row.{form_of}
 use Rattle.flu_streams.specs.Before.{with_before, first_some, or_else}
 use Rattle.flu_streams.specs.Files.{files_of}
-use Rattle.flu_streams.specs.Good.{rows_in, items_held, fault_of_source, lists_of_rows}
+use Rattle.flu_streams.specs.Good.{lines_in, rows_in, items_held, fault_of_source, lists_of_rows}
 use Rattle.flu_streams.specs.Tags.{width}
-use Rattle.flu_streams.specs.Tests.{rows_of, items_of, first_defect}
+use Rattle.flu_streams.specs.Tests.{rows_of, items_of, first_of}
+use Rattle.flu_selected.proofs.Faults.{rows_alone}
+use Rattle.flu_selected.proofs.NoClocks.{have_files, own_files, lists_alone}
 use Rattle.flu_selected.specs.Laws.{LawOfDefects, closed_files, selected}
 use Rattle.flu_selected.specs.Selecting.{is_among, closed_at}
 use Rattle.flu_readers.specs.Laws.{FilesThatAreReadMatter}
@@ -29,8 +32,11 @@ abbrev Alike : Contents → Contents → List Source → Type 0
 Alike a b sources = AllByRecursion (λ (s : Source). a s.file ≡ b s.file) sources
 
 module _ (timing : ℕ → Timing) (form : RowForm) (kinds : List Kind) (a b : Contents) where
+  lines_alike : (s : Source) → a s.file ≡ b s.file → lines_in form a s ≡ lines_in form b s
+  lines_alike s same = ap (λ bytes. if is_clock s then [] else read_file form (unwrap_or bytes [])) same
+
   rows_alike : (s : Source) → a s.file ≡ b s.file → rows_in form a s ≡ rows_in form b s
-  rows_alike s same = ap (λ bytes. rows_of (read_file form (unwrap_or bytes []))) same
+  rows_alike s same = ap rows_of (lines_alike s same)
 
   lists_alike : (before sources : List Source) → Alike a b sources
       → flat_map (λ e. lists_of_rows (timing (length e.0)) kinds e.1 (sum_by width e.0) (rows_in form a e.1)) (with_before before sources)
@@ -53,8 +59,9 @@ module _ (timing : ℕ → Timing) (form : RowForm) (kinds : List Kind) (a b : C
       → fault_of_source timing form kinds a before s ≡ fault_of_source timing form kinds b before s
   fault_alike before s alike same =
       let held = held_alike before alike in
+      let lines = lines_alike s same in
       λ k. option_map (λ d. record { source = length before; row = d.0; why = d.1 })
-      (first_defect (timing (length before)) form kinds s (held k) (unwrap_or (same k) []))
+      (first_of (timing (length before)) kinds s (held k) (lines k))
 
   faults_alike : (before sources : List Source) → Alike a b before → Alike a b sources
       → first_some (λ e. fault_of_source timing form kinds a e.0 e.1) (with_before before sources)
@@ -74,20 +81,26 @@ closed_alike names a b name same =
       | inr not_closed ↦ rw not_closed (same not_closed)
     ]
 
-all_alike : (a b : Contents) (sources : List Source) → ((name : List ℕ) → Contains (files_of sources) name → a name ≡ b name) → Alike a b sources
+abbrev files : List Source → List (List ℕ)
+files sources = map (λ (s : Source). s.file) sources
+
+all_alike : (a b : Contents) (sources : List Source) → ((name : List ℕ) → Contains (files sources) name → a name ≡ b name) → Alike a b sources
 all_alike a b [] same = tt
 all_alike a b (s ∷ sources) same =
-    let files = files_of sources in
-    (same s.file (contains_here s.file files), all_alike a b sources (λ name there. same name (contains_later s.file name files there)))
+    (same s.file (contains_here s.file (files sources)), all_alike a b sources (λ name there. same name (contains_later s.file name (files sources) there)))
 
 pub read_files_matter : LawOfDefects → FilesThatAreReadMatter
-read_files_matter defects p is_read left other same =
+read_files_matter defects p is_read left other no_clock same =
     let names = closed_files p is_read in
+    let all_files : files_of p.sources ≡ files p.sources = own_files p.sources (have_files p.sources no_clock) in
     let alike : Alike (selected p is_read left) (selected p is_read other) p.sources =
     all_alike (selected p is_read left) (selected p is_read other) p.sources
-    (λ name there. closed_alike names left other name (λ not_closed. same name (there, not_closed))) in (
-      lists_alike (timing_of p) (form_of (job_of p)) p.kinds (selected p is_read left) (selected p is_read other) [] p.sources alike,
-      sym (defects p is_read left)
+    (λ name there. closed_alike names left other name (λ not_closed.
+    same name (subst (λ all. Contains all name) (sym all_files) there, not_closed))) in (
+      lists_alone p (selected p is_read left) no_clock
+          ∙ lists_alike (timing_of p) (form_of (job_of p)) p.kinds (selected p is_read left) (selected p is_read other) [] p.sources alike
+          ∙ sym (lists_alone p (selected p is_read other) no_clock),
+      sym (defects p is_read left no_clock) ∙ rows_alone p (selected p is_read left) no_clock
           ∙ faults_alike (timing_of p) (form_of (job_of p)) p.kinds (selected p is_read left) (selected p is_read other) [] p.sources tt alike
-          ∙ defects p is_read other,
+          ∙ sym (rows_alone p (selected p is_read other) no_clock) ∙ defects p is_read other no_clock,
     )

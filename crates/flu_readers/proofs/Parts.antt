@@ -1,6 +1,6 @@
 -- Who reads the sources of some itags has all items of these itags; and where each itag is read by one whose sources have no defect, the lists
 -- of all sources are streams.
-use Rattle.std.proofs.Common.{◌≡◌, ◌<◌, ◌+◌, ℕ, zero, suc, Bool, true, List, [], ◌∷◌, length, inl, inr, refl, ap, sym, ◌∙◌, arith}
+use Rattle.std.proofs.Common.{◌≡◌, ◌<◌, ◌+◌, ℕ, zero, suc, Bool, true, false, List, [], ◌∷◌, length, inl, inr, refl, ap, sym, ◌∙◌, arith}
 use Rattle.std.specs.Prelude.{◌==◌, ◌&&◌, not, map, slice_index_or, if◌then◌else◌}
 use Rattle.std.specs.List.{list_any}
 use Rattle.std.proofs.lemmas.Bool.{cases_Bool, cases_lt, or_cases, or_left}
@@ -15,6 +15,7 @@ use Rattle.flu_model.specs.declared.plans.Node.{Node}
 use Rattle.flu_model.specs.Itags.{count_of_itags, source_of_itag}
 use Rattle.flu_model.specs.Merging.{events_of}
 use Rattle.flu_model.specs.Owners.{ancestors_own}
+use Rattle.flu_model.specs.Rules.{is_clock}
 use Rattle.flu_model.specs.Streaming.{is_stream_from, are_streams}
 use Rattle.flu_outside.specs.Outside.{Contents}
 use Rattle.flu_streams.specs.Good.{AreGood, lists_of}
@@ -33,40 +34,42 @@ source_listed p test i lt is =
     (both (test i) (s == s) is (same_number s))
 
 -- so its list is what all sources give for it
-same_list : LawOfLists → LawOfLength → (p : Program) (test : ℕ → Bool) (left : Contents) (i : ℕ) → test i ≡ true
+same_list : LawOfLists → LawOfLength → (p : Program) (test : ℕ → Bool) (left : Contents) (i : ℕ) → list_any is_clock p.sources ≡ false → test i ≡ true
     → slice_index_or (lists_of p (selected p (lists_one p test) left)) i [] ≡ slice_index_or (lists_of p left) i []
-same_list lists lengths p test left i is =
+same_list lists lengths p test left i no_clock is =
     let here : List (List Item) = lists_of p (selected p (lists_one p test) left) in
     let whole : List (List Item) = lists_of p left in
     let here_len : length here ≡ count_of_itags p = lengths p (selected p (lists_one p test) left) in
     let whole_len : length whole ≡ count_of_itags p = lengths p left in
     elim (cases_lt i (count_of_itags p)) [
-      | inl lt ↦ lists p (lists_one p test) left i lt ∙ ap (λ b. if b then slice_index_or whole i [] else End ∷ []) (source_listed p test i lt is)
+      | inl lt ↦ lists p (lists_one p test) left i no_clock lt ∙ ap (λ b. if b then slice_index_or whole i [] else End ∷ []) (source_listed p test i lt is)
       | inr past ↦ get_or_past here i [] (omega arith) ∙ sym (get_or_past whole i [] (omega arith))
     ]
 
-pub agree_on_read : LawOfLists → LawOfLength → (p : Program) (test : ℕ → Bool) (left : Contents)
+pub agree_on_read : LawOfLists → LawOfLength → (p : Program) (test : ℕ → Bool) (left : Contents) → list_any is_clock p.sources ≡ false
     → AgreeOn test (lists_of p left) (lists_of p (selected p (lists_one p test) left))
-agree_on_read lists lengths p test left = λ i is. ap events_of (same_list lists lengths p test left i is)
+agree_on_read lists lengths p test left no_clock = λ i is. ap events_of (same_list lists lengths p test left i no_clock is)
 
 -- the lists of sources that are read and have no defect
-pub read_streams : GoodSourcesGiveStreams → LawOfDefects → (p : Program) (is_read : ℕ → Bool) (left : Contents) → IsReadGood p is_read left
-    → are_streams 0 (lists_of p (selected p is_read left)) ≡ true
-read_streams streams defects p is_read left good = streams p (selected p is_read left) (defects p is_read left ∙ good)
+pub read_streams : GoodSourcesGiveStreams → LawOfDefects → (p : Program) (is_read : ℕ → Bool) (left : Contents) → list_any is_clock p.sources ≡ false
+    → IsReadGood p is_read left → are_streams 0 (lists_of p (selected p is_read left)) ≡ true
+read_streams streams defects p is_read left no_clock good = streams p (selected p is_read left) no_clock (defects p is_read left no_clock ∙ good)
 
 -- what each of the nodes has read
-pub each_reads : ANodeReadsItsPart → (p : Program) (nodes : List Node) (left : Contents) (ws : List ℕ) → EachReadsGood p nodes left ws
+pub each_reads : ANodeReadsItsPart → (p : Program) (nodes : List Node) (left : Contents) (ws : List ℕ) → list_any is_clock p.sources ≡ false
+    → EachReadsGood p nodes left ws
     → ArePartsFor p nodes (lists_of p left) ws (map (part_read p nodes left) ws)
-each_reads node p nodes left [] good = tt
-each_reads node p nodes left (w ∷ ws) good = (node p nodes w left good.0, each_reads node p nodes left ws good.1)
+each_reads node p nodes left [] no_clock good = tt
+each_reads node p nodes left (w ∷ ws) no_clock good = (node p nodes w left no_clock good.0, each_reads node p nodes left ws no_clock good.1)
 
 -- ---- sources without a defect
 pub good_where_read : LawOfDefects → GoodStayGood → GoodWhereRead
-good_where_read defects stay p is_read left good = sym (defects p is_read left) ∙ stay p is_read left good
+good_where_read defects stay p is_read left no_clock good = sym (defects p is_read left no_clock) ∙ stay p is_read left no_clock good
 
-pub each_good : GoodWhereRead → (p : Program) (nodes : List Node) (left : Contents) → AreGood p left → (ws : List ℕ) → EachReadsGood p nodes left ws
-each_good all p nodes left good [] = tt
-each_good all p nodes left good (w ∷ ws) = (all p (reads p nodes w) left good, each_good all p nodes left good ws)
+pub each_good : GoodWhereRead → (p : Program) (nodes : List Node) (left : Contents) → list_any is_clock p.sources ≡ false → AreGood p left → (ws : List ℕ)
+    → EachReadsGood p nodes left ws
+each_good all p nodes left no_clock good [] = tt
+each_good all p nodes left no_clock good (w ∷ ws) = (all p (reads p nodes w) left no_clock good, each_good all p nodes left no_clock good ws)
 
 -- ---- the lists of all sources, by their places
 stream_at : (from : ℕ) (lists : List (List Item)) (i : ℕ) → are_streams from lists ≡ true → i < length lists
@@ -89,7 +92,8 @@ streams_by_place from (items ∷ lists) each =
     (streams_by_place (from + 1) lists (λ i lt. let there : from + 1 + i ≡ from + suc i = omega arith in
     ap (λ n. is_stream_from n 0 (slice_index_or lists i [])) there ∙ each (suc i) (omega arith)))
 
-module _ (streams : GoodSourcesGiveStreams) (defects : LawOfDefects) (lists : LawOfLists) (lengths : LawOfLength) (p : Program) (left : Contents) where
+module _ (streams : GoodSourcesGiveStreams) (defects : LawOfDefects) (lists : LawOfLists) (lengths : LawOfLength) (p : Program) (left : Contents)
+    (no_clock : list_any is_clock p.sources ≡ false) where
   -- the list of an itag whose source is read, where the sources that are read have no defect
   stream_read : (test : ℕ → Bool) (i : ℕ) → i < count_of_itags p → test i ≡ true → IsReadGood p (lists_one p test) left
       → is_stream_from i 0 (slice_index_or (lists_of p left) i []) ≡ true
@@ -97,8 +101,8 @@ module _ (streams : GoodSourcesGiveStreams) (defects : LawOfDefects) (lists : La
       let part : List (List Item) = lists_of p (selected p (lists_one p test) left) in
       let many : length part ≡ count_of_itags p = lengths p (selected p (lists_one p test) left) in
       let place : i ≡ 0 + i = omega arith in
-      sym (ap (is_stream_from i 0) (same_list lists lengths p test left i is)) ∙ ap (λ n. is_stream_from n 0 (slice_index_or part i [])) place
-      ∙ stream_at 0 part i (read_streams streams defects p (lists_one p test) left good) (omega arith)
+      sym (ap (is_stream_from i 0) (same_list lists lengths p test left i no_clock is)) ∙ ap (λ n. is_stream_from n 0 (slice_index_or part i [])) place
+      ∙ stream_at 0 part i (read_streams streams defects p (lists_one p test) left no_clock good) (omega arith)
 
   -- of an itag that is inside one of the nodes
   one_reads : (nodes : List Node) (i : ℕ) → i < count_of_itags p → (ws : List ℕ) → EachReadsGood p nodes left ws

@@ -1,11 +1,12 @@
 -- The lists of good sources are streams.
 use Rattle.std.proofs.Common.{◌≡◌, ◌<◌, ◌≤◌, ◌+◌, length-append, ℕ, zero, suc, Bool, true, false, List, [], ◌∷◌, ◌++◌, length, map, None, refl, ap, ◌∙◌, arith}
 use Rattle.std.specs.Prelude.{◌==◌, ◌&&◌, nat_le, unwrap_or, option_map, sum_by}
-use Rattle.std.specs.List.{filter_map, flat_map, range_with_len}
+use Rattle.std.specs.List.{filter_map, flat_map, list_any, range_with_len}
 use Rattle.std.proofs.lemmas.List.FromFn.{length-map-range_with_len}
 use Rattle.std.proofs.lemmas.List.Sums.{sum_by-append}
 use Rattle.flu_model.specs.Erasure.{job_of}
 use Rattle.flu_model.specs.Moments.{timing_of, IsTiming}
+use Rattle.flu_model.specs.Rules.{is_clock}
 use Rattle.flu_lemmas.proofs.Numbers.{same_number}
 use Rattle.flu_lemmas.proofs.Tests.{and_left, and_right, both, le_true}
 use Rattle.flu_model.specs.declared.events.Item.{Item}
@@ -16,17 +17,17 @@ use Rattle.flu_model.specs.declared.jobs.Program.{Program}
 use Rattle.flu_model.specs.declared.moments.Timing.{Timing}
 use Rattle.flu_model.specs.Streaming.{is_stream_from, are_streams}
 use Rattle.flu_outside.specs.Outside.{Contents}
-use Rattle.flu_outside.specs.Taking.{bytes_left}
 use Rattle.flu_rows.specs.declared.row.Row.{Row}
 use Rattle.flu_rows.specs.declared.row.Row.TheVariants.{Event, Beat, End}
 use Rattle.flu_rows.specs.declared.row.RowForm.{RowForm}
-use Rattle.flu_rows.specs.Reading.{read_file}
 use Rattle.flu_rows.specs.Row.{form_of}
 use Rattle.flu_streams.specs.Before.{with_before, first_some}
-use Rattle.flu_streams.specs.Good.{rows_in, items_held, fault_of_source, AreGood, item_in, at_moments, in_time_order, items_at, lists_of_rows, lists_of}
+use Rattle.flu_streams.specs.Good.{lines_in, rows_in, items_held, fault_of_source, fault_of_rows, fault_of_clocks, AreGood, item_in, at_moments}
+use Rattle.flu_streams.specs.Good.{in_time_order, items_at, lists_of_rows, lists_of}
 use Rattle.flu_streams.specs.Tags.{place_named, width}
-use Rattle.flu_streams.specs.Tests.{first_defect}
+use Rattle.flu_streams.specs.Tests.{first_of}
 use Rattle.flu_streams.proofs.Moments.{timing_fits}
+use Rattle.flu_selected.proofs.NoClocks.{lists_alone}
 use Rattle.flu_readers.proofs.Rising.{Rise, rise_lower, no_first, no_mapped, good_rows_rise}
 
 -- ---- the list of one itag
@@ -85,7 +86,7 @@ streams_from timing most fits form kinds left before [] few none = refl
 streams_from timing most fits form kinds left before (s ∷ sources) few none =
     let own = timing (length before) in
     let parts = no_first (fault_of_source timing form kinds left before s) _ none in
-    let defect = no_mapped _ (first_defect own form kinds s (items_held form left before) (bytes_left left s.file)) parts.0 in
+    let defect = no_mapped _ (first_of own kinds s (items_held form left before) (lines_in form left s)) parts.0 in
     let first = sum_by width before in
     let rows = rows_in form left s in
     let here : List (List Item) = lists_of_rows own kinds s first rows in
@@ -98,9 +99,11 @@ streams_from timing most fits form kinds left before (s ∷ sources) few none =
     let fewer : length (before ++ s ∷ []) + length sources ≤ most = omega arith in
     streams_append first here back
     (streams_of_source own kinds s first rows
-    (good_rows_rise own (fits (length before) (omega arith)) kinds s (items_held form left before) (read_file form (bytes_left left s.file)) defect))
+    (good_rows_rise own (fits (length before) (omega arith)) kinds s (items_held form left before) (lines_in form left s) defect))
     (ap (λ i. are_streams i back) number ∙ streams_from timing most fits form kinds left (before ++ s ∷ []) sources fewer parts.1)
 
-pub good_streams : (p : Program) (left : Contents) → AreGood p left → are_streams 0 (lists_of p left) ≡ true
-good_streams p left good =
-    streams_from (timing_of p) (length p.sources) (timing_fits p) (form_of (job_of p)) p.kinds left [] p.sources (omega arith) good
+pub good_streams : (p : Program) (left : Contents) → list_any is_clock p.sources ≡ false → AreGood p left → are_streams 0 (lists_of p left) ≡ true
+good_streams p left no_clock good =
+    ap (are_streams 0) (lists_alone p left no_clock)
+    ∙ streams_from (timing_of p) (length p.sources) (timing_fits p) (form_of (job_of p)) p.kinds left [] p.sources (omega arith)
+    (no_first (fault_of_rows p left) (fault_of_clocks p left) good).0

@@ -1,4 +1,4 @@
-//! Laws of what is read where nodes of a plan are apart. Each law is the contract of a function that does nothing.
+//! Laws of what is read where nodes of a plan are apart, of jobs without clocks. Each law is the contract of a function that does nothing.
 
 ghost use Rattle.flu_readers.specs.Laws.{FilesThatAreReadMatter, GoodSourcesGiveStreams, GoodWhereRead, GoodPartsGiveStreams, ANodeReadsItsPart, TheRestIsRead};
 ghost use Rattle.flu_readers.specs.Laws.{SelectedPartsGiveTheReport, GoodSourcesGiveTheReport};

@@ -34,7 +34,7 @@ tick 0
 mark 1";
 
 /// A row after all others, which prints all cells.
-const LAST: &str = "999,done\n";
+const LAST: &str = "299,done\n";
 
 /// Items below the size of a table, above it, and the greatest one.
 const ITEMS: &str = "0
@@ -59,7 +59,7 @@ const VALUES: &str = "0
 -9223372036854775808";
 
 /// How many jobs are drawn.
-const SEEDS: u32 = 40;
+const SEEDS: u32 = 50;
 
 fn draw_input(alloc: Global, seed: u32) -> Result<Drawn, Fail>
     requires { seed < 2 ^ 31 }

@@ -102,6 +102,12 @@ emit "{key} {s[key]} {l[item]}"
 flush s "{value}: {key} {cell} {l}""#,
 ];
 
+/// The periods of clocks: between most rows, at some of them, and behind all of them alone.
+const PERIODS: &str = "3
+20
+100
+400";
+
 /// A piece of a table that a kind may have.
 fn piece(draws: &mut Draws, table: &[&'static str; 4], kind: u32) -> &'static str {
     let class = draws.below(kind.saturating_add(1));
@@ -139,7 +145,16 @@ fn name_of(kind: u32) -> &'static str {
     KINDS.get(kind as usize).map_or("", |name| *name)
 }
 
-/// A job with drawn actions, whose sources have these slacks.
+/// The line of a clock whose ticks have this tag, or none.
+fn clock(alloc: Global, draws: &mut Draws, name: &str, tag: &str) -> Result<String, AllocError> {
+    if draws.below(3) == 0 {
+        return Ok(String::new(alloc));
+    }
+    let every = draws.line(PERIODS);
+    format!(in alloc; "clock {name} every {every}: {tag}\n")
+}
+
+/// A job with drawn actions, whose sources have these slacks, with clocks in front of them and behind them.
 pub fn drawn_job(alloc: Global, draws: &mut Draws, slacks: [u32; 3]) -> Result<String, AllocError> {
     let [a, b, c] = slacks;
     let mut job = String::from_str(alloc, draws.line(VERSIONS))?;
@@ -147,12 +162,14 @@ pub fn drawn_job(alloc: Global, draws: &mut Draws, slacks: [u32; 3]) -> Result<S
     for kind in 0..4 {
         job.push_str(&actions(alloc, draws, kind)?)?;
     }
+    job.push_str(&clock(alloc, draws, "early", "tick")?)?;
     write!(job, "source a \"a\" rate 100 slack {a}: hit, trip[0..1]\n")?;
     write!(
         job,
         "source b \"b\" rate 100 slack {b}: hit, trip[1..2], mark\n"
     )?;
     write!(job, "source c \"c\" rate 1 slack {c}: tick, mark, done\n")?;
+    job.push_str(&clock(alloc, draws, "late", "done")?)?;
     Ok(job)
 }
 

@@ -23,7 +23,7 @@ use std::test::Fail;
 use std::thread::Threads;
 
 /// More bytes than any run of these tests writes.
-const ROOM: usize = 65_536;
+const ROOM: usize = 1_048_576;
 
 /// What a run of the sources is to write: the report of the fold of all rows, and that the last round closed.
 pub fn whole(alloc: Global, input: Input) -> Result<MemSink, Fail> {

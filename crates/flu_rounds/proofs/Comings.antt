@@ -173,7 +173,7 @@ law_of_next_text law none border opening p rows start left left' old written end
 -- a source that is closed in a round has no defect in all of its lines
 sound_at : (p : Program) (rows : ℕ) (above : Option ℕ) (whole before now : ℕ → List Next) → IsRound p rows above whole before now Closed → AreSound p whole
 sound_at p rows above whole before now round i s is =
-    let shut = round i s is in
+    let shut = round.each i s is in
     ap (defect_in (timing_of p i) p.kinds s) shut.stops.0 ∙ shut.sound
 
 -- the rows of the last round and those before it are all rows above the border

@@ -11,13 +11,12 @@ use Rattle.flu_model.specs.Contents.{Contents, nothing_held}
 use Rattle.flu_model.specs.Folding.{final_outputs}
 use Rattle.flu_model.specs.Reports.{report}
 use Rattle.flu_outside.specs.Outside.{Contents as Files}
-use Rattle.flu_outside.specs.Taking.{bytes_left}
 use Rattle.flu_rows.specs.declared.rows.Next.{Next}
 use Rattle.flu_rows.specs.Row.{form_of}
-use Rattle.flu_rows.specs.Reading.{read_file}
 use Rattle.flu_streams.specs.declared.border.Border.{Border}
 use Rattle.flu_streams.specs.declared.border.Border.TheVariants.{At}
 use Rattle.flu_streams.specs.Borders.{beyond}
+use Rattle.flu_streams.specs.Good.{lines_in as lines_of_source}
 use Rattle.flu_streams.specs.Rounds.{ComesFrom, IsRound, defect_in, lists_between}
 
 -- ---- lines and texts
@@ -26,9 +25,9 @@ abbrev pub lists_above : Program → Option ℕ → List (List Item) → List (L
 lists_above p None lists = lists
 lists_above p (Some t) lists = beyond p t lists
 
--- the lines of the file of each source, by the source's number
+-- the lines of each source, by its number: those of its file; a clock has none
 abbrev pub lines_in : Program → Files → ℕ → List Next
-lines_in p left i = option_map_or (λ (s : Source). read_file (form_of (job_of p)) (bytes_left left s.file)) (slice_get p.sources i) []
+lines_in p left i = option_map_or (lines_of_source (form_of (job_of p)) left) (slice_get p.sources i) []
 
 -- the report of the fold, from a state, of the rows above a border, if there is one, and up to an end among these lines
 abbrev pub text_from : Program → Option ℕ → Contents → Border → (ℕ → List Next) → List ℕ

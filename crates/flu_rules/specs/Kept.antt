@@ -8,7 +8,7 @@ use Rattle.flu_model.specs.Listing.{itags_of_sources}
 use Rattle.flu_model.specs.Numberings.{Numbering}
 use Rattle.flu_model.specs.ListRules.{are_lists, fit_lists}
 use Rattle.flu_model.specs.Texts.{Unit}
-use Rattle.flu_model.specs.Versions.{fit_version, ties_fit, iso_fits}
+use Rattle.flu_model.specs.Versions.{fit_version, ties_fit, iso_fits, clocks_fit}
 use Rattle.flu_model.specs.Rules.{is_version, are_families, are_kinds, are_depends, are_sources, have_own_names, have_own_files}
 
 pub record KeepsRules (version ties : ℕ) (iso : Option Unit) (lists : List Numbering) (families : List Family) (kinds : List Kind) (depends : List Depend)
@@ -29,5 +29,6 @@ pub record KeepsRules (version ties : ℕ) (iso : Option Unit) (lists : List Num
   pub lists_fit : IsTrue (fit_lists version lists families kinds)
   pub depends_fit : IsTrue (are_depends kinds depends)
   pub sources_fit : IsTrue (are_sources kinds sources)
+  pub clocks_fit : IsTrue (clocks_fit version sources)
   pub own_names : IsTrue (have_own_names lists families kinds sources)
   pub own_files : IsTrue (have_own_files sources)

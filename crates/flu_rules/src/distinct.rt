@@ -1,8 +1,8 @@
 //! Names and files that are to differ from each other.
 
-ghost use Rattle.std.specs.Prelude.{◌≡◌, []};
-ghost use Rattle.std.specs.List.{list_any};
-ghost use Rattle.flu_model.specs.Rules.{is_same_text, have_own_names, have_own_files};
+ghost use Rattle.std.specs.Prelude.{◌≡◌, [], not, ◌&&◌};
+ghost use Rattle.std.specs.List.{list_any, filter_map};
+ghost use Rattle.flu_model.specs.Rules.{is_same_text, have_own_names, have_own_files, is_clock, file_of_source};
 ghost use Rattle.flu_rules.specs.Names.{names_of};
 
 use flu_model::{Family, Kind, NameList, Source};
@@ -80,12 +80,12 @@ fn is_declared(
         || names_list(lists, name)
 }
 
-/// Whether no two sources have one file.
+/// Whether no two sources have one file. Clocks have none.
 pub fn have_own_files(sources: &[Source]) -> bool
     ensures { result ≡ have_own_files sources.now }
 {
     for (index, source) in sources.iter().enumerate() {
-        if reads_file(&sources[index + 1..], source.file.as_str()) {
+        if source.every.is_none() && reads_file(&sources[index + 1..], source.file.as_str()) {
             return false;
         }
     }
@@ -116,8 +116,15 @@ fn names_list(lists: &[NameList], name: &str) -> bool
     lists.iter().any(|list| name == list.name())
 }
 
-fn reads_file(sources: &[Source], file: &str) -> bool
-    ensures { result ≡ list_any (λ source. is_same_text file.now source.file) sources.now }
+/// Whether one of the sources reads this file. Clocks read none.
+pub fn reads_file(sources: &[Source], file: &str) -> bool
+    ensures { result ≡ list_any (is_same_text file.now) (filter_map file_of_source sources.now) }
 {
-    sources.iter().any(|source| file == source.file.as_str())
+    any_reads(sources, file)
+}
+
+fn any_reads(sources: &[Source], file: &str) -> bool
+    ensures { result ≡ list_any (λ source. not (is_clock source) && is_same_text file.now source.file) sources.now }
+{
+    sources.iter().any(|source| source.every.is_none() && file == source.file.as_str())
 }

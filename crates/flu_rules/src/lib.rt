@@ -18,10 +18,12 @@ mod templates;
 mod versions;
 
 use crate::actions::kind_fits;
+pub use crate::distinct::reads_file;
 use crate::distinct::{have_own_files, have_own_names};
 pub use crate::lists::is_listed_text;
 use crate::lists::{are_lists, fit_lists};
-use crate::sources::{depend_fits, source_fits};
+pub use crate::sources::is_tick_kind;
+use crate::sources::{clocks_fit, depend_fits, source_fits};
 use crate::tags::has_few_itags;
 pub use crate::versions::fit_version;
 use flu_model::{Depend, Family, Kind, List, NameList, Program, Source, Unit};
@@ -45,7 +47,7 @@ pub fn tags_meet_by_their_ends()
 
 /// The job of this version with these parts, if they keep the rules of the language (`docs/LANGUAGE.md`); none if they
 /// break one. Its sources may have up to `ties` rows at one time, from 1 to 2,147,483,648, and only in version 3 more than 1. With a unit,
-/// `iso`, its times are text too; only version 3 has this.
+/// `iso`, its times are text too; only version 3 has this, and only version 3 has clocks.
 ///
 /// The parts may be any, so what the lists hold need not have been looked at before. It takes no memory: ranges of keys
 /// are not written out, and expressions are looked at no deeper than they may be high.
@@ -120,6 +122,7 @@ fn keep_rules(
         && fit_lists(version, lists, families, kinds)
         && are_depends(kinds, depends)
         && are_sources(kinds, sources)
+        && clocks_fit(version, sources)
         && have_own_names(lists, families, kinds, sources)
         && have_own_files(sources)
 }

@@ -2,14 +2,17 @@
 use Rattle.std.proofs.Common.{◌≡◌, ℕ, ◌+◌, ◌≤◌, ◌∙◌, refl, sym, ap, subst, Bool, true, false, not, List, [], ◌∷◌, ◌++◌, length, append_assoc, arith}
 use Rattle.std.proofs.Common.{Option, Some, None}
 use Rattle.std.specs.Prelude.{sum_by, if◌then◌else◌, unwrap_or, option_map, nat_lt}
+use Rattle.std.specs.List.{list_any}
 use Rattle.std.proofs.lemmas.Bool.Decides.{nat_tests}
 use Rattle.std.proofs.lemmas.List.Elements.{filter_map-append}
 use Rattle.std.proofs.lemmas.List.{append-nil}
 use Rattle.std.proofs.lemmas.List.Sums.{sum_by-append}
 use Rattle.flu_model.specs.Erasure.{job_of}
 use Rattle.flu_model.specs.Moments.{timing_of}
+use Rattle.flu_model.specs.Rules.{is_clock}
 use Rattle.flu_model.specs.declared.jobs.Kind.{Kind}
 use Rattle.flu_model.specs.declared.jobs.Source.{Source}
+use Rattle.flu_model.specs.declared.jobs.Program.{Program}
 use Rattle.flu_model.specs.declared.moments.Timing.{Timing}
 use Rattle.flu_outside.specs.Outside.{Contents}
 use Rattle.flu_outside.specs.Taking.{bytes_left}
@@ -17,20 +20,21 @@ use Rattle.flu_rows.specs.declared.row.RowForm.{RowForm}
 use Rattle.flu_rows.specs.declared.row.Row.{Row}
 use Rattle.flu_rows.specs.declared.rows.Next.{Next}
 use Rattle.flu_rows.specs.declared.rows.Next.TheVariants.{Row as RowNext, Bad, TooManyLines, Done}
-use Rattle.flu_rows.specs.Reading.{read_file}
 use Rattle.flu_rows.specs.Row.{form_of}
 use Rattle.flu_streams.specs.declared.faults.SourceFault.{SourceFault}
 use Rattle.flu_streams.specs.declared.faults.Why.{Why}
 use Rattle.flu_streams.specs.declared.faults.Why.TheVariants.{AfterEnd, TooMany}
 use Rattle.flu_streams.specs.Before.{with_before, each_with_before, or_else, first_some}
-use Rattle.flu_streams.specs.Good.{rows_in, items_held, fault_of_source}
+use Rattle.flu_streams.specs.Clocks.{ranks_among}
+use Rattle.flu_streams.specs.Good.{lines_in, rows_in, items_held, fault_of_source, fault_of_rows, fault_of_clocks, first_fault}
 use Rattle.flu_streams.specs.Tags.{width}
 use Rattle.flu_streams.specs.Tests.{rows_of, row_in, has_ended, times_of, items_in, items_of, where_true, test_range, test_tag, test_fields, test_item}
 use Rattle.flu_streams.specs.Tests.{test_time, test_items, fault_of, defect_of, first_of, first_defect}
 use Rattle.flu_selected.proofs.Ends.{end_read}
 use Rattle.flu_selected.proofs.Lists.{open_left, closed_left, open_rows, closed_rows}
 use Rattle.flu_selected.proofs.Names.{ClosesOthers, closes_others}
-use Rattle.flu_selected.specs.Laws.{LawOfDefects, GoodStayGood, closed_files, read_items_in, read_items, read_fault}
+use Rattle.flu_selected.proofs.NoClocks.{HaveFiles, have_files, lines_of_file, no_fault_among}
+use Rattle.flu_selected.specs.Laws.{LawOfDefects, GoodStayGood, closed_files, selected, read_items_in, read_items, read_fault}
 use Rattle.flu_selected.specs.Selecting.{is_among, closed_at, end_line}
 
 -- ---- what is not there
@@ -154,8 +158,8 @@ lines_still timing kinds s fewer held done (next ∷ rest) le none =
 -- ---- a source
 -- the items of a source without a defect are few, with those that are held
 source_few : (timing : Timing) (form : RowForm) (kinds : List Kind) (left : Contents) (s : Source) (held : ℕ) → held ≤ 16777216
-    → first_defect timing form kinds s held (bytes_left left s.file) ≡ None → held + items_of (width s) (rows_in form left s) ≤ 16777216
-source_few timing form kinds left s held few none = lines_few timing kinds s held [] (read_file form (bytes_left left s.file)) (omega (arith, few)) none
+    → first_of timing kinds s held (lines_in form left s) ≡ None → held + items_of (width s) (rows_in form left s) ≤ 16777216
+source_few timing form kinds left s held few none = lines_few timing kinds s held [] (lines_in form left s) (omega (arith, few)) none
 
 -- a source without a row has no defect
 closed_sound : (timing : Timing) (form : RowForm) (kinds : List Kind) (s : Source) (held : ℕ) → held ≤ 16777216
@@ -192,26 +196,30 @@ fault_at number defect = option_map (λ d. record { source = number; row = d.0; 
 
 fault_by : (timing : ℕ → Timing) (form : RowForm) (kinds : List Kind) (is_read : ℕ → Bool) (names : List (List ℕ)) (left : Contents) (before : List Source)
     (s : Source) (b : Bool)
-    → is_among names s.file ≡ not b → items_held form (closed_at names left) before ≡ read_items form is_read left before
+    → is_clock s ≡ false → is_among names s.file ≡ not b → items_held form (closed_at names left) before ≡ read_items form is_read left before
     → items_held form (closed_at names left) before ≤ 16777216
     → fault_of_source timing form kinds (closed_at names left) before s
     ≡ (if b
     then fault_at (length before) (first_defect (timing (length before)) form kinds s (read_items form is_read left before) (bytes_left left s.file))
     else None)
-fault_by timing form kinds is_read names left before s true is same few =
-    ap (λ held. fault_at (length before) (first_defect (timing (length before)) form kinds s held (bytes_left (closed_at names left) s.file))) same
+fault_by timing form kinds is_read names left before s true file is same few =
+    ap (λ lines. fault_at (length before) (first_of (timing (length before)) kinds s (items_held form (closed_at names left) before) lines))
+    (lines_of_file form (closed_at names left) s file)
+    ∙ ap (λ held. fault_at (length before) (first_defect (timing (length before)) form kinds s held (bytes_left (closed_at names left) s.file))) same
     ∙ ap (λ bytes. fault_at (length before) (first_defect (timing (length before)) form kinds s (read_items form is_read left before) (unwrap_or bytes [])))
     (open_left names left s.file is)
-fault_by timing form kinds is_read names left before s false is same few =
-    ap (λ bytes. fault_at (length before) (first_defect (timing (length before)) form kinds s (items_held form (closed_at names left) before)
+fault_by timing form kinds is_read names left before s false file is same few =
+    ap (λ lines. fault_at (length before) (first_of (timing (length before)) kinds s (items_held form (closed_at names left) before) lines))
+    (lines_of_file form (closed_at names left) s file)
+    ∙ ap (λ bytes. fault_at (length before) (first_defect (timing (length before)) form kinds s (items_held form (closed_at names left) before)
     (unwrap_or bytes [])))
     (closed_left names left s.file is)
     ∙ ap (fault_at (length before)) (closed_sound (timing (length before)) form kinds s (items_held form (closed_at names left) before) few)
 
-items_by : (form : RowForm) (names : List (List ℕ)) (left : Contents) (s : Source) (b : Bool) → is_among names s.file ≡ not b
+items_by : (form : RowForm) (names : List (List ℕ)) (left : Contents) (s : Source) (b : Bool) → is_clock s ≡ false → is_among names s.file ≡ not b
     → items_of (width s) (rows_in form (closed_at names left) s) ≡ (if b then items_of (width s) (rows_in form left s) else 0)
-items_by form names left s true is = ap (items_of (width s)) (open_rows form names left s is)
-items_by form names left s false is = ap (items_of (width s)) (closed_rows form names left s is)
+items_by form names left s true file is = ap (items_of (width s)) (open_rows form names left s is)
+items_by form names left s false file is = ap (items_of (width s)) (closed_rows form names left s file is)
 
 -- ---- all sources
 behind_same : {X : Type 0} (o a b : Option X) → (o ≡ None → a ≡ b) → or_else o a ≡ or_else o b
@@ -220,18 +228,19 @@ behind_same (Some x) a b same = refl
 
 faults_same : (timing : ℕ → Timing) (form : RowForm) (kinds : List Kind) (is_read : ℕ → Bool) (names : List (List ℕ)) (left : Contents)
     (before sources : List Source)
-    → ClosesOthers is_read names (with_before before sources) → items_held form (closed_at names left) before ≡ read_items form is_read left before
+    → HaveFiles sources → ClosesOthers is_read names (with_before before sources)
+    → items_held form (closed_at names left) before ≡ read_items form is_read left before
     → items_held form (closed_at names left) before ≤ 16777216
     → first_some (λ e. fault_of_source timing form kinds (closed_at names left) e.0 e.1) (with_before before sources)
     ≡ first_some (λ e. read_fault timing form kinds is_read left e.0 e.1) (with_before before sources)
-faults_same timing form kinds is_read names left before [] closes same few = refl
-faults_same timing form kinds is_read names left before (s ∷ rest) closes same few =
+faults_same timing form kinds is_read names left before [] files closes same few = refl
+faults_same timing form kinds is_read names left before (s ∷ rest) files closes same few =
     let now = closed_at names left in
     let held = items_held form now before in
     let here : fault_of_source timing form kinds now before s ≡ read_fault timing form kinds is_read left before s =
-    fault_by timing form kinds is_read names left before s (is_read (length before)) closes.0 same few in
+    fault_by timing form kinds is_read names left before s (is_read (length before)) files.0 closes.0 same few in
     let items : items_of (width s) (rows_in form now s) ≡ read_items_in form is_read left (before, s) =
-    items_by form names left s (is_read (length before)) closes.0 in
+    items_by form names left s (is_read (length before)) files.0 closes.0 in
     let all_now : Option SourceFault =
     first_some (λ (e : List Source × Source). fault_of_source timing form kinds now e.0 e.1) (with_before (before ++ s ∷ []) rest) in
     let all_read : Option SourceFault =
@@ -240,17 +249,46 @@ faults_same timing form kinds is_read names left before (s ∷ rest) closes same
     held_push form now before s ∙ ap (λ n. n + items_of (width s) (rows_in form now s)) same ∙ ap (λ n. read_items form is_read left before + n) items
     ∙ sym (read_push form is_read left before s) in
     let later : read_fault timing form kinds is_read left before s ≡ None → all_now ≡ all_read = λ none.
-    let sound : first_defect (timing (length before)) form kinds s held (bytes_left now s.file) ≡ None =
+    let sound : first_of (timing (length before)) kinds s held (lines_in form now s) ≡ None =
     no_mapped (λ (d : ℕ × Why). record { source = length before; row = d.0; why = d.1 })
-    (first_defect (timing (length before)) form kinds s held (bytes_left now s.file)) (here ∙ none) in
+    (first_of (timing (length before)) kinds s held (lines_in form now s)) (here ∙ none) in
     let few_now : items_held form now (before ++ s ∷ []) ≤ 16777216 =
     omega (arith, held_push form now before s, source_few (timing (length before)) form kinds now s held few sound) in
-    faults_same timing form kinds is_read names left (before ++ s ∷ []) rest closes.1 same_now few_now in
+    faults_same timing form kinds is_read names left (before ++ s ∷ []) rest files.1 closes.1 same_now few_now in
     ap (λ fault. or_else fault all_now) here ∙ behind_same (read_fault timing form kinds is_read left before s) all_now all_read later
 
+-- ---- no clock adds a fault
+rows_few : (timing : ℕ → Timing) (form : RowForm) (kinds : List Kind) (left : Contents) (before sources : List Source) → items_held form left before ≤ 16777216
+    → first_some (λ e. fault_of_source timing form kinds left e.0 e.1) (with_before before sources) ≡ None
+    → items_held form left (before ++ sources) ≤ 16777216
+rows_few timing form kinds left before [] few none = rw append-nil few
+rows_few timing form kinds left before (s ∷ rest) few none =
+    let held = items_held form left before in
+    let both = no_first (fault_of_source timing form kinds left before s)
+    (first_some (λ (e : List Source × Source). fault_of_source timing form kinds left e.0 e.1) (with_before (before ++ s ∷ []) rest)) none in
+    let sound : first_of (timing (length before)) kinds s held (lines_in form left s) ≡ None =
+    no_mapped (λ (d : ℕ × Why). record { source = length before; row = d.0; why = d.1 })
+    (first_of (timing (length before)) kinds s held (lines_in form left s)) both.0 in
+    let few_now : items_held form left (before ++ s ∷ []) ≤ 16777216 =
+    omega (arith, held_push form left before s, source_few (timing (length before)) form kinds left s held few sound) in
+    subst (λ (all : List Source). items_held form left all ≤ 16777216) (append_assoc before (s ∷ []) rest)
+    (rows_few timing form kinds left (before ++ s ∷ []) rest few_now both.1)
+
+-- the first fault is that of rows, where no source is a clock
+pub rows_alone : (p : Program) (left : Contents) → list_any is_clock p.sources ≡ false → first_fault p left ≡ fault_of_rows p left
+rows_alone p left no_clock = by_fault (fault_of_rows p left) refl
+  where
+    by_fault : (o : Option SourceFault) → fault_of_rows p left ≡ o → or_else o (fault_of_clocks p left) ≡ o
+    by_fault None none =
+        no_fault_among p (ranks_among p (λ d. rows_in (form_of (job_of p)) left d.1)) (items_held (form_of (job_of p)) left p.sources)
+        (rows_few (timing_of p) (form_of (job_of p)) p.kinds left [] p.sources (omega arith) none) no_clock
+    by_fault (Some f) is = refl
+
 pub defects_law : LawOfDefects
-defects_law p is_read left =
-    faults_same (timing_of p) (form_of (job_of p)) p.kinds is_read (closed_files p is_read) left [] p.sources (closes_others p is_read) refl (omega arith)
+defects_law p is_read left no_clock =
+    rows_alone p (selected p is_read left) no_clock
+    ∙ faults_same (timing_of p) (form_of (job_of p)) p.kinds is_read (closed_files p is_read) left [] p.sources (have_files p.sources no_clock)
+    (closes_others p is_read no_clock) refl (omega arith)
 
 -- ---- where no source has a defect
 read_few : (form : RowForm) (left : Contents) (s : Source) (b : Bool)
@@ -263,26 +301,29 @@ none_by true number defect none = ap (fault_at number) none
 none_by false number defect none = refl
 
 read_sound : (timing : ℕ → Timing) (form : RowForm) (kinds : List Kind) (is_read : ℕ → Bool) (left : Contents) (before sources : List Source)
-    → read_items form is_read left before ≤ items_held form left before
+    → HaveFiles sources → read_items form is_read left before ≤ items_held form left before
     → first_some (λ e. fault_of_source timing form kinds left e.0 e.1) (with_before before sources) ≡ None
     → first_some (λ e. read_fault timing form kinds is_read left e.0 e.1) (with_before before sources) ≡ None
-read_sound timing form kinds is_read left before [] le none = refl
-read_sound timing form kinds is_read left before (s ∷ rest) le none =
-    let bytes = bytes_left left s.file in
+read_sound timing form kinds is_read left before [] files le none = refl
+read_sound timing form kinds is_read left before (s ∷ rest) files le none =
+    let lines = lines_in form left s in
     let both = no_first (fault_of_source timing form kinds left before s)
     (first_some (λ (e : List Source × Source). fault_of_source timing form kinds left e.0 e.1) (with_before (before ++ s ∷ []) rest)) none in
-    let sound : first_defect (timing (length before)) form kinds s (items_held form left before) bytes ≡ None =
+    let sound : first_of (timing (length before)) kinds s (items_held form left before) lines ≡ None =
     no_mapped (λ (d : ℕ × Why). record { source = length before; row = d.0; why = d.1 })
-    (first_defect (timing (length before)) form kinds s (items_held form left before) bytes) both.0 in
-    let still : first_defect (timing (length before)) form kinds s (read_items form is_read left before) bytes ≡ None =
-    lines_still (timing (length before)) kinds s (read_items form is_read left before) (items_held form left before) [] (read_file form bytes) le sound in
+    (first_of (timing (length before)) kinds s (items_held form left before) lines) both.0 in
+    let still : first_defect (timing (length before)) form kinds s (read_items form is_read left before) (bytes_left left s.file) ≡ None =
+    sym (ap (first_of (timing (length before)) kinds s (read_items form is_read left before)) (lines_of_file form left s files.0))
+    ∙ lines_still (timing (length before)) kinds s (read_items form is_read left before) (items_held form left before) [] lines le sound in
     let fewer : read_items_in form is_read left (before, s) ≤ items_of (width s) (rows_in form left s) = read_few form left s (is_read (length before)) in
     let le_now : read_items form is_read left (before ++ s ∷ []) ≤ items_held form left (before ++ s ∷ []) =
     omega (arith, read_push form is_read left before s, held_push form left before s, fewer, le) in
     rw (none_by (is_read (length before)) (length before)
-    (first_defect (timing (length before)) form kinds s (read_items form is_read left before) bytes) still)
-    (read_sound timing form kinds is_read left (before ++ s ∷ []) rest le_now both.1)
+    (first_defect (timing (length before)) form kinds s (read_items form is_read left before) (bytes_left left s.file)) still)
+    (read_sound timing form kinds is_read left (before ++ s ∷ []) rest files.1 le_now both.1)
 
 pub good_stay_good : GoodStayGood
-good_stay_good p is_read left good =
-    defects_law p is_read left ∙ read_sound (timing_of p) (form_of (job_of p)) p.kinds is_read left [] p.sources (omega arith) good
+good_stay_good p is_read left no_clock good =
+    defects_law p is_read left no_clock
+    ∙ read_sound (timing_of p) (form_of (job_of p)) p.kinds is_read left [] p.sources (have_files p.sources no_clock) (omega arith)
+    (sym (rows_alone p left no_clock) ∙ good)

@@ -1,7 +1,8 @@
 mod Ends
 mod Keeping
+pub mod NoClocks
 mod Names
 mod Lists
-mod Faults
+pub mod Faults
 mod ReadSources
 mod OneJob

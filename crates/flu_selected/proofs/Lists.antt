@@ -14,9 +14,11 @@ use Rattle.flu_model.specs.declared.events.Item.TheVariants.{End as EndItem}
 use Rattle.flu_model.specs.declared.events.Tag.{Tag}
 use Rattle.flu_model.specs.declared.jobs.Kind.{Kind}
 use Rattle.flu_model.specs.declared.jobs.Source.{Source}
+use Rattle.flu_model.specs.declared.jobs.Program.{Program}
 use Rattle.flu_model.specs.declared.moments.Timing.{Timing}
 use Rattle.flu_model.specs.Itags.{count_of_itags, source_of_itag}
 use Rattle.flu_model.specs.Moments.{timing_of}
+use Rattle.flu_model.specs.Rules.{is_clock}
 use Rattle.flu_model.specs.Streaming.{is_stream_from, are_streams}
 use Rattle.flu_model.specs.Listing.{tag, tags_of_source, itags_of_sources}
 use Rattle.flu_outside.specs.Outside.{Contents}
@@ -26,11 +28,13 @@ use Rattle.flu_rows.specs.declared.row.Row.TheVariants.{End}
 use Rattle.flu_rows.specs.Reading.{read_file}
 use Rattle.flu_rows.specs.Row.{form_of}
 use Rattle.flu_streams.specs.Before.{with_before}
-use Rattle.flu_streams.specs.Good.{rows_in, at_moments, items_at, lists_of_rows, lists_of}
+use Rattle.flu_streams.specs.Clocks.{Declared, items_of_ticks, lists_of_ticks}
+use Rattle.flu_streams.specs.Good.{rows_in, at_moments, items_at, lists_of_rows, lists_of_source, lists_of, ticks_in}
 use Rattle.flu_streams.specs.Tags.{width}
 use Rattle.flu_streams.specs.Tests.{rows_of}
 use Rattle.flu_selected.proofs.Ends.{end_read}
 use Rattle.flu_selected.proofs.Names.{ClosesOthers, closes_others}
+use Rattle.flu_selected.proofs.NoClocks.{HaveFiles, have_files, lines_of_file, lists_alone}
 use Rattle.flu_selected.specs.Laws.{LawOfLists, LawOfLength, StreamsStay, closed_files, selected}
 use Rattle.flu_selected.specs.Selecting.{is_among, closed_at, end_line}
 
@@ -44,12 +48,13 @@ closed_left names left name there = rw there refl
 
 pub open_rows : (form : RowForm) (names : List (List ℕ)) (left : Contents) (s : Source) → is_among names s.file ≡ false
     → rows_in form (closed_at names left) s ≡ rows_in form left s
-open_rows form names left s none = ap (λ bytes. rows_of (read_file form (unwrap_or bytes []))) (open_left names left s.file none)
+open_rows form names left s none = ap (λ bytes. rows_of (if is_clock s then [] else read_file form (unwrap_or bytes []))) (open_left names left s.file none)
 
-pub closed_rows : (form : RowForm) (names : List (List ℕ)) (left : Contents) (s : Source) → is_among names s.file ≡ true
+pub closed_rows : (form : RowForm) (names : List (List ℕ)) (left : Contents) (s : Source) → is_clock s ≡ false → is_among names s.file ≡ true
     → rows_in form (closed_at names left) s ≡ End ∷ []
-closed_rows form names left s there =
-    ap (λ bytes. rows_of (read_file form (unwrap_or bytes []))) (closed_left names left s.file there) ∙ ap rows_of (end_read form)
+closed_rows form names left s file there =
+    ap rows_of (lines_of_file form (closed_at names left) s file)
+    ∙ ap (λ bytes. rows_of (read_file form (unwrap_or bytes []))) (closed_left names left s.file there) ∙ ap rows_of (end_read form)
 
 -- ---- the lists of one source
 length_of_rows : (timing : Timing) (kinds : List Kind) (s : Source) (first : ℕ) (rows : List Row) → length (lists_of_rows timing kinds s first rows) ≡ width s
@@ -64,25 +69,32 @@ abbrev lists_from : (ℕ → Timing) → RowForm → List Kind → Contents → 
 lists_from timing form kinds left before sources =
     flat_map (λ e. lists_of_rows (timing (length e.0)) kinds e.1 (sum_by width e.0) (rows_in form left e.1)) (with_before before sources)
 
-length_from : (timing : ℕ → Timing) (form : RowForm) (kinds : List Kind) (left : Contents) (before sources : List Source) (n : ℕ)
-    → length (lists_from timing form kinds left before sources) ≡ length (itags_of_sources n sources)
-length_from timing form kinds left before [] n = refl
-length_from timing form kinds left before (s ∷ rest) n =
-    let here : List (List Item) = lists_of_rows (timing (length before)) kinds s (sum_by width before) (rows_in form left s) in
+length_of_source : (p : Program) (rows : List Row) (ticks : List ℕ) (e : Declared) → length (lists_of_source p rows ticks e) ≡ width e.1
+length_of_source p rows ticks e = by_clock (is_clock e.1)
+  where
+    by_clock : (b : Bool) → length (if b then lists_of_ticks (timing_of p (length e.0)) e.1 (sum_by width e.0) ticks
+        else lists_of_rows (timing_of p (length e.0)) p.kinds e.1 (sum_by width e.0) rows) ≡ width e.1
+    by_clock true = length-map-range_with_len (λ place. items_of_ticks (timing_of p (length e.0)) (sum_by width e.0 + place) ticks) 0 (width e.1)
+    by_clock false = length_of_rows (timing_of p (length e.0)) p.kinds e.1 (sum_by width e.0) rows
+
+-- clocks have their lists too
+length_from : (p : Program) (rows : Declared → List Row) (ticks : Declared → List ℕ) (before sources : List Source) (n : ℕ)
+    → length (flat_map (λ e. lists_of_source p (rows e) (ticks e) e) (with_before before sources)) ≡ length (itags_of_sources n sources)
+length_from p rows ticks before [] n = refl
+length_from p rows ticks before (s ∷ rest) n =
+    let here : List (List Item) = lists_of_source p (rows (before, s)) (ticks (before, s)) (before, s) in
+    let more : List (List Item) = flat_map (λ e. lists_of_source p (rows e) (ticks e) e) (with_before (before ++ s ∷ []) rest) in
     let mine : List (Tag × ℕ) = map (λ (t : Tag). (t, n)) (tags_of_source s) in
-    let lists_len : length (lists_from timing form kinds left before (s ∷ rest)) ≡ length here + length
-    (lists_from timing form kinds left (before ++ s ∷ []) rest) =
-    length-append here (lists_from timing form kinds left (before ++ s ∷ []) rest) in
+    let lists_len : length (here ++ more) ≡ length here + length more = length-append here more in
     let itags_len : length (itags_of_sources n (s ∷ rest)) ≡ length mine + length (itags_of_sources (n + 1) rest) =
     length-append mine (itags_of_sources (n + 1) rest) in
-    let here_len : length here ≡ width s = length_of_rows (timing (length before)) kinds s (sum_by width before) (rows_in form left s) in
+    let here_len : length here ≡ width s = length_of_source p (rows (before, s)) (ticks (before, s)) (before, s) in
     let mine_len : length mine ≡ width s = length-map (tags_of_source s) (λ (t : Tag). (t, n)) in
-    let later : length (lists_from timing form kinds left (before ++ s ∷ []) rest) ≡ length (itags_of_sources (n + 1) rest) =
-    length_from timing form kinds left (before ++ s ∷ []) rest (n + 1) in
+    let later : length more ≡ length (itags_of_sources (n + 1) rest) = length_from p rows ticks (before ++ s ∷ []) rest (n + 1) in
     omega arith
 
 pub length_law : LawOfLength
-length_law p left = length_from (timing_of p) (form_of (job_of p)) p.kinds left [] p.sources 0
+length_law p left = length_from p (λ e. rows_in (form_of (job_of p)) left e.1) (ticks_in p left) [] p.sources 0
 
 -- the list of an itag: what a read source gives, and else the end alone
 abbrev list_if : Bool → List Item → List Item
@@ -93,13 +105,14 @@ abbrev source_in : ℕ → List Source → ℕ → ℕ
 source_in n sources i = (get_or (itags_of_sources n sources) i (tag 0 0, 0)).1
 
 here_same : (timing : Timing) (form : RowForm) (kinds : List Kind) (names : List (List ℕ)) (left : Contents) (s : Source) (first i : ℕ) (b : Bool)
-    → is_among names s.file ≡ not b → i < width s
+    → is_clock s ≡ false → is_among names s.file ≡ not b → i < width s
     → get_or (lists_of_rows timing kinds s first (rows_in form (closed_at names left) s)) i []
     ≡ list_if b (get_or (lists_of_rows timing kinds s first (rows_in form left s)) i [])
-here_same timing form kinds names left s first i true is lt =
+here_same timing form kinds names left s first i true file is lt =
     ap (λ rows. get_or (lists_of_rows timing kinds s first rows) i []) (open_rows form names left s is)
-here_same timing form kinds names left s first i false is lt =
-    ap (λ rows. get_or (lists_of_rows timing kinds s first rows) i []) (closed_rows form names left s is) ∙ end_alone timing kinds s first i lt
+here_same timing form kinds names left s first i false file is lt =
+    ap (λ rows. get_or (lists_of_rows timing kinds s first rows) i []) (closed_rows form names left s file is)
+    ∙ end_alone timing kinds s first i lt
 
 mine_source : (tags : List Tag) (n i : ℕ) (rest : List (Tag × ℕ)) → i < length tags → (get_or (map (λ t. (t, n)) tags ++ rest) i (tag 0 0, 0)).1 ≡ n
 mine_source [] n i rest lt = absurd (omega arith)
@@ -108,11 +121,11 @@ mine_source (t ∷ tags) n (suc i) rest lt = mine_source tags n i rest (omega ar
 
 lists_same : (timing : ℕ → Timing) (form : RowForm) (kinds : List Kind) (is_read : ℕ → Bool) (names : List (List ℕ)) (left : Contents)
     (before sources : List Source) (i : ℕ)
-    → ClosesOthers is_read names (with_before before sources) → i < length (itags_of_sources (length before) sources)
+    → HaveFiles sources → ClosesOthers is_read names (with_before before sources) → i < length (itags_of_sources (length before) sources)
     → get_or (lists_from timing form kinds (closed_at names left) before sources) i []
     ≡ list_if (is_read (source_in (length before) sources i)) (get_or (lists_from timing form kinds left before sources) i [])
-lists_same timing form kinds is_read names left before [] i closes lt = absurd (omega arith)
-lists_same timing form kinds is_read names left before (s ∷ rest) i closes lt =
+lists_same timing form kinds is_read names left before [] i files closes lt = absurd (omega arith)
+lists_same timing form kinds is_read names left before (s ∷ rest) i files closes lt =
     let n = length before in
     let first = sum_by width before in
     let front : Contents → List (List Item) = λ x. lists_of_rows (timing n) kinds s first (rows_in form x s) in
@@ -127,7 +140,7 @@ lists_same timing form kinds is_read names left before (s ∷ rest) i closes lt 
       | inl inside ↦
           let left_now : i < length (front now) = omega (arith, front_len now) in
           let left_was : i < length (front left) = omega (arith, front_len left) in
-          get_or-append (front now) (back now) [] i left_now ∙ here_same (timing n) form kinds names left s first i (is_read n) closes.0 inside
+          get_or-append (front now) (back now) [] i left_now ∙ here_same (timing n) form kinds names left s first i (is_read n) files.0 closes.0 inside
           ∙ ap (λ items. list_if (is_read n) items) (sym (get_or-append (front left) (back left) [] i left_was))
           ∙ ap (λ number. list_if (is_read number) (get_or (lists_from timing form kinds left before (s ∷ rest)) i []))
           (sym (mine_source (tags_of_source s) n i (itags_of_sources (n + 1) rest) inside))
@@ -136,7 +149,7 @@ lists_same timing form kinds is_read names left before (s ∷ rest) i closes lt 
           let all : length (itags_of_sources n (s ∷ rest)) ≡ length mine + length (itags_of_sources (n + 1) rest) =
           length-append mine (itags_of_sources (n + 1) rest) in
           let more : i - width s < length (itags_of_sources (length (before ++ s ∷ [])) rest) = rw number (omega arith) in
-          let later = lists_same timing form kinds is_read names left (before ++ s ∷ []) rest (i - width s) closes.1 more in
+          let later = lists_same timing form kinds is_read names left (before ++ s ∷ []) rest (i - width s) files.1 closes.1 more in
           let there : get_or (itags_of_sources n (s ∷ rest)) i (tag 0 0, 0) ≡ get_or (itags_of_sources (n + 1) rest) (i - width s) (tag 0 0, 0) =
           get_or-append_right mine (itags_of_sources (n + 1) rest) (width s) i (tag 0 0, 0) mine_len past in
           get_or-append_right (front now) (back now) (width s) i [] (front_len now) past ∙ later
@@ -147,8 +160,11 @@ lists_same timing form kinds is_read names left before (s ∷ rest) i closes lt 
     ]
 
 pub lists_law : LawOfLists
-lists_law p is_read left itag lt =
-    lists_same (timing_of p) (form_of (job_of p)) p.kinds is_read (closed_files p is_read) left [] p.sources itag (closes_others p is_read) lt
+lists_law p is_read left itag no_clock lt =
+    ap (λ lists. get_or lists itag []) (lists_alone p (selected p is_read left) no_clock)
+    ∙ lists_same (timing_of p) (form_of (job_of p)) p.kinds is_read (closed_files p is_read) left [] p.sources itag (have_files p.sources no_clock)
+    (closes_others p is_read no_clock) lt
+    ∙ ap (λ lists. list_if (is_read (source_of_itag p (record { 0 = itag }))) (get_or lists itag [])) (sym (lists_alone p left no_clock))
 
 -- ---- streams
 streams_by_place : (from : ℕ) (lists others : List (List Item)) → length others ≡ length lists
@@ -175,11 +191,11 @@ stream_if true itag items is = is
 stream_if false itag items is = refl
 
 pub streams_stay : StreamsStay
-streams_stay p is_read left all =
+streams_stay p is_read left no_clock all =
     let now = selected p is_read left in
     let len : length (lists_of p left) ≡ count_of_itags p = length_law p left in
     let each : (i : ℕ) → i < length (lists_of p left) → is_stream_from (0 + i) 0 (get_or (lists_of p left) i []) ≡ true
     → is_stream_from (0 + i) 0 (get_or (lists_of p now) i []) ≡ true =
-    λ i lt is. ap (is_stream_from (0 + i) 0) (lists_law p is_read left i (omega arith))
+    λ i lt is. ap (is_stream_from (0 + i) 0) (lists_law p is_read left i no_clock (omega arith))
     ∙ stream_if (is_read (source_of_itag p (record { 0 = i }))) (0 + i) (get_or (lists_of p left) i []) is in
     streams_by_place 0 (lists_of p left) (lists_of p now) (length_law p now ∙ sym len) each all

@@ -11,8 +11,9 @@ use Rattle.flu_lemmas.proofs.Elements.{all_of_both}
 use Rattle.flu_lemmas.proofs.Tests.{and_left, and_right, not_true, false_if_not}
 use Rattle.flu_model.specs.declared.jobs.Source.{Source}
 use Rattle.flu_model.specs.declared.jobs.Program.{Program}
-use Rattle.flu_model.specs.Rules.{is_same_text, are_distinct}
+use Rattle.flu_model.specs.Rules.{is_same_text, are_distinct, is_clock}
 use Rattle.flu_streams.specs.Before.{with_before, each_with_before}
+use Rattle.flu_selected.proofs.NoClocks.{have_files, own_files}
 use Rattle.flu_selected.specs.Laws.{closed_file, closed_files}
 use Rattle.flu_selected.specs.Selecting.{is_among}
 
@@ -99,5 +100,8 @@ none_before : (sources : List Source) → AreApart [] sources
 none_before [] = tt
 none_before (s ∷ rest) = (refl, none_before rest)
 
-pub closes_others : (p : Program) (is_read : ℕ → Bool) → ClosesOthers is_read (closed_files p is_read) (each_with_before p.sources)
-closes_others p is_read = closes is_read [] [] p.sources (none_before p.sources) p.own_files
+pub closes_others : (p : Program) (is_read : ℕ → Bool) → list_any is_clock p.sources ≡ false
+    → ClosesOthers is_read (closed_files p is_read) (each_with_before p.sources)
+closes_others p is_read no_clock =
+    closes is_read [] [] p.sources (none_before p.sources)
+    (sym (ap (are_distinct is_same_text) (own_files p.sources (have_files p.sources no_clock))) ∙ p.own_files)

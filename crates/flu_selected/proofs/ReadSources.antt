@@ -3,7 +3,7 @@ use Rattle.std.proofs.Common.{◌≡◌, ℕ, ◌+◌, ◌<◌, ◌≤◌, ◌�
 use Rattle.std.proofs.Common.{Option, Some, None, Result, Ok, Err, inl, inr}
 use Rattle.std.specs.Prelude.{IsSome, is_some, OnOk, IfOk, IfErr, if◌then◌else◌}
 use Rattle.std.specs.Option.{option_or}
-use Rattle.std.specs.List.{filter_map, cons_option, Contains}
+use Rattle.std.specs.List.{filter_map, list_any, cons_option, Contains}
 use Rattle.std.proofs.lemmas.Bool.{cases_Bool}
 use Rattle.std.proofs.lemmas.List.{append-nil, take_more, length-take-le}
 use Rattle.std.proofs.lemmas.List.Elements.{filter_map-append}
@@ -12,6 +12,7 @@ use Rattle.flu_lemmas.specs.Named.{IsThere, CountApart, TookFronts, IsReadOut}
 use Rattle.flu_lemmas.specs.Told.{WhereTold}
 use Rattle.flu_model.specs.declared.jobs.Source.{Source}
 use Rattle.flu_model.specs.declared.jobs.Program.{Program}
+use Rattle.flu_model.specs.Rules.{is_clock}
 use Rattle.flu_outside.specs.Outside.{Contents}
 use Rattle.flu_streams.specs.declared.faults.GatherFault.{GatherFault}
 use Rattle.flu_streams.specs.declared.faults.GatherFault.TheVariants.{Source as SourceFaulty, ReadFault, NoMemory}
@@ -115,22 +116,23 @@ module _ (p : Program) (is_read : ℕ → Bool) (start a final b : Option Conten
       (subst (λ (f : Option Contents). WhereTold (left_beside a (whole_lines (closed_files p is_read))) f P) final_is
       (subst (λ (s : Option Contents). WhereTold s final P) start_is t))
 
-  pub good_read : WhereTold start final (λ old new. AreGood p old) → WhereTold a b (λ old new. first_read_fault p is_read old ≡ None)
-  good_read t =
+  pub good_read : list_any is_clock p.sources ≡ false → WhereTold start final (λ old new. AreGood p old)
+      → WhereTold a b (λ old new. first_read_fault p is_read old ≡ None)
+  good_read no_clock t =
       told_weaker (λ x y. AreGood p (selected p is_read x)) (λ x y. first_read_fault p is_read x ≡ None) a b
-      (λ x y good. sym (defects_law p is_read x) ∙ good) (told (λ old new. AreGood p old) t)
+      (λ x y good. sym (defects_law p is_read x no_clock) ∙ good) (told (λ old new. AreGood p old) t)
 
   pub of_read : (P : Contents → Type 0) → WhereTold start final (λ old new. P old) → WhereTold a b (λ old new. P (selected p is_read old))
   of_read P t = told (λ old new. P old) t
 
-  pub fault_read : (e : GatherFault) → IsFirstFault p start final e → IsFirstReadFault p is_read a b e
-  fault_read (SourceFaulty f) t = (
+  pub fault_read : list_any is_clock p.sources ≡ false → (e : GatherFault) → IsFirstFault p start final e → IsFirstReadFault p is_read a b e
+  fault_read no_clock (SourceFaulty f) t = (
     t.0,
     told_weaker (λ x y. first_fault p (selected p is_read x) ≡ Some f) (λ x y. first_read_fault p is_read x ≡ Some f) a b
-        (λ x y is. sym (defects_law p is_read x) ∙ is) (told (λ old new. first_fault p old ≡ Some f) t.1),
+        (λ x y is. sym (defects_law p is_read x no_clock) ∙ is) (told (λ old new. first_fault p old ≡ Some f) t.1),
   )
-  fault_read ReadFault t = tt
-  fault_read NoMemory t = tt
+  fault_read no_clock ReadFault t = tt
+  fault_read no_clock NoMemory t = tt
 
   read_out_by : (b' : Option Contents) → final ≡ left_beside b' now → AreReadOut (files_of p.sources) final → ReadAreOut p is_read b'
   read_out_by None is out name read = tt

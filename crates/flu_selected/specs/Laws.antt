@@ -1,6 +1,7 @@
--- What is read of a job where the files of some of its sources are closed.
+-- What is read of a job where the files of some of its sources are closed. The laws are of jobs without clocks: in a job with one each process
+-- reads all sources.
 use Rattle.std.specs.Prelude.{◌≡◌, ℕ, ◌<◌, Bool, true, false, Option, Some, None, option_map, List, [], ◌∷◌, length, slice_index_or, sum_by, if◌then◌else◌}
-use Rattle.std.specs.List.{filter_map}
+use Rattle.std.specs.List.{filter_map, list_any}
 use Rattle.flu_model.specs.Erasure.{job_of}
 use Rattle.flu_model.specs.declared.events.Item.TheVariants.{End as EndItem}
 use Rattle.flu_model.specs.declared.jobs.Kind.{Kind}
@@ -8,6 +9,7 @@ use Rattle.flu_model.specs.declared.jobs.Source.{Source}
 use Rattle.flu_model.specs.declared.jobs.Program.{Program}
 use Rattle.flu_model.specs.declared.moments.Timing.{Timing}
 use Rattle.flu_model.specs.Moments.{timing_of}
+use Rattle.flu_model.specs.Rules.{is_clock}
 use Rattle.flu_model.specs.Itags.{count_of_itags, source_of_itag}
 use Rattle.flu_model.specs.Streaming.{are_streams}
 use Rattle.flu_outside.specs.Outside.{Contents}
@@ -43,7 +45,7 @@ OpenNamesAgreeAtStart = (names : List (List ℕ)) (left : Contents) (name : List
 
 -- LAW OF LISTS: the items of the itags of a read source are those that its file gives, and an itag of another source has its end alone
 abbrev pub LawOfLists : Type 0
-LawOfLists = (p : Program) (is_read : ℕ → Bool) (left : Contents) (itag : ℕ) → itag < count_of_itags p
+LawOfLists = (p : Program) (is_read : ℕ → Bool) (left : Contents) (itag : ℕ) → list_any is_clock p.sources ≡ false → itag < count_of_itags p
     → slice_index_or (lists_of p (selected p is_read left)) itag []
     ≡ (if is_read (source_of_itag p (record { 0 = itag })) then slice_index_or (lists_of p left) itag [] else EndItem ∷ [])
 
@@ -53,7 +55,7 @@ LawOfLength = (p : Program) (left : Contents) → length (lists_of p left) ≡ c
 
 -- where all lists are streams, they are if only some sources are read
 abbrev pub StreamsStay : Type 0
-StreamsStay = (p : Program) (is_read : ℕ → Bool) (left : Contents) → are_streams 0 (lists_of p left) ≡ true
+StreamsStay = (p : Program) (is_read : ℕ → Bool) (left : Contents) → list_any is_clock p.sources ≡ false → are_streams 0 (lists_of p left) ≡ true
     → are_streams 0 (lists_of p (selected p is_read left)) ≡ true
 
 -- ---- defects
@@ -80,8 +82,10 @@ first_read_fault p is_read left = first_some (λ e. read_fault (timing_of p) (fo
 
 -- LAW OF DEFECTS: the first fault of all sources is that of the read ones
 abbrev pub LawOfDefects : Type 0
-LawOfDefects = (p : Program) (is_read : ℕ → Bool) (left : Contents) → first_fault p (selected p is_read left) ≡ first_read_fault p is_read left
+LawOfDefects =
+    (p : Program) (is_read : ℕ → Bool) (left : Contents) → list_any is_clock p.sources ≡ false
+    → first_fault p (selected p is_read left) ≡ first_read_fault p is_read left
 
 -- where no source has a defect, none has one if only some are read
 abbrev pub GoodStayGood : Type 0
-GoodStayGood = (p : Program) (is_read : ℕ → Bool) (left : Contents) → AreGood p left → AreGood p (selected p is_read left)
+GoodStayGood = (p : Program) (is_read : ℕ → Bool) (left : Contents) → list_any is_clock p.sources ≡ false → AreGood p left → AreGood p (selected p is_read left)

@@ -1,8 +1,10 @@
 //! Reading the sources of a job that are selected.
 
-ghost use Rattle.std.specs.Prelude.{◌≡◌, ◌≢◌, List, ℕ, OnOk, IfOk, IfErr, IsErrOf, Err, length};
+ghost use Rattle.std.specs.Prelude.{◌≡◌, ◌≢◌, List, ℕ, false, OnOk, IfOk, IfErr, IsErrOf, Err, length};
+ghost use Rattle.std.specs.List.{list_any};
 ghost use Rattle.flu_model.specs.Itags.{count_of_itags};
 ghost use Rattle.flu_model.specs.Listed.{listed};
+ghost use Rattle.flu_model.specs.Rules.{is_clock};
 ghost use Rattle.flu_outside.specs.Outside.{WhereTold, SameCounts};
 ghost use Rattle.flu_outside.specs.Taking.{TookFronts};
 ghost use Rattle.flu_streams.specs.Files.{files_of, OneRose};
@@ -45,13 +47,15 @@ fn is_selected(is_read: &[bool], number: usize) -> bool
 /// Reads each source of a job that is read to its end, as `flu_streams::gather` does, and no other: of these an itag has its end alone.
 /// `is_read` says by a source's number whether it is read.
 ///
-/// A source fault is the first defect of the first read source, as declared, that has one.
+/// No source is a clock: the ticks of one follow the rows of all sources. A source fault is the first defect of the first read source, as
+/// declared, that has one.
 pub fn gather_selected<F: Files>(
     alloc: Global,
     p: &Program,
     is_read: &[bool],
     files: &mut F,
 ) -> Result<Streams, GatherFault>
+    requires no_clocks { list_any is_clock p.now.sources ≡ false }
     ensures good { OnOk result (ReadAreGood p.now (reads is_read.now) (F.left files.old) (F.left files.new)) }
     ensures lists { IfOk result (AreReadLists p.now (reads is_read.now) (F.left files.old) (F.left files.new)) }
     ensures itags { IfOk result (λ streams. length (listed streams) ≡ count_of_itags p.now) }
@@ -91,6 +95,7 @@ fn gather_lent<'f, F: Files, K: Origin>(
     closed: ClosedNames,
     gathered: &mut Result<Streams, GatherFault>,
 ) -> Lent<'f, F>
+    requires no_clocks { list_any is_clock p.now.sources ≡ false }
     requires reference { lent.files.ghost_name ≡ K.reference }
     requires names { (name : List ℕ) → is_among (closed_files p.now (reads is_read.now)) name ≡ K.is_closed name }
     requires left { F.left lent.files.now ≡ K.left }

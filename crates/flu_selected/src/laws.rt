@@ -9,8 +9,9 @@ pub fn open_names_agree()
     ensures at_start { OpenNamesAgreeAtStart }
 {}
 
-/// The law of lists: where the files of some sources are closed, the items of the itags of a source that is read are those that its file
-/// gives, and an itag of another source has its end alone. There is a list for each itag,
+/// The law of lists, of jobs without clocks: where the files of some sources are closed, the items of the itags of a source that is read are those
+/// that its file
+/// gives, and an itag of another source has its end alone. There is a list for each itag, in any job,
 /// and the lists are streams if those of all sources are.
 pub fn selected_sources_are_read()
     ensures lists { LawOfLists }
@@ -18,7 +19,7 @@ pub fn selected_sources_are_read()
     ensures streams { StreamsStay }
 {}
 
-/// The law of defects: where the files of some sources are closed, the first fault is that of the read sources, where the items that
+/// The law of defects, of jobs without clocks: where the files of some sources are closed, the first fault is that of the read sources, where the items that
 /// are counted are those of the read ones alone. And if no source has a defect, none has one then.
 pub fn closed_sources_have_no_defect()
     ensures first { LawOfDefects }

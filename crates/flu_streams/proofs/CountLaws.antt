@@ -11,7 +11,7 @@ use Rattle.flu_streams.specs.Borders.{AreCutAt}
 use Rattle.flu_streams.specs.Counts.{count_of_itag, counted_on, grown_by, grown, OneMoreInTurn, LawOfCounts}
 use Rattle.flu_streams.specs.Rounds.{Starts, GoesOn, lists_between}
 use Rattle.flu_streams.proofs.BorderLaws.{merged_cut}
-use Rattle.flu_streams.proofs.RoundLaws.{cut_of_rounds}
+use Rattle.flu_streams.proofs.InTurn.{cut_of_rounds}
 
 count_of_itag-append : (xs ys : List Event) (itag : ℕ) → count_of_itag (xs ++ ys) itag ≡ count_of_itag xs itag + count_of_itag ys itag
 count_of_itag-append xs ys itag = sum_by-append (λ (x : Event). cond (x.itag.0 == itag) 1 0) xs ys

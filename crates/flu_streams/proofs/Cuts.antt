@@ -1,9 +1,10 @@
 -- What a cut takes out, and what it leaves.
-use Rattle.std.proofs.Common.{◌≡◌, inl, inr, ℕ, ◌+◌, ◌<◌, true, List, [], ◌∷◌, ◌++◌, length, map, set, vec_len, Vec, Option, Some, None, refl, sym, ap, subst}
+use Rattle.std.proofs.Common.{◌≡◌, inl, inr, ℕ, ◌+◌, ◌<◌, Bool, true, false, take, List, [], ◌∷◌, ◌++◌, length, map, set, vec_len, Vec, Option, Some, None}
+use Rattle.std.proofs.Common.{refl, sym, ap, subst}
 use Rattle.std.proofs.Common.{◌∙◌, arith}
 use Rattle.std.specs.Global.{Global}
-use Rattle.std.specs.Prelude.{slice_get, nat_lt, sum_by}
-use Rattle.std.specs.List.{filter, flat_map, filter_map, list_all, range_with_len}
+use Rattle.std.specs.Prelude.{slice_get, nat_lt, sum_by, if◌then◌else◌}
+use Rattle.std.specs.List.{filter, flat_map, filter_map, list_all, list_any, range_with_len}
 use Rattle.std.proofs.lemmas.Bool.{cases_lt}
 use Rattle.std.proofs.lemmas.Bool.Decides.{nat_tests}
 use Rattle.std.proofs.lemmas.Grind.{flat_map-append}
@@ -21,6 +22,7 @@ use Rattle.flu_model.specs.declared.jobs.Source.{Source}
 use Rattle.flu_model.specs.declared.jobs.Program.{Program}
 use Rattle.flu_model.specs.declared.moments.Timing.{Timing}
 use Rattle.flu_model.specs.Moments.{timing_of, last_moment, IsTiming}
+use Rattle.flu_model.specs.Rules.{is_clock}
 use Rattle.flu_model.specs.Streaming.{are_streams}
 use Rattle.flu_outside.specs.Outside.{Contents}
 use Rattle.flu_outside.specs.Taking.{IsReadOut}
@@ -31,12 +33,15 @@ use Rattle.flu_streams.specs.declared.held.Stage.{Stage}
 use Rattle.flu_streams.specs.declared.held.Stage.TheVariants.{Filling, Filled, Over}
 use Rattle.flu_streams.specs.declared.inlet.Inlet.{Inlet}
 use Rattle.flu_streams.specs.Before.{each_with_before}
-use Rattle.flu_streams.specs.Good.{at_moments, in_time_order, items_at, lists_of_rows}
+use Rattle.flu_streams.specs.Clocks.{Declared, items_of_ticks, lists_of_ticks}
+use Rattle.flu_streams.specs.Good.{at_moments, in_time_order, items_at, lists_of_rows, lists_of_source}
+use Rattle.flu_streams.specs.declared.clocks.Span.{Span}
+use Rattle.flu_streams.specs.LoopClocks.{FewTicks, HasSpan, span_of, ticks_in_span}
 use Rattle.flu_streams.specs.Holding.{HeldSource, Holding, IsHeldBehind, AreHeldBehind, Cuts, first_itag, item_of, still}
 use Rattle.flu_streams.specs.Lists.{lists_in, items_of_list, item_time, item_for}
 use Rattle.flu_streams.specs.LoopMoments.{border_moment, end_moment}
 use Rattle.flu_streams.specs.LoopHeld.{source_of, taken_by, DropsTo, AreDropped, IsSettledAt, IsSettledBy, AreWell, AreCaughtUp, IsWellIn, IsWell, AreBehind}
-use Rattle.flu_streams.specs.Rounds.{rows_between, is_above, is_up_to, settled, lists_between}
+use Rattle.flu_streams.specs.Rounds.{rows_between, is_above, is_up_to, settled, lists_between, ticks_between, ranks}
 use Rattle.flu_streams.specs.Tags.{width}
 use Rattle.flu_streams.specs.Tests.{rows_of, times_of, greatest, margin}
 use Rattle.flu_streams.proofs.Befores.{with_before-append}
@@ -46,12 +51,16 @@ use Rattle.flu_streams.proofs.Cutting.{all_kept}
 use Rattle.flu_streams.proofs.HeldRows.{taken_items, left_items}
 use Rattle.flu_streams.proofs.Moments.{between_moments, timing_fits}
 use Rattle.flu_streams.proofs.RoundLaws.{Exceeds, exceeds_moments}
-use Rattle.flu_streams.proofs.RoundOf.{holding, behind_at, behind_of}
+use Rattle.flu_streams.proofs.Filled.{behind_with, clocks_shut}
+use Rattle.flu_streams.proofs.RoundOf.{holding, behind_at}
 use Rattle.flu_streams.proofs.Rounding.{set_here}
 use Rattle.flu_lemmas.proofs.Mapped.{from_mapped}
 use Rattle.flu_streams.proofs.Starts.{to_mapped, one_there}
 use Rattle.flu_streams.proofs.Streamings.{streams_of_range, are_streams-append}
 use Rattle.flu_streams.proofs.Taken.{for_itags, stream_of}
+use Rattle.flu_streams.proofs.SourceFiles.{clock_width}
+use Rattle.flu_streams.proofs.Spans.{any_clock}
+use Rattle.flu_streams.proofs.Ticking.{span_has, ticks_held}
 
 -- ---- the lists of one source
 lists_are : (lists : Vec (Vec Item Global) Global) (n : ℕ) (f : ℕ → List Item) → vec_len lists ≡ n → ((i : ℕ) → i < n → items_of_list lists i ≡ f i)
@@ -99,22 +108,76 @@ own_lists timing fits lists kinds s first border end lines h len each is caught 
     ∙ ap (λ own. map (items_at kinds s first own) (range_with_len 0 (width s))) (sym (between_moments timing fits border end (rows_of lines)))
 
 -- ---- the lists of all sources
+-- those of one source
+abbrev pub lists_own : Program → Option ℕ → Border → (ℕ → List Next) → Declared → List (List Item)
+lists_own p border end lines e = lists_of_source p (rows_between border end (rows_of (lines (length e.0)))) (ticks_between p border end lines e) e
+
+pub rows_own : (p : Program) (border : Option ℕ) (end : Border) (lines : ℕ → List Next) (earlier : List Source) (s : Source) (i : ℕ) → length earlier ≡ i
+    → is_clock s ≡ false → lists_own p border end lines (earlier, s)
+    ≡ lists_of_rows (timing_of p i) p.kinds s (sum_by width earlier) (rows_between border end (rows_of (lines i)))
+rows_own p border end lines earlier s i size goes =
+    ap (λ b. if b then lists_of_ticks (timing_of p (length earlier)) s (sum_by width earlier) (ticks_between p border end lines (earlier, s)) else
+    lists_of_rows (timing_of p (length earlier)) p.kinds s (sum_by width earlier) (rows_between border end (rows_of (lines (length earlier))))) goes
+    ∙ ap (λ (n : ℕ). lists_of_rows (timing_of p n) p.kinds s (sum_by width earlier) (rows_between border end (rows_of (lines n)))) size
+
+-- a clock has one list
+pub ticks_own : (p : Program) (border : Option ℕ) (end : Border) (lines : ℕ → List Next) (earlier : List Source) (s : Source) (i first : ℕ)
+    → length earlier ≡ i → is_clock s ≡ true → width s ≡ 1 → first ≡ sum_by width earlier → lists_own p border end lines (earlier, s)
+    ≡ items_of_ticks (timing_of p i) first (ticks_between p border end lines (earlier, s)) ∷ []
+ticks_own p border end lines earlier s i first size ticks one at =
+    let own = ticks_between p border end lines (earlier, s) in
+    ap (λ b. if b then lists_of_ticks (timing_of p (length earlier)) s (sum_by width earlier) own else
+    lists_of_rows (timing_of p (length earlier)) p.kinds s (sum_by width earlier) (rows_between border end (rows_of (lines (length earlier))))) ticks
+    ∙ ap (λ n. map (λ place. items_of_ticks (timing_of p (length earlier)) (sum_by width earlier + place) own) (range_with_len 0 n)) one
+    ∙ ap (λ (n : ℕ). items_of_ticks (timing_of p (length earlier)) n own ∷ []) (omega (arith, at))
+    ∙ ap (λ (n : ℕ). items_of_ticks (timing_of p n) first own ∷ []) size
+
+pub own_of_clock : (p : Program) (above : Option ℕ) (end : Border) (lines : ℕ → List Next) (inlets : List Inlet) (i number first : ℕ) (s : Source)
+    (span : Option Span) (lists : List (List Item)) → length (take i p.sources) ≡ i → number ≡ i → is_clock s ≡ true → width s ≡ 1
+    → first ≡ sum_by width (take i p.sources) → span ≡ span_of p inlets → HasSpan (span_of p inlets) (ranks p lines)
+    → lists ≡ items_of_ticks (timing_of p number) first (ticks_in_span p above span end (take number p.sources, s)) ∷ []
+    → lists ≡ lists_own p above end lines (take i p.sources, s)
+own_of_clock p above end lines inlets i number first s span lists size number_is ticks one at span_is has is =
+    is
+    ∙ ap (λ (n : ℕ). items_of_ticks (timing_of p n) first (ticks_in_span p above span end (take n p.sources, s)) ∷ []) number_is
+    ∙ ap (λ (x : Option Span). items_of_ticks (timing_of p i) first (ticks_in_span p above x end (take i p.sources, s)) ∷ []) span_is
+    ∙ ap (λ (l : List ℕ). items_of_ticks (timing_of p i) first l ∷ []) (ticks_held p above end lines inlets (take i p.sources, s) has)
+    ∙ sym (ticks_own p above end lines (take i p.sources) s i first size ticks one at)
+
+pub own_of : (p : Program) (above : Option ℕ) (end : Border) (lines : ℕ → List Next) (inlets : List Inlet) (i number first : ℕ) (s : Source) (h : Inlet)
+    (span : Option Span) (lists : List (List Item)) → length (take i p.sources) ≡ i → number ≡ i → slice_get p.sources i ≡ Some s
+    → first ≡ sum_by width (take i p.sources) → slice_get inlets i ≡ Some h → length inlets ≡ length p.sources
+    → (list_any is_clock p.sources ≡ true → span ≡ span_of p inlets) → AreBehind p above lines inlets
+    → (is_clock s ≡ true → lists ≡ items_of_ticks (timing_of p number) first (ticks_in_span p above span end (take number p.sources, s)) ∷ [])
+    → (is_clock s ≡ false → (these : List Next) → IsHeldBehind (timing_of p number) p.kinds first s above these (source_of h)
+    → lists ≡ lists_of_rows (timing_of p number) p.kinds s first (rows_between above end (rows_of these)))
+    → lists ≡ lists_own p above end lines (take i p.sources, s)
+own_of p above end lines inlets i number first s h span lists size number_is at from here count span_is behind ticking reading = by_kind (is_clock s) refl
+  where
+    by_kind : (b : Bool) → is_clock s ≡ b → lists ≡ lists_own p above end lines (take i p.sources, s)
+    by_kind true ticks =
+        own_of_clock p above end lines inlets i number first s span lists size number_is ticks (clock_width p i s at ticks) from
+        (span_is (any_clock p.sources i s at ticks)) (span_has p above lines inlets count behind) (ticking ticks)
+    by_kind false goes =
+        let is : IsHeldBehind (timing_of p number) p.kinds first s above (lines i) (source_of h) =
+        subst (λ (n : ℕ). IsHeldBehind (timing_of p n) p.kinds first s above (lines i) (source_of h)) (sym number_is)
+        (subst (λ (n : ℕ). IsHeldBehind (timing_of p i) p.kinds n s above (lines i) (source_of h)) (sym from) (behind i s at h here)) in
+        reading goes (lines i) is
+        ∙ ap (λ (n : ℕ). lists_of_rows (timing_of p n) p.kinds s first (rows_between above end (rows_of (lines i)))) number_is
+        ∙ ap (λ (n : ℕ). lists_of_rows (timing_of p i) p.kinds s n (rows_between above end (rows_of (lines i)))) from
+        ∙ sym (rows_own p above end lines (take i p.sources) s i size goes)
+
 -- those of the first sources
 abbrev pub lists_first : Program → Option ℕ → Border → (ℕ → List Next) → List Source → List (List Item)
 lists_first p border end lines sources =
-    flat_map (λ e. lists_of_rows (timing_of p (length e.0)) p.kinds e.1 (sum_by width e.0) (rows_between border end (rows_of (lines (length e.0)))))
-    (each_with_before sources)
+    flat_map (lists_own p border end lines) (each_with_before sources)
 
-pub lists_more : (p : Program) (border : Option ℕ) (end : Border) (lines : ℕ → List Next) (earlier : List Source) (s : Source) (i : ℕ)
-    (these own : List (List Item)) → length earlier ≡ i
-    → these ≡ lists_first p border end lines earlier → own ≡ lists_of_rows (timing_of p i) p.kinds s (sum_by width earlier)
-    (rows_between border end (rows_of (lines i)))
+pub lists_more : (p : Program) (border : Option ℕ) (end : Border) (lines : ℕ → List Next) (earlier : List Source) (s : Source)
+    (these own : List (List Item)) → these ≡ lists_first p border end lines earlier → own ≡ lists_own p border end lines (earlier, s)
     → these ++ own ≡ lists_first p border end lines (earlier ++ s ∷ [])
-lists_more p border end lines earlier s i these own size is more =
-    let g = λ (e : List Source × Source). lists_of_rows (timing_of p (length e.0)) p.kinds e.1 (sum_by width e.0)
-    (rows_between border end (rows_of (lines (length e.0)))) in
-    ap (λ l. l ++ own) is ∙ ap (λ l. lists_first p border end lines earlier ++ l)
-    (more ∙ ap (λ (n : ℕ). lists_of_rows (timing_of p n) p.kinds s (sum_by width earlier) (rows_between border end (rows_of (lines n)))) (sym size))
+lists_more p border end lines earlier s these own is more =
+    let g = lists_own p border end lines in
+    ap (λ l. l ++ own) is ∙ ap (λ l. lists_first p border end lines earlier ++ l) more
     ∙ sym (ap (flat_map g) (with_before-append [] earlier (s ∷ [])) ∙ flat_map-append g (each_with_before earlier) ((earlier, s) ∷ [])
     ∙ ap (λ l. lists_first p border end lines earlier ++ l) (append-nil (g (earlier, s))))
 
@@ -139,6 +202,7 @@ cut_one timing fits kinds s first t border lines old new timed up at caught d is
       ∙ left_items kinds s first (border_moment timing border) (last_moment timing t) (at_moments timing [] (rows_of lines)) old.items
       (exceeds_moments timing fits t border (exceeds border t up)) (items_above timing fits kinds s first border lines (source_of old) is caught)
       ∙ ap (λ rows. map (item_of kinds s first) (in_time_order rows)) (sym (between_moments timing fits (Some t) Closed (rows_of lines)));
+  earliest = d.first ∙ is.earliest;
   last = d.last ∙ is.last;
   ended = d.ended ∙ is.ended;
   settled = λ goes v e.
@@ -161,12 +225,15 @@ pub cuts_at : (p : Program) (rows t : ℕ) (border : Option ℕ) (stage : Stage)
     → Cuts (holding p rows border stage olds) (holding p rows (Some t) Filling news) (At t)
 cuts_at p rows t border stage olds news well settles caught dropped =
     let count : length news ≡ length p.sources = dropped.size ∙ well.count in
+    let shut = λ (i : ℕ) (s : Source) (at : slice_get p.sources i ≡ Some s) (h : Inlet) (f : slice_get news i ≡ Some h) (ticks : is_clock s ≡ true).
+    let old = slice_get-there olds i (rw well.count (slice_get_within p.sources i s at)) in
+    (dropped.each i old.0 h old.1 f).closed ∙ clocks_shut p rows border olds well i s at old.0 old.1 ticks in
     record {
       program = refl;
       rows = refl;
       border = refl;
       stage = refl;
-      behind = λ lines is. behind_of p rows (Some t) Filling news lines count (λ i s at h f.
+      behind = λ lines is. behind_with p rows (Some t) Filling news lines count shut (λ i s at h f.
           let old = slice_get-there olds i (rw well.count (slice_get_within p.sources i s at)) in
           cut_one (timing_of p i) (timing_fits p i (slice_get_within p.sources i s at)) p.kinds s (first_itag p i) t border (lines i) old.0 h
           (well.each i s at old.0 old.1).timing_is settles.0 (settles.1 i s at old.0 old.1) (caught i old.0 old.1)
@@ -178,12 +245,12 @@ cuts_at p rows t border stage olds news well settles caught dropped =
           let d = dropped.each i old.0 k.0 old.1 k.1 in
           all i (source_of old.0) (to_mapped source_of olds i old.0 old.1)
           ∙ ap (λ l. lines i ++ l) (same_still old.0 k.0 left d ∙ ap (λ (h : HeldSource). still h left) (sym k.2));
-      ended = λ left was i source f closed.
+      ended = λ left was i s at source f file closed.
           let k = from_mapped source_of news i source f in
           let old = slice_get-there olds i (rw (← dropped.size) (slice_get_within news i k.0 k.1)) in
           let d = dropped.each i old.0 k.0 old.1 k.1 in
           subst (λ n. IsReadOut n left) (sym (ap (λ (h : HeldSource). h.place.file) k.2 ∙ ap (λ place. place.file) d.rows))
-          (was i (source_of old.0) (to_mapped source_of olds i old.0 old.1) (sym d.closed ∙ ap (λ (h : HeldSource). h.closed) (sym k.2) ∙ closed));
+          (was i s at (source_of old.0) (to_mapped source_of olds i old.0 old.1) file (sym d.closed ∙ ap (λ (h : HeldSource). h.closed) (sym k.2) ∙ closed));
       closed = λ was i source f.
           let k = from_mapped source_of news i source f in
           let old = slice_get-there olds i (rw (← dropped.size) (slice_get_within news i k.0 k.1)) in
@@ -201,7 +268,8 @@ cuts_closed p rows border stage inlets well = record {
   rows = refl;
   border = refl;
   stage = refl;
-  behind = λ lines is. behind_of p rows border Over inlets lines well.count (behind_at p rows border stage inlets lines is);
+  behind = λ lines is. behind_with p rows border Over inlets lines well.count (clocks_shut p rows border inlets well)
+      (behind_at p rows border stage inlets lines is);
   still' = λ lines whole left all. all;
   ended = λ left was. was;
   closed = λ was. was;
@@ -228,6 +296,7 @@ dropped_well p rows t border olds news well settles caught dropped = record {
         timing_is = d.timing ∙ own.timing_is;
         file = ap (λ place. place.file) d.rows ∙ own.file;
         goal = λ v e. absurd (never v (sym (caught i old.0 old.1) ∙ sym d.goal ∙ e));
+        clock = λ ticks. d.closed ∙ own.clock ticks;
         above = λ none. ap (λ (timing : Timing). list_all (λ (item : Item). nat_lt (last_moment timing t) (item_time item)) h.items) (sym own.timing_is)
             ∙ ap (list_all later) d.items ∙ all_kept later old.0.items;
         settled = λ none goes v e.
@@ -263,7 +332,7 @@ well_filling p rows border stage inlets is e = subst (λ s. IsWellIn p rows bord
 
 pub well_filled : (p : Program) (rows : ℕ) (border : Option ℕ) (stage : Stage) (b : Border) (inlets : List Inlet) → IsWell p rows border stage inlets
     → stage ≡ Filled b
-    → AreWell p rows border inlets × IsSettledBy p border b inlets × AreCaughtUp inlets
+    → AreWell p rows border inlets × IsSettledBy p border b inlets × AreCaughtUp inlets × FewTicks p rows border (span_of p inlets) b
 well_filled p rows border stage b inlets is e = subst (λ s. IsWellIn p rows border s inlets) e is.0
 
 pub closed_if_not : (b : Border) → ((t : ℕ) → b ≡ At t → ⊥) → b ≡ Closed
@@ -273,8 +342,8 @@ closed_if_not (At t) other = absurd (other t refl)
 -- ---- the lists of a cut
 pub cut_lists : (v : Holding) (p q : Program) (rows : ℕ) (border : Option ℕ) (stage : Stage) (inlets : List Inlet) (b : Border)
     (lines : ℕ → List Next) (lists : List (List Item)) → holding q rows border stage inlets ≡ v → q ≡ p
-    → ((above : Option ℕ) (these : ℕ → List Next) → AreBehind p above these inlets → lists ≡ lists_between p above b these) → AreHeldBehind v lines
+    → ((these : ℕ → List Next) → AreBehind p border these inlets → lists ≡ lists_between p border b these) → AreHeldBehind v lines
     → lists ≡ lists_between p v.border b lines
 cut_lists v p q rows border stage inlets b lines lists is same each behind =
     let own = behind_at q rows border stage inlets lines (subst (λ w. AreHeldBehind w lines) (sym is) behind) in
-    each border lines (subst (λ r. AreBehind r border lines inlets) same own) ∙ ap (λ (w : Holding). lists_between p w.border b lines) is
+    each lines (subst (λ r. AreBehind r border lines inlets) same own) ∙ ap (λ (w : Holding). lists_between p w.border b lines) is

@@ -1,9 +1,8 @@
 -- Where no source has a defect, none of the rows up to a border is read behind the round that comes to it.
-use Rattle.std.proofs.Common.{◌≡◌, refl, sym, ap, ◌∙◌, subst, ℕ, List, [], ◌∷◌, ◌++◌, length, Option, Some, None}
-use Rattle.std.specs.Prelude.{nat_lt, nat_le, sum_by}
+use Rattle.std.proofs.Common.{◌≡◌, refl, sym, ap, ◌∙◌, subst, ℕ, List, [], ◌∷◌, ◌++◌, Option, Some, None}
+use Rattle.std.specs.Prelude.{nat_lt, nat_le}
 use Rattle.std.specs.List.{filter}
 use Rattle.flu_lemmas.specs.Elements.{AtEach}
-use Rattle.flu_lemmas.proofs.Elements.{all_map}
 use Rattle.flu_model.specs.declared.events.Event.{Event as EventOf}
 use Rattle.flu_model.specs.declared.events.Item.{Item}
 use Rattle.flu_model.specs.declared.jobs.Kind.{Kind}
@@ -16,17 +15,17 @@ use Rattle.flu_outside.specs.Outside.{Contents as Files}
 use Rattle.flu_rows.specs.declared.rows.Next.{Next}
 use Rattle.flu_streams.specs.declared.border.Border.TheVariants.{At, Closed}
 use Rattle.flu_streams.specs.declared.faults.Why.{Why}
-use Rattle.flu_streams.specs.Before.{with_before, each_with_before, first_some, or_else}
+use Rattle.flu_streams.specs.Before.{with_before, first_some, or_else}
 use Rattle.flu_streams.specs.Borders.{AreCutAt, beyond}
 use Rattle.flu_streams.specs.Fronts.{LawOfFronts, LawOfFrontsAbove, LawOfMeeting}
-use Rattle.flu_streams.specs.Good.{lists_of_rows, lists_of}
+use Rattle.flu_streams.specs.Good.{lists_of}
 use Rattle.flu_streams.specs.Rounds.{Turn, Open, Shut, Meets, Reads, IsWithin, IsRoundAt, Starts, GoesOn, ComesFrom, LinesIn, line_defect, defect_in}
 use Rattle.flu_streams.specs.Rounds.{rows_between, lists_between}
-use Rattle.flu_streams.specs.Tags.{width}
 use Rattle.flu_streams.specs.Tests.{rows_of}
 use Rattle.flu_streams.proofs.BorderLaws.{folds_in_turn, items_are_cut}
-use Rattle.flu_streams.proofs.RoundEnds.{whole_lists}
-use Rattle.flu_streams.proofs.RoundLaws.{Exceeds, defect_in-append, nothing_later, between_cut, each_source, flat_same, round_exceeds, exceeds_start, no_events}
+use Rattle.flu_streams.proofs.LastRound.{whole_lists}
+use Rattle.flu_streams.proofs.RoundLaws.{Exceeds, defect_in-append, nothing_later, front_of_whole, between_cut, round_exceeds, exceeds_start, no_events}
+use Rattle.flu_streams.proofs.Ticks.{ReadsFurther, told_by, lists_kept}
 
 -- the rows up to the border of a round are those that are up to it in all lines
 all_up_to : (timing : Timing) (kinds : List Kind) (s : Source) (rows b : ℕ) (start above : Option ℕ) (whole before mid : List Next) (turn : Turn)
@@ -40,16 +39,16 @@ all_up_to timing kinds s rows b start above whole before mid (Open u) sound read
 all_up_to timing kinds s rows b start above whole before mid Shut sound reads within = ap (λ l. rows_between start (At b) (rows_of l)) reads.stops.0
 all_up_to timing kinds s rows b start above whole before mid (Meets row why) sound reads within = absurd within
 
-lists_up_to : (p : Program) (rows b : ℕ) (start above : Option ℕ) (whole before mid : ℕ → List Next)
+-- what is read of a source up to the border of a round is what all its lines have up to it
+pub all_further : (p : Program) (rows b : ℕ) (above : Option ℕ) (whole before mid : ℕ → List Next)
     → AtEach (λ i s. defect_in (timing_of p i) p.kinds s (whole i) ≡ None) p.sources
-    → IsRoundAt p rows above whole before mid b → lists_between p start (At b) whole ≡ lists_between p start (At b) mid
-lists_up_to p rows b start above whole before mid sound was =
-    flat_same _ _ (each_with_before p.sources)
-    (all_map (λ (e : List Source × Source). rows_between start (At b) (rows_of (whole (length e.0))) ≡ rows_between start (At b) (rows_of (mid (length e.0)))) _
-    (each_with_before p.sources)
-    (λ e same. ap (lists_of_rows (timing_of p (length e.0)) p.kinds e.1 (sum_by width e.0)) same)
-    (each_source (λ i s. rows_between start (At b) (rows_of (whole i)) ≡ rows_between start (At b) (rows_of (mid i))) p.sources
-    (λ i s e. let h = was.each i s e in all_up_to (timing_of p i) p.kinds s rows b start above (whole i) (before i) (mid i) h.0 (sound i s e) h.1 h.2)))
+    → IsRoundAt p rows above whole before mid b → ReadsFurther p b mid whole
+all_further p rows b above whole before mid sound was = record {
+  further = λ i s e. let h = was.each i s e in front_of_whole (timing_of p i) p.kinds s rows above (whole i) (mid i) h.0 h.1.stops;
+  same = λ i s e start. let h = was.each i s e in
+      all_up_to (timing_of p i) p.kinds s rows b start above (whole i) (before i) (mid i) h.0 (sound i s e) h.1 h.2;
+  told = told_by p rows b above whole before mid whole was (λ i s e shut. shut.stops.0);
+}
 
 -- all rows above the start of a run are cut at the border that it comes to
 module _ (p : Program) (rows : ℕ) (whole : ℕ → List Next) (start : Option ℕ)
@@ -67,7 +66,7 @@ module _ (p : Program) (rows : ℕ) (whole : ℕ → List Next) (start : Option 
       let same : b ≡ t = cc in
       let cut = between_cut p b start Closed whole (λ n e. refl) (exceeds done' above' before' mid b came was) in
       let there = subst (λ l. AreCutAt p b (lists_between p start Closed whole) l (lists_between p (Some b) Closed whole))
-      (lists_up_to p rows b start above' whole before' mid sound was) cut in
+      (lists_kept p b mid whole (all_further p rows b above' whole before' mid sound was) start) cut in
       subst (λ n. AreCutAt p n (lists_between p start Closed whole) (lists_between p start (At n) mid) (lists_between p (Some n) Closed whole)) same there
 
 pub law_of_fronts : LawOfFronts

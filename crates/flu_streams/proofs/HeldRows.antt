@@ -1,5 +1,5 @@
 -- What is held of a source behind the lines that were read of it.
-use Rattle.std.proofs.Common.{◌≡◌, ℕ, suc, ◌+◌, ◌-◌, ◌/◌, ◌<◌, ◌≤◌, max, Bool, true, false, cond, ◌||◌, ◌&&◌, List, [], ◌∷◌, ◌++◌, length, map, Option}
+use Rattle.std.proofs.Common.{◌≡◌, ℕ, suc, ◌+◌, ◌-◌, ◌/◌, ◌<◌, ◌≤◌, max, min, Bool, true, false, cond, ◌||◌, ◌&&◌, List, [], ◌∷◌, ◌++◌, length, map, Option}
 use Rattle.std.proofs.Common.{Some, None, refl, sym, ap, subst, ◌∙◌, arith}
 use Rattle.std.specs.Prelude.{◌==◌, not, nat_lt, nat_le, unwrap_or, option_map}
 use Rattle.std.specs.List.{filter, list_all}
@@ -35,12 +35,12 @@ use Rattle.flu_outside.specs.Outside.{Contents}
 use Rattle.flu_streams.specs.Holding.{HeldSource, IsHeldBehind, IsUpTo, item_of, still}
 use Rattle.flu_streams.specs.Lists.{item_time}
 use Rattle.flu_streams.specs.LoopHeld.{source_of, count_to, enough_of, enough_in, without, IsShort, CatchesUp, IsCaughtUp, Stays, Drops, Comes, test_late}
-use Rattle.flu_streams.specs.LoopHeld.{are_enough, test_held, tests_behind, fault_behind, put_timed, later_of, PutsIn, IsWellAt, taken_by}
+use Rattle.flu_streams.specs.LoopHeld.{are_enough, test_held, tests_behind, fault_behind, put_timed, later_of, sooner_of, PutsIn, IsWellAt, taken_by}
 use Rattle.flu_streams.specs.LoopMoments.{border_moment, own_times, at_moment}
 use Rattle.flu_streams.specs.LoopStop.{defect_behind}
 use Rattle.flu_streams.specs.Rounds.{row_fault, line_defect, settled, settled_time, is_above, is_between, rows_between, is_enough}
 use Rattle.flu_streams.specs.Tags.{width}
-use Rattle.flu_streams.specs.Tests.{rows_of, has_ended, is_end, time_in, items_in, times_of, greatest, where_true, margin, same_time, test_range}
+use Rattle.flu_streams.specs.Tests.{rows_of, has_ended, is_end, time_in, items_in, times_of, least, greatest, where_true, margin, same_time, test_range}
 use Rattle.flu_streams.specs.Tests.{test_tag, test_fields, test_item, test_behind, test_times, test_time}
 use Rattle.flu_streams.proofs.Cutting.{not_not, later_is, all_kept}
 use Rattle.flu_streams.proofs.Counted.{fault_parts}
@@ -48,7 +48,7 @@ use Rattle.flu_streams.proofs.Counting.{enough_is, none_enough, all_late}
 use Rattle.flu_streams.proofs.Moments.{time_of-moment, is_above-moment, at_moments-append, between_moments}
 use Rattle.flu_streams.proofs.RoundLaws.{or_else-none, defect_in-more, not_late, settled_is, settled_some, line_settles, Exceeds, exceeds_moments, parts_at}
 use Rattle.flu_streams.proofs.RoundLaws.{early_between, late_between, none_between, kept_first, kept_second}
-use Rattle.flu_streams.proofs.Taken.{greatest-push, times_more, ended_more, rows_more, item_time-of, items_late, IsNoRow, no_row_more}
+use Rattle.flu_streams.proofs.Taken.{greatest-push, least-push, times_more, ended_more, rows_more, item_time-of, items_late, IsNoRow, no_row_more}
 
 -- ---- items by their times
 filter_mapped : {X Y : Type 0} (p : Y → Bool) (f : X → Y) (xs : List X) → filter p (map f xs) ≡ map f (filter (λ x. p (f x)) xs)
@@ -461,6 +461,16 @@ row_last rows row last top = by_time (time_in row) refl
         ap (λ o. Some (max (unwrap_or o 0) time)) top
         ∙ sym (ap greatest (times_more rows row ∙ ap (λ o. times_of rows ++ option_to_list o) at) ∙ greatest-push (times_of rows) time)
 
+row_first : (rows : List Row) (row : Row) (first : Option ℕ) → first ≡ least (times_of rows)
+    → sooner_of first (time_in row) ≡ least (times_of (rows ++ row ∷ []))
+row_first rows row first low = by_time (time_in row) refl
+  where
+    by_time : (o : Option ℕ) → time_in row ≡ o → sooner_of first o ≡ least (times_of (rows ++ row ∷ []))
+    by_time None at = low ∙ ap least (sym (times_more rows row ∙ ap (λ o. times_of rows ++ option_to_list o) at ∙ append-nil (times_of rows)))
+    by_time (Some time) at =
+        ap (λ o. Some (min (unwrap_or o time) time)) low
+        ∙ sym (ap least (times_more rows row ∙ ap (λ o. times_of rows ++ option_to_list o) at) ∙ least-push (times_of rows) time)
+
 passes_late : (timing : Timing) (kinds : List Kind) (s : Source) (h : Inlet) (row : Row) → h.timing ≡ timing → fault_behind kinds s h row ≡ None
     → test_late timing s.slack (own_times timing h.items) h.last (time_in row) ≡ None
 passes_late timing kinds s h row timed e =
@@ -490,10 +500,10 @@ settled_more timing kinds s above lines next passes at t e =
 
 pub behind_row : (timing : Timing) (fits : IsTiming timing) (kinds : List Kind) (s : Source) (first : ℕ) (above : Option ℕ) (lines : List Next)
     (h : HeldSource) (mid new : Inlet) (line : ℕ) (row : Row) → IsHeldBehind timing kinds first s above lines h → mid.timing ≡ timing
-    → h.closed ≡ false → mid.items ≡ h.items → mid.last ≡ h.last → mid.ended ≡ h.ended → mid.goal ≡ h.goal → mid.rows.file ≡ s.file
-    → PutsIn kinds s first row mid new
+    → h.closed ≡ false → mid.items ≡ h.items → mid.first ≡ h.first → mid.last ≡ h.last → mid.ended ≡ h.ended → mid.goal ≡ h.goal
+    → mid.rows.file ≡ s.file → PutsIn kinds s first row mid new
     → IsHeldBehind timing kinds first s above (lines ++ RowNext line row ∷ []) (source_of new)
-behind_row timing fits kinds s first above lines h mid new line row is timed goes items last ended goal file puts =
+behind_row timing fits kinds s first above lines h mid new line row is timed goes items earliest last ended goal file puts =
     let at : IsSettled (margin timing s.slack) is.low h.last = border_settled timing kinds s first above lines h is goes in
     let tests = (or_else-none _ (test_held mid.held (items_in (width s) row)) (sym (fault_parts kinds s mid row) ∙ puts.passes)).0 in
     let fault = fault_held timing fits kinds s first above lines h mid row is timed goes items last ended ∙ tests in
@@ -509,6 +519,8 @@ behind_row timing fits kinds s first above lines h mid new line row is timed goe
           ∙ ap (λ (own : Timing). put_timed (time_in row) (item_of kinds s first (at_moment own (own_times own mid.items) row)) mid.items) timed
           ∙ row_items timing fits kinds s first is.low (rows_of lines) row mid.items up (items ∙ is.items)
           ∙ ap (λ l. map (item_of kinds s first) (in_time_order (at_moments timing [] (rows_between is.low Closed l)))) (sym (rows_more lines line row));
+      earliest = puts.earliest ∙ row_first (rows_of lines) row mid.first (earliest ∙ is.earliest)
+          ∙ ap (λ l. least (times_of l)) (sym (rows_more lines line row));
       last = puts.last ∙ row_last (rows_of lines) row mid.last (last ∙ is.last) ∙ ap (λ l. greatest (times_of l)) (sym (rows_more lines line row));
       ended = puts.ended ∙ ap (λ b. b || is_end row) (ended ∙ is.ended) ∙ sym (ended_more (rows_of lines) row) ∙ ap has_ended (sym (rows_more lines line row));
       settled = λ open' t e. settled_more timing kinds s is.low lines (RowNext line row) passes (is.settled goes) t e;
@@ -533,10 +545,10 @@ defect_held timing kinds s first above lines h next is other =
 
 pub behind_end : (timing : Timing) (kinds : List Kind) (s : Source) (first : ℕ) (above : Option ℕ) (lines : List Next) (old new : HeldSource) (next : Next)
     → IsHeldBehind timing kinds first s above lines old → IsNoRow next
-    → defect_behind old.ended next ≡ None → new.items ≡ old.items → new.last ≡ old.last → new.ended ≡ old.ended → new.closed ≡ true → new.goal ≡ old.goal
-    → new.place.file ≡ s.file
+    → defect_behind old.ended next ≡ None → new.items ≡ old.items → new.first ≡ old.first → new.last ≡ old.last → new.ended ≡ old.ended → new.closed ≡ true
+    → new.goal ≡ old.goal → new.place.file ≡ s.file
     → IsHeldBehind timing kinds first s above (lines ++ next ∷ []) new
-behind_end timing kinds s first above lines old new next is other none items last ended closed goal file =
+behind_end timing kinds s first above lines old new next is other none items earliest last ended closed goal file =
     let rows = no_row_more lines next other in
     record {
       file = file;
@@ -544,6 +556,7 @@ behind_end timing kinds s first above lines old new next is other none items las
       low = is.low;
       items = items ∙ is.items
           ∙ ap (λ l. map (item_of kinds s first) (in_time_order (at_moments timing [] (rows_between is.low Closed l)))) (sym rows);
+      earliest = earliest ∙ is.earliest ∙ ap (λ l. least (times_of l)) (sym rows);
       last = last ∙ is.last ∙ ap (λ l. greatest (times_of l)) (sym rows);
       ended = ended ∙ is.ended ∙ ap has_ended (sym rows);
       settled = λ open' t e. absurd (not_both new.closed closed open');
@@ -589,6 +602,7 @@ well_row timing fits kinds s first border old mid new row well same_timing goes 
       timing_is = puts.timing ∙ timed;
       file = ap (λ (place : Place). place.file) puts.rows ∙ file;
       goal = λ t e. well.goal t (sym same ∙ e);
+      clock = λ ticks. absurd (not_both old.closed (well.clock ticks) goes);
       above = λ none. ap all (puts.items ∙ ap put timed)
           ∙ all_timed timing fits kinds s first border row (own_times timing mid.items) mid.items (up (sym same ∙ none))
           (ap all items ∙ well.above (sym same ∙ none));
@@ -679,6 +693,7 @@ behind_caught timing fits kinds s first above lines old new timed c is = by_item
       sound = is.sound;
       low = is.low;
       items = items ∙ is.items;
+      earliest = c.first ∙ is.earliest;
       last = c.last ∙ is.last;
       ended = c.ended ∙ is.ended;
       settled = λ open'. is.settled (sym c.closed ∙ open');
@@ -692,6 +707,7 @@ behind_caught timing fits kinds s first above lines old new timed c is = by_item
       low = Some t;
       items = items ∙ left_at t (λ l e. low_under (margin old.timing s.slack) t l old.last at
           (let k = is.settled goes l e in (k.0, settles ∙ k.1, k.2)));
+      earliest = c.first ∙ is.earliest;
       last = c.last ∙ is.last;
       ended = c.ended ∙ is.ended;
       settled = λ open' v e. settled_at v (t, at, let same : t ≡ v = some_is e in omega (arith, same));
@@ -704,6 +720,7 @@ behind_caught timing fits kinds s first above lines old new timed c is = by_item
       sound = is.sound;
       low = Some goal;
       items = items ∙ left_at goal (λ l e. under_goal is.low above goal l is.up_to (is.goal goal was) e);
+      earliest = c.first ∙ is.earliest;
       last = c.last ∙ is.last;
       ended = c.ended ∙ is.ended;
       settled = λ open' v e. settled_at v (let k = at (sym c.closed ∙ open') in let same : goal ≡ v = some_is e in (k.0, k.1, omega (arith, same, k.2)));
@@ -727,6 +744,7 @@ well_caught timing s border old new c well = by_items c.items
       timing_is = c.timing ∙ well.timing_is;
       file = ap (λ (place : Place). place.file) c.rows ∙ well.file;
       goal = λ t e. well.goal t (sym goal ∙ e);
+      clock = λ ticks. c.closed ∙ well.clock ticks;
       above = λ none. ap (list_all (λ (item : Item). is_above (border_moment timing border) (item_time item))) items ∙ well.above (sym goal ∙ none);
       settled = λ none open' t e. let k = well.settled (sym goal ∙ none) (sym c.closed ∙ open') t e in (k.0, settles ∙ k.1, k.2);
     }
@@ -734,6 +752,7 @@ well_caught timing s border old new c well = by_items c.items
       timing_is = c.timing ∙ well.timing_is;
       file = ap (λ (place : Place). place.file) c.rows ∙ well.file;
       goal = λ v e. well.goal v (was ∙ sym now ∙ e);
+      clock = λ ticks. c.closed ∙ well.clock ticks;
       above = λ none. one_of_both new.goal goal now none;
       settled = λ none. one_of_both new.goal goal now none;
     }
@@ -743,6 +762,7 @@ well_caught timing s border old new c well = by_items c.items
           timing_is = c.timing ∙ well.timing_is;
           file = ap (λ (place : Place). place.file) c.rows ∙ well.file;
           goal = λ v e. one_of_both new.goal v e now;
+          clock = λ ticks. c.closed ∙ well.clock ticks;
           above = λ none.
               ap (λ (b : Option ℕ). list_all (λ (item : Item). is_above (border_moment timing b) (item_time item)) new.items) is
               ∙ ap (list_all (λ (item : Item). nat_lt (last_moment timing goal) (item_time item)))

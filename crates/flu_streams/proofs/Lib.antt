@@ -7,6 +7,7 @@ pub mod Moved
 pub mod Ranges
 pub mod Gatherings
 pub mod Streamings
+pub mod SourceFiles
 pub mod Turns
 pub mod Placing
 pub mod Between
@@ -15,6 +16,9 @@ pub mod Keyed
 pub mod Cutting
 pub mod BorderLaws
 pub mod RoundLaws
+pub mod Ticks
+pub mod InTurn
+pub mod LastRound
 pub mod CountLaws
 pub mod RoundEnds
 pub mod Counting
@@ -22,12 +26,19 @@ pub mod Counted
 pub mod HeldRows
 pub mod Refilling
 pub mod Whole
+pub mod Spans
+pub mod ClockTimes
+pub mod TickItems
 pub mod Starts
 pub mod Rounding
 pub mod RoundOf
 pub mod Ranks
+pub mod Ticking
+pub mod TickLists
+pub mod OneSource
 pub mod Bounds
 pub mod RefillEnds
+pub mod Filled
 pub mod Cuts
 pub mod Fronts
 pub mod Later

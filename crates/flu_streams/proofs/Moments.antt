@@ -2,6 +2,7 @@
 use Rattle.std.proofs.Common.{◌≡◌, ℕ, ◌+◌, ◌-◌, ◌*◌, ◌/◌, ◌%◌, ◌^◌, ◌<◌, ◌≤◌, min, Bool, true, false, cond, ◌&&◌, List, [], ◌∷◌, ◌++◌, Option, Some, None}
 use Rattle.std.proofs.Common.{refl, sym, ap, ◌∙◌, inl, inr, arith, append_assoc}
 use Rattle.std.specs.Prelude.{nat_lt, nat_le, max, length, ◌==◌, ◌||◌, if◌then◌else◌}
+use Rattle.std.specs.Option.{option_map_or}
 use Rattle.std.proofs.Math.Nat.{mul-le-mul_left, div-mul-le_self}
 use Rattle.std.proofs.lemmas.Bool.{cases_lt, cases_eq}
 use Rattle.std.proofs.lemmas.Bool.Decides.{nat_tests}
@@ -12,7 +13,10 @@ use Rattle.flu_lemmas.proofs.Counting.{times_append, times_of_other}
 use Rattle.flu_lemmas.proofs.Tests.{and_left, and_right}
 use Rattle.flu_model.specs.declared.jobs.Program.{Program}
 use Rattle.flu_model.specs.declared.moments.Timing.{Timing}
-use Rattle.flu_model.specs.Moments.{moments_a_time, time_of_moment, timing_of, moment_at, last_moment, IsTiming}
+use Rattle.flu_model.specs.Moments.{moments_a_time, time_of_moment, timing_of, moment_at, last_moment, IsTiming, end_of_times, limit_of_times}
+use Rattle.flu_model.proofs.TimeLemmas.{end_within}
+use Rattle.flu_calendar.specs.declared.unit.Unit.{Unit}
+use Rattle.flu_calendar.specs.Units.{times_end}
 use Rattle.flu_rows.specs.declared.row.Row.{Row}
 use Rattle.flu_rows.specs.declared.row.Row.TheVariants.{Event, Beat, End}
 use Rattle.flu_streams.specs.declared.border.Border.{Border}
@@ -199,15 +203,16 @@ scale_by-some : (several : Bool) (count ties : ℕ) → 1 ≤ ties → 0 < scale
 scale_by-some true count ties some = let more = product_le 1 (max 1 count) ties (omega arith) in omega (arith, some, more)
 scale_by-some false count ties some = omega arith
 
-fits_by : (several : Bool) (count ties i : ℕ) → 1 ≤ ties → ties ≤ 2 ^ 31 → (several || (ties == 1)) ≡ true → count ≤ 64 → i < count
-    → IsTiming (record { several = several; scale = scale_by several count ties; offset = if several then i * ties else 0; ties = ties })
-fits_by true count ties i some most one few lt =
+fits_by : (several : Bool) (count ties end i : ℕ) → 1 ≤ ties → ties ≤ 2 ^ 31 → (several || (ties == 1)) ≡ true → count ≤ 64 → i < count
+    → end ≤ 2 ^ 63 / scale_by several count ties
+    → IsTiming (record { several = several; scale = scale_by several count ties; offset = if several then i * ties else 0; ties = ties; end = end })
+fits_by true count ties end i some most one few lt range =
     let own = product_le (i + 1) (max 1 count) ties (omega (arith, lt)) in
     let all = product_le (max 1 count) 64 ties (omega (arith, few)) in
-    record { some = omega (arith, some); within = omega (arith, own); few = omega (arith, all, most) }
-fits_by false count ties i some most one few lt =
+    record { some = omega (arith, some); within = omega (arith, own); few = omega (arith, all, most); range = range }
+fits_by false count ties end i some most one few lt range =
     let alone = ties_of_one ties one in
-    record { some = omega (arith, some); within = omega (arith, alone); few = omega arith }
+    record { some = omega (arith, some); within = omega (arith, alone); few = omega arith; range = range }
 
 ties_range : (p : Program) → (nat_le 1 p.ties && nat_le p.ties (2 ^ 31)) ≡ true
 ties_range p = and_left (nat_le 1 p.ties && nat_le p.ties (2 ^ 31)) ((p.version == 3) || (p.ties == 1)) p.known_ties
@@ -218,10 +223,24 @@ ties_some p = let e = and_left (nat_le 1 p.ties) (nat_le p.ties (2 ^ 31)) (ties_
 ties_most : (p : Program) → p.ties ≤ 2 ^ 31
 ties_most p = let e = and_right (nat_le 1 p.ties) (nat_le p.ties (2 ^ 31)) (ties_range p) in grind (arith, nat_tests)
 
+limit_within : (most : ℕ) (iso : Option Unit) → option_map_or (λ (unit : Unit). min most (times_end unit)) iso most ≤ most
+limit_within most None = omega arith
+limit_within most (Some unit) = omega arith
+
+pub end_limit : (p : Program) → limit_of_times p ≤ 2 ^ 63 / moments_a_time p
+end_limit p = limit_within (2 ^ 63 / moments_a_time p) p.iso
+
+-- times are below 2^63, and so are their moments
+pub end_range : (p : Program) → end_of_times p ≤ 2 ^ 63 / moments_a_time p
+end_range p =
+    let first = end_within (limit_of_times p) p.sources in
+    let most = limit_within (2 ^ 63 / moments_a_time p) p.iso in
+    omega (arith, first, most)
+
 pub timing_fits : (p : Program) (i : ℕ) → i < length p.sources → IsTiming (timing_of p i)
 timing_fits p i lt =
-    fits_by (p.version == 3) (length p.sources) p.ties i (ties_some p) (ties_most p)
-    (and_right (nat_le 1 p.ties && nat_le p.ties (2 ^ 31)) ((p.version == 3) || (p.ties == 1)) p.known_ties) p.few_sources lt
+    fits_by (p.version == 3) (length p.sources) p.ties (end_of_times p) i (ties_some p) (ties_most p)
+    (and_right (nat_le 1 p.ties && nat_le p.ties (2 ^ 31)) ((p.version == 3) || (p.ties == 1)) p.known_ties) p.few_sources lt (end_range p)
 
 pub timing_scale : (p : Program) (i : ℕ) → (timing_of p i).scale ≡ moments_a_time p
 timing_scale p i = refl

@@ -1,10 +1,13 @@
 -- Programs of one job read the same of the same files.
-use Rattle.std.proofs.Common.{◌≡◌, refl, sym, ap, ◌∙◌, ℕ, ◌+◌, ◌==◌, ℤ, List, [], ◌∷◌, ◌++◌, length, Bool, false, map, Option, Some, None}
+use Rattle.std.proofs.Common.{◌≡◌, refl, sym, ap, ◌∙◌, ℕ, ◌+◌, ◌/◌, ◌^◌, min, ◌==◌, ℤ, List, [], ◌∷◌, ◌++◌, length, Bool, false, map, Option, Some, None}
 use Rattle.std.specs.Prelude.{option_map, option_and_then, unwrap_or, is_none, is_some, not, slice_get, sum_by, if◌then◌else◌, ◌*◌, max}
 use Rattle.std.specs.List.{position, filter_map, flat_map, range_with_len}
+use Rattle.std.specs.Option.{option_map_or}
 use Rattle.std.proofs.Math.Path.{fun_ext}
 use Rattle.std.proofs.lemmas.Option.{slice_get-map}
 use Rattle.flu_lemmas.proofs.Places.{position-map}
+use Rattle.flu_calendar.specs.declared.unit.Unit.{Unit}
+use Rattle.flu_calendar.specs.Units.{times_end}
 use Rattle.flu_model.specs.declared.events.Item.TheVariants.{Event as EventItem, End as EndItem}
 use Rattle.flu_model.specs.declared.events.Tag.{Tag}
 use Rattle.flu_model.specs.declared.jobs.Kind.{Kind}
@@ -13,8 +16,11 @@ use Rattle.flu_model.specs.declared.jobs.Source.{Source}
 use Rattle.flu_model.specs.declared.moments.Timing.{Timing}
 use Rattle.flu_model.specs.Erasure.{PlainKind, plain_kind, Job, IsSameJob}
 use Rattle.flu_model.specs.Listing.{tag, tags_of_source}
-use Rattle.flu_model.specs.Rules.{is_same_text, is_same_tag}
-use Rattle.flu_outside.specs.Taking.{bytes_left}
+use Rattle.flu_model.specs.Moments.{end_with_clocks}
+use Rattle.flu_model.specs.Rules.{is_same_text, is_same_tag, is_clock}
+use Rattle.flu_moments.specs.Clocks.{ticks_among}
+use Rattle.flu_moments.specs.Moments.{moment}
+use Rattle.flu_outside.specs.Outside.{Contents}
 use Rattle.flu_rows.specs.declared.row.RowForm.{RowForm}
 use Rattle.flu_rows.specs.declared.row.Fields.{Fields}
 use Rattle.flu_rows.specs.declared.row.Row.{Row}
@@ -23,14 +29,16 @@ use Rattle.flu_rows.specs.declared.rows.Next.{Next}
 use Rattle.flu_rows.specs.declared.rows.Next.TheVariants.{Row as RowNext, Bad, TooManyLines, Done}
 use Rattle.flu_rows.specs.Row.{form_of}
 use Rattle.flu_rows.specs.Reading.{read_file}
+use Rattle.flu_streams.specs.declared.faults.SourceFault.{SourceFault}
 use Rattle.flu_streams.specs.declared.faults.Why.{Why}
 use Rattle.flu_streams.specs.declared.faults.Why.TheVariants.{BadRow, UnknownTag, UnknownItem, AfterEnd}
-use Rattle.flu_streams.specs.Before.{each_with_before, first_some}
-use Rattle.flu_streams.specs.Good.{rows_in, items_held, event_of, item_in, at_moments, in_time_order, lists_of_rows, lists_of, first_fault}
+use Rattle.flu_streams.specs.Before.{each_with_before, first_some, or_else}
+use Rattle.flu_streams.specs.Clocks.{Declared, lists_of_ticks, count_of_ticks, fault_of_ticks}
+use Rattle.flu_streams.specs.Good.{lines_in, rows_in, items_held, event_of, item_in, at_moments, in_time_order, lists_of_rows, lists_of, first_fault}
 use Rattle.flu_streams.specs.OneJob.{ReadRowsAlike, ReadTheSame}
 use Rattle.flu_streams.specs.Rounds.{row_fault, line_defect, defect_in}
 use Rattle.flu_streams.specs.Tags.{kind_named, key_named, tag_named, place_named, given, given_by, given_to, is_known, width}
-use Rattle.flu_streams.specs.Tests.{where_true, test_range, test_time, test_items, tests, defect_of, first_defect, has_ended, times_of, items_of}
+use Rattle.flu_streams.specs.Tests.{where_true, test_range, test_time, test_items, tests, defect_of, first_of, first_defect, has_ended, times_of, items_of}
 use Rattle.flu_streams.specs.Tests.{rows_of}
 
 -- ---- what a row's tag and fields are tested by depends on the kinds without their actions
@@ -120,6 +128,9 @@ module _ (kinds others : List Kind) (alike : map plain_kind kinds ≡ map plain_
   same_first_defect timing form = λ j s held bytes.
       first_some (λ (e : List Next × Next). same_defect timing s held e.0 e.1 j) (each_with_before (read_file form bytes))
 
+  same_first_of : (timing : Timing) → first_of timing kinds ≡ first_of timing others
+  same_first_of timing = λ j s held read. first_some (λ (e : List Next × Next). same_defect timing s held e.0 e.1 j) (each_with_before read)
+
   -- ---- and the defects of lines
   same_row_fault : (timing : Timing) (s : Source) (ended : Bool) (earlier : List ℕ) (row : Row)
       → row_fault timing kinds s ended earlier row ≡ row_fault timing others s ended earlier row
@@ -160,27 +171,55 @@ module _ (kinds others : List Kind) (alike : map plain_kind kinds ≡ map plain_
 
 -- ---- the sources of a job
 -- how the rows of a source are numbered depends on the job alone
+abbrev scale_in : Job → ℕ
+scale_in j = if j.version == 3 then max 1 (length j.sources) * j.ties else 1
+
+abbrev limit_in : Job → ℕ
+limit_in j = option_map_or (λ (unit : Unit). min (2 ^ 63 / scale_in j) (times_end unit)) j.iso (2 ^ 63 / scale_in j)
+
 abbrev pub timing_in : Job → ℕ → Timing
 timing_in j number = record {
   several = j.version == 3;
   scale = if j.version == 3 then max 1 (length j.sources) * j.ties else 1;
   offset = if j.version == 3 then number * j.ties else 0;
   ties = j.ties;
+  end = end_with_clocks (limit_in j) j.sources;
 }
+
+-- and so do the ticks of a clock among the rows of the files
+abbrev ranks_by : Job → Contents → List ℕ
+ranks_by j left =
+    flat_map (λ (e : Declared). map (λ time. moment (length j.sources) 1 time (length e.0) 0) (times_of (rows_in (form_of j) left e.1)))
+    (each_with_before j.sources)
+
+abbrev ticks_by : Job → Contents → Declared → List ℕ
+ticks_by j left e = option_map_or (λ every. ticks_among (length j.sources) 1 every (length e.0) (ranks_by j left)) e.1.every []
+
+abbrev clock_fault : Job → Contents → Option SourceFault
+clock_fault j left =
+    first_some (λ (e : Declared). fault_of_ticks (length e.0) (items_held (form_of j) left j.sources + count_of_ticks (ticks_by j left) e.0)
+    (ticks_by j left e))
+    (each_with_before j.sources)
 
 module _ (p q : Program) (same : IsSameJob p q) where
   alike_rows : ReadRowsAlike p.kinds q.kinds
   alike_rows = rows_alike p.kinds q.kinds (ap (λ j. j.kinds) same)
 
+  alike_lines : (timing : Timing) → first_of timing p.kinds ≡ first_of timing q.kinds
+  alike_lines = same_first_of p.kinds q.kinds (ap (λ j. j.kinds) same)
+
   same_faults : first_fault p ≡ first_fault q
-  same_faults = λ i left. first_some (λ (e : List Source × Source).
-      option_map (λ (d : ℕ × Why). record { source = length e.0; row = d.0; why = d.1 })
-      (alike_rows.defects (timing_in (same i) (length e.0)) (form_of (same i)) i e.1 (items_held (form_of (same i)) left e.0) (bytes_left left e.1.file)))
-      (each_with_before (same i).sources)
+  same_faults = λ i left. or_else
+      (first_some (λ (e : Declared). option_map (λ (d : ℕ × Why). record { source = length e.0; row = d.0; why = d.1 })
+      (alike_lines (timing_in (same i) (length e.0)) i e.1 (items_held (form_of (same i)) left e.0) (lines_in (form_of (same i)) left e.1)))
+      (each_with_before (same i).sources))
+      (clock_fault (same i) left)
 
   same_lists : lists_of p ≡ lists_of q
-  same_lists = λ i left. flat_map (λ (e : List Source × Source). alike_rows.lists (timing_in (same i) (length e.0)) i e.1 (sum_by width e.0)
-      (rows_in (form_of (same i)) left e.1)) (each_with_before (same i).sources)
+  same_lists = λ i left. flat_map (λ (e : Declared).
+      if is_clock e.1 then lists_of_ticks (timing_in (same i) (length e.0)) e.1 (sum_by width e.0) (ticks_by (same i) left e)
+      else alike_rows.lists (timing_in (same i) (length e.0)) i e.1 (sum_by width e.0) (rows_in (form_of (same i)) left e.1))
+      (each_with_before (same i).sources)
 
 pub jobs_read_the_same : (p q : Program) → IsSameJob p q → ReadTheSame p q
 jobs_read_the_same p q same = record { rows = alike_rows p q same; faults = same_faults p q same; lists = same_lists p q same }

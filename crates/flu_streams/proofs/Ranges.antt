@@ -4,8 +4,8 @@ use Rattle.std.proofs.Common.{arith}
 use Rattle.std.specs.Prelude.{not, nat_lt, option_map}
 use Rattle.std.specs.List.{AllByRecursion}
 use Rattle.std.proofs.Math.Nat.{div-mul-le_self}
-use Rattle.std.proofs.lemmas.Bool.Decides.{nat_tests}
 use Rattle.flu_lemmas.specs.Counting.{times}
+use Rattle.flu_lemmas.proofs.Tests.{true_lt}
 use Rattle.flu_model.specs.declared.jobs.Kind.{Kind}
 use Rattle.flu_model.specs.declared.jobs.Source.{Source}
 use Rattle.flu_model.specs.declared.moments.Timing.{Timing}
@@ -31,9 +31,11 @@ abbrev pub IsLow : Row → Type 0
 IsLow row = time_at row < 2 ^ 63
 
 module _ (timing : Timing) (fits : IsTiming timing) where
-  pub moment_low : (time before : ℕ) → nat_lt time (2 ^ 63 / timing.scale) ≡ true → moment_at timing time before < 2 ^ 63
+  pub moment_low : (time before : ℕ) → nat_lt time timing.end ≡ true → moment_at timing time before < 2 ^ 63
   moment_low time before lt =
-      let below : time + 1 ≤ 2 ^ 63 / timing.scale = grind (arith, nat_tests) in
+      let early : time < timing.end = true_lt time timing.end lt in
+      let range = fits.range in
+      let below : time + 1 ≤ 2 ^ 63 / timing.scale = omega (arith, early, range) in
       let some = fits.some in
       let within = fits.within in
       let more = product_le (time + 1) (2 ^ 63 / timing.scale) timing.scale below in

@@ -1,5 +1,6 @@
 -- What a refill leaves, where it is done and where it stops.
-use Rattle.std.proofs.Common.{◌≡◌, ℕ, ◌≤◌, true, false, List, ◌∷◌, ◌++◌, length, take, map, Option, Some, None, refl, sym, ap, subst, ◌∙◌, append_assoc, arith}
+use Rattle.std.proofs.Common.{◌≡◌, ℕ, ◌-◌, ◌/◌, ◌^◌, ◌<◌, ◌≤◌, true, false, List, ◌∷◌, ◌++◌, length, take, map, Option, Some, None, refl, sym, ap, subst}
+use Rattle.std.proofs.Common.{◌∙◌, append_assoc, arith}
 use Rattle.std.specs.Prelude.{is_some, slice_get}
 use Rattle.std.specs.List.{list_all}
 use Rattle.std.proofs.lemmas.List.{length-map, take_all}
@@ -7,11 +8,12 @@ use Rattle.std.proofs.lemmas.Option.{slice_get_within}
 use Rattle.flu_model.specs.Erasure.{job_of}
 use Rattle.flu_lemmas.specs.Elements.{AtEach}
 use Rattle.flu_lemmas.proofs.Places.{slice_get-there}
-use Rattle.flu_lemmas.proofs.Tests.{not_both}
+use Rattle.flu_lemmas.proofs.Tests.{not_both, and_left}
 use Rattle.flu_model.specs.declared.jobs.Source.{Source}
 use Rattle.flu_model.specs.declared.jobs.Program.{Program}
 use Rattle.flu_model.specs.declared.moments.Timing.{Timing}
-use Rattle.flu_model.specs.Moments.{timing_of}
+use Rattle.flu_model.specs.Moments.{timing_of, limit_of_times, moments_a_time}
+use Rattle.std.proofs.Math.Nat.{div-le_self}
 use Rattle.flu_outside.specs.Outside.{Contents, WhereTold, Rose}
 use Rattle.flu_outside.specs.Taking.{IsReadOut}
 use Rattle.flu_rows.specs.declared.rows.Next.{Next}
@@ -27,15 +29,22 @@ use Rattle.flu_streams.specs.declared.held.Stage.TheVariants.{Filled}
 use Rattle.flu_streams.specs.declared.inlet.Inlet.{Inlet}
 use Rattle.flu_streams.specs.declared.stop.Stop.{Stop}
 use Rattle.flu_streams.specs.declared.stop.Stop.TheVariants.{Defect, ReadFault, NoMemory}
-use Rattle.flu_streams.specs.Holding.{HeldSource, IsHeldBehind, AreHeldBehind, AreClosed, ClosedAreReadOut, IsNewBorder, IsRefillFault, HidesNoRoundFault, first_itag}
+use Rattle.flu_streams.specs.Holding.{HeldSource, IsHeldBehind, AreHeldBehind, AreClosed, ClosedAreReadOut, IsNewBorder, IsRefillFault, HidesNoRoundFault}
+use Rattle.flu_streams.specs.Holding.{first_itag}
 use Rattle.flu_streams.specs.Holding.{unread_source, still}
 use Rattle.flu_streams.specs.Lists.{item_time}
 use Rattle.flu_streams.specs.LoopStop.{fault_of_stop}
-use Rattle.flu_streams.specs.LoopHeld.{source_of, IsRefilled, MeetsDefect, IsStopOf, HasRefilled, StopsAtSource, IsSettledAt, IsSettledBy, IsTurnOf, IsWellAt, StopsBehind, AreTimed}
+use Rattle.flu_streams.specs.LoopHeld.{source_of, earliest, IsRefilled, MeetsDefect, IsStopOf, HasRefilled, StopsAtSource, IsSettledAt, IsSettledBy}
+use Rattle.flu_streams.specs.LoopHeld.{IsTurnOf, IsWellAt, StopsBehind, AreTimed}
 use Rattle.flu_streams.specs.LoopMoments.{border_moment}
 use Rattle.flu_streams.specs.LoopHeld.{AreWell, AreCaughtUp, AreUncounted, IsWell, IsFew, count_above}
 use Rattle.flu_streams.specs.Before.{or_else}
-use Rattle.flu_streams.specs.Rounds.{Reads, Meets, IsWithin, line_defect, defect_in, is_above, is_enough}
+use Rattle.flu_streams.specs.declared.clocks.Span.{Span}
+use Rattle.flu_streams.specs.Clocks.{Declared, ticks_of}
+use Rattle.flu_streams.specs.LoopClocks.{IsNotAbove, IsByTicks, EndsByTicks, Stays, Lowers, last_in_span, ranks_in, span_of}
+use Rattle.flu_streams.specs.Rounds.{Turn, Open, Shut, Reads, Meets, IsWithin, line_defect, defect_in, is_above, is_within, is_enough}
+use Rattle.flu_streams.proofs.Moments.{end_limit}
+use Rattle.flu_streams.proofs.Ticking.{passes_at, few_ticks}
 use Rattle.flu_streams.proofs.Counted.{never_many}
 use Rattle.flu_streams.proofs.RoundLaws.{or_none}
 use Rattle.flu_streams.proofs.RoundOf.{told_from, at_told, choose, reads_at, turn_of, passed, holding, behind_at, all_closed, earliest_within, earliest_among}
@@ -67,7 +76,7 @@ one_of p rows olds news a b end count has i s at =
 own_well : (p : Program) (i : ℕ) (s : Source) (border : Option ℕ) (h : Inlet) → IsWellAt (timing_of p i) s border h → IsWellAt h.timing s border h
 own_well p i s border h well = subst (λ (timing : Timing). IsWellAt timing s border h) (sym well.timing_is) well
 
-pub refill_border : (p : Program) (rows : ℕ) (border : Option ℕ) (olds news : List Inlet) (a b : Option Contents) (end : Border)
+refill_border : (p : Program) (rows : ℕ) (border : Option ℕ) (olds news : List Inlet) (a b : Option Contents) (end : Border)
     → AreWell p rows border olds → HasRefilled p rows olds news a b end → IsNewBorder border end
 refill_border p rows border olds news a b Closed well has = tt
 refill_border p rows border olds news a b (At t) well has =
@@ -76,6 +85,23 @@ refill_border p rows border olds news a b (At t) well has =
     let one = one_of p rows olds news a b (At t) well.count has low.0 s.0 s.1 in
     let same : one.end ≡ At t = one_there has.ends low.0 one.end (At t) one.at_end low.1 in
     subst (IsNewBorder border) same (one.done.border border (own_well p low.0 s.0 border one.old (well.each low.0 s.0 s.1 one.old one.was)))
+
+-- the last tick of a clock is above the border
+new_tick : (p : Program) (rows t : ℕ) (border : Option ℕ) (span : Option Span) (e : Declared) → last_in_span p rows border span e ≡ Some t
+    → t < limit_of_times p → IsNewBorder border (At t)
+new_tick p rows t border span e at lt =
+    let up = passes_at (is_within border Closed) (ticks_of p (ranks_in span) e) (rows - 1) t at in
+    let most = end_limit p in
+    let whole = div-le_self (2 ^ 63) (moments_a_time p) in
+    (and_left (is_above border t) true up, omega (arith, lt, most, whole))
+
+pub lowered_border : (p : Program) (rows : ℕ) (border : Option ℕ) (span : Option Span) (olds news : List Inlet) (a b : Option Contents) (end low : Border)
+    → AreWell p rows border olds → HasRefilled p rows olds news a b end → IsByTicks p rows border span end low → IsNewBorder border low
+lowered_border p rows border span olds news a b end low well has ticks = by_end ticks.ends
+  where
+    by_end : EndsByTicks p rows border span end low → IsNewBorder border low
+    by_end (Stays is) = subst (IsNewBorder border) (sym is) (refill_border p rows border olds news a b end well has)
+    by_end (Lowers i s t at last lt is) = subst (IsNewBorder border) (sym is) (new_tick p rows t border span (take i p.sources, s) last lt)
 
 refill_keeps : (p : Program) (rows : ℕ) (border : Option ℕ) (olds news : List Inlet) (a b : Option Contents) (end : Border)
     → AreWell p rows border olds → HasRefilled p rows olds news a b end → AreWell p rows border news
@@ -101,15 +127,26 @@ settled_turn : (s : Source) (h : Inlet) (end : Border) (t : ℕ) → IsTurnOf s 
 settled_turn s h (At u) t turn le goes v e = let same : t ≡ v = cc in (u, turn, omega (arith, same, le))
 settled_turn s h Closed t turn le goes v e = absurd (not_both h.closed turn goes)
 
-refill_settles : (p : Program) (rows : ℕ) (border : Option ℕ) (olds news : List Inlet) (a b : Option Contents) (end : Border)
-    → AreWell p rows border olds → HasRefilled p rows olds news a b end → IsSettledBy p border end news
-refill_settles p rows border olds news a b Closed well has = tt
-refill_settles p rows border olds news a b (At t) well has = (
-  (refill_border p rows border olds news a b (At t) well has).0,
+within_lower : (t u : ℕ) (turn : Turn) → t ≤ u → IsWithin u turn → IsWithin t turn
+within_lower t u (Open v) le is = omega (arith, le, is)
+within_lower t u Shut le is = tt
+within_lower t u (Meets row why) le is = is
+
+-- a border that is not above the earliest one is within the turn of each source
+pub lowered_within : (ends : List Border) (i t : ℕ) (end own : Border) → end ≡ earliest ends → IsNotAbove (At t) end → slice_get ends i ≡ Some own
+    → IsWithin t (turn_of own)
+lowered_within ends i t Closed own is below at = subst (λ e. IsWithin t (turn_of e)) (sym (all_closed ends i own (sym is) at)) tt
+lowered_within ends i t (At u) own is below at = within_lower t u (turn_of own) below (earliest_within ends i u own (sym is) at)
+
+refill_settles : (p : Program) (rows : ℕ) (border : Option ℕ) (span : Option Span) (olds news : List Inlet) (a b : Option Contents) (end low : Border)
+    → AreWell p rows border olds → HasRefilled p rows olds news a b end → IsByTicks p rows border span end low → IsSettledBy p border low news
+refill_settles p rows border span olds news a b end Closed well has ticks = tt
+refill_settles p rows border span olds news a b end (At t) well has ticks = (
+  (lowered_border p rows border span olds news a b end (At t) well has ticks).0,
   λ i s at h f.
-      let one = one_of p rows olds news a b (At t) well.count has i s at in
+      let one = one_of p rows olds news a b end well.count has i s at in
       subst (IsSettledAt s (Some t)) (one_there news i one.new h one.is f)
-      (settled_turn s one.new one.end t one.done.turn (earliest_within has.ends i t one.end (sym has.earliest) one.at_end)),
+      (settled_turn s one.new one.end t one.done.turn (lowered_within has.ends i t end one.end has.earliest ticks.below one.at_end)),
 )
 
 refill_caught : (p : Program) (rows : ℕ) (border : Option ℕ) (olds news : List Inlet) (a b : Option Contents) (end : Border)
@@ -119,13 +156,15 @@ refill_caught p rows border olds news a b end well has i h f =
     let one = one_of p rows olds news a b end well.count has i s.0 s.1 in
     ap (λ (g : Inlet). g.goal) (sym (one_there news i one.new h one.is f)) ∙ one.done.caught
 
-pub refill_well : (p : Program) (rows : ℕ) (border : Option ℕ) (olds news : List Inlet) (a b : Option Contents) (end : Border)
-    → AreWell p rows border olds → HasRefilled p rows olds news a b end → AreUncounted news → IsWell p rows border (Filled end) news
-refill_well p rows border olds news a b end well has free = (
+pub refill_well : (p : Program) (rows : ℕ) (border : Option ℕ) (olds news : List Inlet) (a b : Option Contents) (end low : Border)
+    → AreWell p rows border olds → HasRefilled p rows olds news a b end → IsByTicks p rows border (span_of p news) end low → AreUncounted news
+    → IsWell p rows border (Filled low) news
+refill_well p rows border olds news a b end low well has ticks free = (
   (
     refill_keeps p rows border olds news a b end well has,
-    refill_settles p rows border olds news a b end well has,
+    refill_settles p rows border (span_of p news) olds news a b end low well has ticks,
     refill_caught p rows border olds news a b end well has,
+    few_ticks p rows border (span_of p news) low well.some ticks.most,
   ),
   free,
 )
@@ -133,17 +172,22 @@ refill_well p rows border olds news a b end well has free = (
 pub refill_out : (p : Program) (rows : ℕ) (border : Option ℕ) (stage stage' : Stage) (olds news : List Inlet) (a b : Option Contents) (end : Border)
     → AreWell p rows border olds → HasRefilled p rows olds news a b end
     → ClosedAreReadOut (holding p rows border stage olds) a → ClosedAreReadOut (holding p rows border stage' news) b
-refill_out p rows border stage stage' olds news a b end well has was i source f closed =
+refill_out p rows border stage stage' olds news a b end well has was i s at source f goes closed =
     let k = from_mapped source_of news i source f in
-    let s = slice_get-there p.sources i (rw (← well.count, ← has.all.size) (slice_get_within news i k.0 k.1)) in
-    let one = one_of p rows olds news a b end well.count has i s.0 s.1 in
+    let one = one_of p rows olds news a b end well.count has i s at in
     let same : one.new ≡ k.0 = one_there news i one.new k.0 one.is k.1 in
-    let file_was : one.old.rows.file ≡ s.0.file = (well.each i s.0 s.1 one.old one.was).file in
-    let file_is : k.0.rows.file ≡ s.0.file = ((refill_keeps p rows border olds news a b end well has).each i s.0 s.1 k.0 k.1).file in
+    let file_was : one.old.rows.file ≡ s.file = (well.each i s at one.old one.was).file in
+    let file_is : k.0.rows.file ≡ s.file = ((refill_keeps p rows border olds news a b end well has).each i s at k.0 k.1).file in
     let shut : one.new.closed ≡ true = ap (λ (h : Inlet). h.closed) same ∙ ap (λ (h : HeldSource). h.closed) (sym k.2) ∙ closed in
-    let out = one.done.out (λ before. subst (λ n. IsReadOut n a) file_was (was i (source_of one.old) (to_mapped source_of olds i one.old one.was) before)) shut
-    in
+    let out = one.done.out
+    (λ before. subst (λ n. IsReadOut n a) file_was (was i s at (source_of one.old) (to_mapped source_of olds i one.old one.was) goes before))
+    shut in
     subst (λ n. IsReadOut n b) (sym (ap (λ (h : HeldSource). h.place.file) k.2 ∙ file_is)) out
+
+-- the last border is Closed only where that of the sources is
+pub closed_below : (low end : Border) → IsNotAbove low end → low ≡ Closed → end ≡ Closed
+closed_below Closed end below is = below
+closed_below (At t) end below is = absurd cc
 
 pub refill_closed : (p : Program) (rows : ℕ) (border : Option ℕ) (stage : Stage) (olds news : List Inlet) (a b : Option Contents) (end : Border)
     → AreWell p rows border olds → HasRefilled p rows olds news a b end
@@ -202,7 +246,8 @@ stops_behind_at p i s rows border before old a b timed own behind =
 
 pub refill_fault : (p : Program) (rows : ℕ) (border : Option ℕ) (stage : Stage) (olds : List Inlet) (a b : Option Contents)
     (Q : Contents → Contents → Type 0) (fault : GatherFault) (faults faults' : List ℕ → ℕ) → length olds ≡ length p.sources
-    → AreTimed p olds → AreUncounted olds → WhereTold a b Q → StopsAtSource p rows olds a b faults faults' fault → IsRefillFault (holding p rows border stage olds) a b fault
+    → AreTimed p olds → AreUncounted olds → WhereTold a b Q → StopsAtSource p rows olds a b faults faults' fault
+    → IsRefillFault (holding p rows border stage olds) a b fault
 refill_fault p rows border stage olds a b Q fault faults faults' count timed free told st =
     subst (IsRefillFault (holding p rows border stage olds) a b) (sym st.cause) (by_stop st.stop st.own)
   where
@@ -267,6 +312,7 @@ refill_hides p rows border stage olds a b Q fault faults faults' count timed for
           at = length st.ends;
           source = st.source;
           is = st.is;
+          has_file = st.has_file;
           rose = rose refl;
           now = picked.0;
           more = m.more;
@@ -315,6 +361,7 @@ fresh_well p rows border inlets some most is timed = record {
         timing_is = timed i h f;
         file = ap (λ (k : HeldSource). k.place.file) same;
         goal = λ t e. ap (λ (k : HeldSource). k.goal) (sym same) ∙ e;
+        clock = λ ticks. ap (λ (k : HeldSource). k.closed) same ∙ ticks;
         above = λ none. ap (λ (k : HeldSource). list_all (λ item. is_above (border_moment (timing_of p i) border) (item_time item)) k.items) same;
         settled = λ none goes t e. absurd (no_border t (sym (ap (λ (k : HeldSource). k.goal) (sym same) ∙ none) ∙ e));
       };

@@ -115,21 +115,21 @@ pub refilling_row : (kinds : List Kind) (s : Source) (first : ℕ) (rows : Optio
     → now.timing ≡ old.timing
     → ((above : Option ℕ) (before : List Next) → IsHeldBehind old.timing kinds first s above before (source_of old)
     → IsRefilling old.timing kinds s first rows above before old now a b)
-    → now.closed ≡ false → IsShort now.timing rows s (source_of now) → mid.timing ≡ now.timing → mid.items ≡ now.items → mid.last ≡ now.last
-    → mid.ended ≡ now.ended → mid.closed ≡ now.closed → mid.goal ≡ now.goal → mid.held ≡ now.held → mid.rows.file ≡ s.file
+    → now.closed ≡ false → IsShort now.timing rows s (source_of now) → mid.timing ≡ now.timing → mid.items ≡ now.items → mid.first ≡ now.first
+    → mid.last ≡ now.last → mid.ended ≡ now.ended → mid.closed ≡ now.closed → mid.goal ≡ now.goal → mid.held ≡ now.held → mid.rows.file ≡ s.file
     → WhereTold b c (λ was is. ahead now.rows was ≡ then_behind (RowNext line row) (ahead mid.rows is)) → PutsIn kinds s first row mid new
     → (above : Option ℕ) (before : List Next) → IsHeldBehind old.timing kinds first s above before (source_of old)
     → IsRefilling old.timing kinds s first rows above before old new a c
-refilling_row kinds s first rows old now mid new a b c line row one timed so_far goes e same_timing items last ended closed goal held file told puts above
-    before is =
+refilling_row kinds s first rows old now mid new a b c line row one timed so_far goes e same_timing items earliest last ended closed goal held file told puts
+    above before is =
     let r = so_far above before is in
     let next = RowNext line row in
     let still_goes : new.closed ≡ false = puts.closed ∙ closed ∙ goes in
     record {
       more = r.more ++ next ∷ [];
       behind = subst (λ l. IsHeldBehind old.timing kinds first s above l (source_of new)) (append_assoc before r.more (next ∷ []))
-          (behind_row old.timing old.fits kinds s first above (before ++ r.more) (source_of now) mid new line row r.behind (same_timing ∙ timed) goes items last
-          ended goal file puts);
+          (behind_row old.timing old.fits kinds s first above (before ++ r.more) (source_of now) mid new line row r.behind (same_timing ∙ timed) goes items
+          earliest last ended goal file puts);
       shortest = few_more (λ l. are_enough old.timing rows above s (before ++ l)) r.more next
           (few_held kinds s first rows above before old now a b one timed r e);
       held = puts.held ∙ ap (λ o. held_with o (items_in (width s) row)) (held ∙ r.held)
@@ -307,18 +307,19 @@ pub refilled_end : (kinds : List Kind) (s : Source) (first : ℕ) (rows : Option
     → IsShort now.timing rows s (source_of now)
     → WhereTold b c (λ was is. ahead now.rows was ≡ then_behind next (ahead shut.rows is)) → IsNoRow next → defect_behind now.ended next ≡ None
     → IsReadOut s.file c
-    → shut.timing ≡ now.timing → shut.items ≡ now.items → shut.last ≡ now.last → shut.ended ≡ now.ended → shut.closed ≡ true → shut.goal ≡ now.goal
-    → shut.held ≡ now.held → shut.rows.form ≡ old.rows.form → shut.rows.file ≡ s.file
+    → shut.timing ≡ now.timing → shut.items ≡ now.items → shut.first ≡ now.first → shut.last ≡ now.last → shut.ended ≡ now.ended → shut.closed ≡ true
+    → shut.goal ≡ now.goal → shut.held ≡ now.held → shut.rows.form ≡ old.rows.form → shut.rows.file ≡ s.file
     → CatchesUp s.slack shut new
     → IsRefilled kinds s first rows old new a c Closed
-refilled_end kinds s first rows old now shut new a b c next one timed so_far well few goes e told other none read_out same_timing items last ended closed
-    goal held form file catches = record {
+refilled_end kinds s first rows old now shut new a b c next one timed so_far well few goes e told other none read_out same_timing items earliest last ended
+    closed goal held form file catches = record {
       timing = catches.timing ∙ same_timing ∙ timed;
       form = ap (λ (place : Place). place.form) catches.rows ∙ form;
       keeps = λ border was. well_caught old.timing s border shut new catches (record {
         timing_is = same_timing ∙ timed;
         file = file;
         goal = λ t e. (well border was).goal t (sym goal ∙ e);
+        clock = λ ticks. closed;
         above = λ none'. ap (list_all (λ (item : Item). is_above (border_moment old.timing border) (item_time item))) items
             ∙ (well border was).above (sym goal ∙ none');
         settled = λ none' goes'. absurd (not_both shut.closed closed goes');
@@ -336,7 +337,7 @@ refilled_end kinds s first rows old now shut new a b c next one timed so_far wel
               behind = subst (λ l. IsHeldBehind old.timing kinds first s above l (source_of new)) (append_assoc before r.more (next ∷ []))
                   (behind_caught old.timing old.fits kinds s first above ((before ++ r.more) ++ next ∷ []) shut new (same_timing ∙ timed) catches
                   (behind_end old.timing kinds s first above (before ++ r.more) (source_of now) (source_of shut) next r.behind other none items
-                  last ended closed goal file));
+                  earliest last ended closed goal file));
               shortest = few_more (λ l. are_enough old.timing rows above s (before ++ l)) r.more next
                   (few_held kinds s first rows above before old now a b one timed r e);
               held = catches.held ∙ held ∙ r.held ∙ ap (λ (l : List Row). held_with old.held (items_of (width s) l)) (sym (no_row_more r.more next other));

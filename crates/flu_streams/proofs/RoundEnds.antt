@@ -1,40 +1,27 @@
--- Behind the last round all rows of the sources were run.
+-- Lines without a defect have their end last, so all their rows have times.
 use Rattle.std.proofs.Common.{◌≡◌, inl, inr, ◌⊎◌, ℕ, true, false, ◌||◌, List, [], ◌∷◌, ◌++◌, map, length, Option, None, refl, sym, ap, ◌∙◌, append_assoc, subst}
-use Rattle.std.specs.Prelude.{nat_lt, sum_by}
-use Rattle.std.specs.List.{filter, range_with_len}
+use Rattle.std.specs.List.{range_with_len}
 use Rattle.std.proofs.lemmas.Bool.{false≢true}
 use Rattle.std.proofs.lemmas.List.{append-nil}
 use Rattle.std.proofs.lemmas.List.Elements.{filter-append, filter_map-append}
 use Rattle.std.proofs.lemmas.List.Folds.{list_any-append}
-use Rattle.flu_model.specs.Erasure.{job_of}
-use Rattle.flu_lemmas.specs.Elements.{AtEach}
 use Rattle.flu_lemmas.proofs.Booleans.{or_true}
-use Rattle.flu_lemmas.proofs.Elements.{all_map}
-use Rattle.flu_lemmas.specs.Sorting.{in_order}
-use Rattle.flu_model.specs.declared.events.Event.{Event as EventOf}
-use Rattle.flu_model.specs.Merging.{is_before, all_events}
 use Rattle.flu_model.specs.declared.jobs.Kind.{Kind}
 use Rattle.flu_model.specs.declared.jobs.Source.{Source}
-use Rattle.flu_model.specs.declared.jobs.Program.{Program}
 use Rattle.flu_model.specs.declared.moments.Timing.{Timing}
-use Rattle.flu_model.specs.Moments.{time_of_moment, timing_of}
-use Rattle.flu_outside.specs.Outside.{Contents}
 use Rattle.flu_rows.specs.declared.row.Row.{Row}
 use Rattle.flu_rows.specs.declared.row.Row.TheVariants.{Event, Beat, End}
-use Rattle.flu_rows.specs.Row.{form_of}
 use Rattle.flu_rows.specs.declared.rows.Next.{Next}
 use Rattle.flu_rows.specs.declared.rows.Next.TheVariants.{Row as RowNext, Bad, TooManyLines, Done}
 use Rattle.flu_streams.specs.declared.border.Border.TheVariants.{Closed}
 use Rattle.flu_streams.specs.declared.faults.Why.{Why}
 use Rattle.flu_streams.specs.declared.faults.Why.TheVariants.{AfterEnd}
-use Rattle.flu_streams.specs.Before.{each_with_before}
-use Rattle.flu_streams.specs.Good.{at_moments, items_at, lists_of_rows, lists_of, rows_in}
-use Rattle.flu_streams.specs.Rounds.{line_defect, defect_in, is_between, rows_between, lists_between, IsRound, LinesIn, LawOfLastRound, LawOfLastAbove}
+use Rattle.flu_streams.specs.Good.{at_moments, items_at, lists_of_rows}
+use Rattle.flu_streams.specs.Rounds.{line_defect, defect_in, is_between, rows_between}
 use Rattle.flu_streams.specs.Tags.{width}
 use Rattle.flu_streams.specs.Tests.{row_in, rows_of, is_end, has_ended}
-use Rattle.flu_streams.proofs.BorderLaws.{items_are_cut}
 use Rattle.flu_streams.proofs.Moments.{at_moments-end}
-use Rattle.flu_streams.proofs.RoundLaws.{between_cut, no_option, sound_front, defect_in-more, each_source, flat_same}
+use Rattle.flu_streams.proofs.RoundLaws.{no_option, sound_front, defect_in-more}
 use Rattle.flu_streams.proofs.Taken.{rows_more, ended_more, items_at-end, goes_on}
 
 -- ---- the end comes last
@@ -142,44 +129,3 @@ timed_lists timing kinds s first rows (inr (front, is, goes)) =
 pub whole_rows : (timing : Timing) (kinds : List Kind) (s : Source) (first : ℕ) (lines : List Next) → defect_in timing kinds s lines ≡ None
     → lists_of_rows timing kinds s first (rows_between None Closed (rows_of lines)) ≡ lists_of_rows timing kinds s first (rows_of lines)
 whole_rows timing kinds s first lines sound = timed_lists timing kinds s first (rows_of lines) (ends_last timing kinds s [] lines refl sound)
-
--- ---- all lines of the sources
-sound_rows : (p : Program) (whole : ℕ → List Next) (left : Contents) → LinesIn p left whole
-    → AtEach (λ i s. defect_in (timing_of p i) p.kinds s (whole i) ≡ None) p.sources
-    → AtEach (λ i s. (rows_of (whole i) ≡ rows_in (form_of (job_of p)) left s) × EndsLast (rows_of (whole i))) p.sources
-sound_rows p whole left lines sound = λ i s e. (ap rows_of (lines i s e), ends_last (timing_of p i) p.kinds s [] (whole i) refl (sound i s e))
-
-lists_are : (p : Program) (now : ℕ → List Next) (left : Contents)
-    → AtEach (λ i s. (rows_of (now i) ≡ rows_in (form_of (job_of p)) left s) × EndsLast (rows_of (now i))) p.sources
-    → lists_between p None Closed now ≡ lists_of p left
-lists_are p now left rows =
-    flat_same _ _ (each_with_before p.sources)
-    (all_map (λ (e : List Source × Source). (rows_of (now (length e.0)) ≡ rows_in (form_of (job_of p)) left e.1)
-    × EndsLast (rows_of (now (length e.0)))) _ (each_with_before p.sources)
-    (λ e h. timed_lists (timing_of p (length e.0)) p.kinds e.1 (sum_by width e.0) (rows_of (now (length e.0))) h.1
-    ∙ ap (lists_of_rows (timing_of p (length e.0)) p.kinds e.1 (sum_by width e.0)) h.0)
-    (each_source (λ i s. (rows_of (now i) ≡ rows_in (form_of (job_of p)) left s) × EndsLast (rows_of (now i))) p.sources rows))
-
-pub whole_lists : (p : Program) (whole : ℕ → List Next) (left : Contents) → LinesIn p left whole
-    → AtEach (λ i s. defect_in (timing_of p i) p.kinds s (whole i) ≡ None) p.sources
-    → lists_between p None Closed whole ≡ lists_of p left
-whole_lists p whole left lines sound = lists_are p whole left (sound_rows p whole left lines sound)
-
--- ---- the last round
-last_rows : (p : Program) (rows : ℕ) (above : Option ℕ) (whole before now : ℕ → List Next) (left : Contents) → LinesIn p left whole
-    → IsRound p rows above whole before now Closed
-    → AtEach (λ i s. (rows_of (now i) ≡ rows_in (form_of (job_of p)) left s) × EndsLast (rows_of (now i))) p.sources
-last_rows p rows above whole before now left lines round = λ i s e.
-    let reads = round i s e in
-    (ap rows_of (sym reads.stops.0 ∙ lines i s e), ends_last (timing_of p i) p.kinds s [] (now i) refl reads.sound)
-
-pub law_of_last_round : LawOfLastRound
-law_of_last_round p rows above whole before now left lines round = lists_are p now left (last_rows p rows above whole before now left lines round)
-
-pub law_of_last_above : LawOfLastAbove
-law_of_last_above p rows above whole before now left t lines round =
-    let all = law_of_last_round p rows above whole before now left lines round in
-    let cut = between_cut p t None Closed now (λ n e. refl) (λ n e. refl) in
-    ap (in_order is_before)
-    (cut.late ∙ ap (λ lists. filter (λ (x : EventOf). nat_lt t (time_of_moment p x.time)) (all_events lists)) all
-    ∙ sym (items_are_cut p t (lists_of p left)).late)

@@ -1,7 +1,7 @@
 -- What rounds take: the rows up to a border come all before the later ones, and none of them is read later.
 use Rattle.std.proofs.Common.{◌≡◌, inl, inr, ◌⊎◌, ◌<◌, ◌≤◌, ◌+◌, ◌-◌, ℕ, suc, max, Bool, true, false, cond, List, [], ◌∷◌, ◌++◌, map, length, Option, Some}
 use Rattle.std.proofs.Common.{None, ◌/◌, refl, sym, ap, ◌∙◌, append_assoc, length-append, arith, subst}
-use Rattle.std.specs.Prelude.{not, nat_lt, nat_le, ◌==◌, ◌&&◌, option_map, unwrap_or, slice_get, sum_by, if◌then◌else◌}
+use Rattle.std.specs.Prelude.{not, nat_lt, nat_le, ◌==◌, ◌&&◌, option_map, unwrap_or, slice_get, sum_by, pos, take, if◌then◌else◌}
 use Rattle.std.specs.List.{filter, filter_map, flat_map, list_all, cons_option, range_with_len, AllByRecursion}
 use Rattle.std.specs.Option.{option_to_list, option_map_or}
 use Rattle.std.proofs.lemmas.Bool.{cases_lt}
@@ -13,8 +13,8 @@ use Rattle.std.proofs.lemmas.Option.{slice_get_within}
 use Rattle.flu_lemmas.specs.Elements.{AtEach}
 use Rattle.flu_lemmas.specs.Late.{is_less}
 use Rattle.flu_lemmas.proofs.Booleans.{and_false}
-use Rattle.flu_lemmas.proofs.Elements.{all_map}
-use Rattle.flu_lemmas.proofs.Tests.{and_left, and_right, both}
+use Rattle.flu_lemmas.proofs.Elements.{all_map, passes_at}
+use Rattle.flu_lemmas.proofs.Tests.{and_left, and_right, both, true_lt}
 use Rattle.flu_model.specs.declared.events.Event.{Event}
 use Rattle.flu_model.specs.declared.events.Item.{Item}
 use Rattle.flu_model.specs.declared.events.Item.TheVariants.{Event as EventItem, Beat as BeatItem, End as EndItem}
@@ -22,12 +22,12 @@ use Rattle.flu_model.specs.declared.jobs.Kind.{Kind}
 use Rattle.flu_model.specs.declared.jobs.Source.{Source}
 use Rattle.flu_model.specs.declared.jobs.Program.{Program}
 use Rattle.flu_model.specs.declared.moments.Timing.{Timing}
-use Rattle.flu_model.specs.Contents.{Contents}
 use Rattle.flu_lemmas.specs.Sorting.{in_order}
-use Rattle.flu_model.specs.Folding.{final_state, final_outputs, state_after, outputs_of}
+use Rattle.flu_model.specs.Folding.{state_after, outputs_of}
 use Rattle.flu_model.specs.Merging.{events_of, all_events, is_before}
-use Rattle.flu_model.specs.Moments.{time_of_moment, timing_of, last_moment, IsTiming}
+use Rattle.flu_model.specs.Moments.{time_of_moment, timing_of, moment_at, last_moment, IsTiming}
 use Rattle.flu_model.specs.Reports.{report}
+use Rattle.flu_model.specs.Rules.{is_clock}
 use Rattle.flu_rows.specs.declared.row.Row.{Row}
 use Rattle.flu_rows.specs.declared.row.Row.TheVariants.{Event as EventRow, Beat as BeatRow, End as EndRow}
 use Rattle.flu_rows.specs.declared.rows.Next.{Next}
@@ -36,19 +36,19 @@ use Rattle.flu_streams.specs.declared.border.Border.{Border}
 use Rattle.flu_streams.specs.declared.border.Border.TheVariants.{At, Closed}
 use Rattle.flu_streams.specs.declared.faults.Why.{Why}
 use Rattle.flu_streams.specs.Before.{with_before, each_with_before, first_some, or_else}
-use Rattle.flu_streams.specs.Borders.{AreCutAt, FoldsInTurn}
-use Rattle.flu_streams.specs.Good.{event_of, time_at, item_in, at_moments, in_time_order, items_at, lists_of_rows}
+use Rattle.flu_streams.specs.Borders.{AreCutAt}
+use Rattle.flu_streams.specs.Clocks.{Declared, ticks_of, items_of_ticks}
+use Rattle.flu_streams.specs.Good.{event_of, time_at, item_in, at_moments, in_time_order, items_at, lists_of_source}
 use Rattle.flu_streams.specs.LoopMoments.{border_moment, end_moment}
 use Rattle.flu_streams.specs.Rounds.{row_fault, line_defect, defect_in, settled, settled_time, is_above, is_up_to, is_between, rows_between, is_enough, Turn}
-use Rattle.flu_streams.specs.Rounds.{Open, Shut, Meets, StopsAt, Reads, IsWithin, IsRoundAt, IsRound, lists_between, ComesFrom, Starts, GoesOn, state_in_turn}
-use Rattle.flu_streams.specs.Rounds.{outputs_in_turn, reports_in_turn, GiveTheFold, LawOfRounds, LawOfNoRows}
+use Rattle.flu_streams.specs.Rounds.{Open, Shut, Meets, StopsAt, Reads, IsWithin, ranks, is_within, ticks_between, IsFull, BySource, ByTick, IsRoundAt, IsRound}
+use Rattle.flu_streams.specs.Rounds.{lists_between, ComesFrom, Starts, GoesOn, LawOfNoRows}
 use Rattle.flu_streams.specs.Tags.{place_named, given_to, width}
 use Rattle.flu_streams.specs.Tests.{row_in, rows_of, time_in, times_of, greatest, where_true, margin, test_behind, test_times, test_time, test_range}
 use Rattle.flu_streams.specs.Tests.{test_tag, test_fields, test_item}
 use Rattle.flu_streams.proofs.Befores.{with_before-append, first_some-append}
-use Rattle.flu_streams.proofs.BorderLaws.{folds_in_turn}
 use Rattle.flu_streams.proofs.Cutting.{in_order-cut, all_early, all_late, all_kept, kept_all, kept_none, later_is}
-use Rattle.flu_streams.proofs.Moments.{border_test, above_test, is_above-moment, is_up_to-moment, between_moments, timing_fits}
+use Rattle.flu_streams.proofs.Moments.{border_test, above_test, time_of-moment, is_above-moment, is_up_to-moment, between_moments, timing_fits}
 use Rattle.flu_streams.proofs.Taken.{filter_more, times_more, greatest-push, rows_more}
 
 -- ---- lines without a defect
@@ -228,23 +228,29 @@ nothing_more xs (x ∷ more) rest e =
     let len : length xs ≡ length ((xs ++ (x ∷ more)) ++ rest) = ap length e in
     absurd (omega (arith, len, length-append (xs ++ (x ∷ more)) rest, length-append xs (x ∷ more)))
 
-front_of_whole : (timing : Timing) (kinds : List Kind) (s : Source) (rows : ℕ) (above : Option ℕ) (whole now : List Next) (turn : Turn)
+pub front_of_whole : (timing : Timing) (kinds : List Kind) (s : Source) (rows : ℕ) (above : Option ℕ) (whole now : List Next) (turn : Turn)
     → StopsAt timing kinds s rows above whole now turn → (rest : List Next) × (whole ≡ now ++ rest)
 front_of_whole timing kinds s rows above whole now (Open u) h = h.0
 front_of_whole timing kinds s rows above whole now Shut h = ([], h.0 ∙ sym (append-nil now))
 front_of_whole timing kinds s rows above whole now (Meets row why) h = (h.0.0 ∷ h.0.1, h.0.2)
 
+-- of a source that is closed the next round reads no further lines
+pub shut_keeps : (timing : Timing) (kinds : List Kind) (s : Source) (rows b : ℕ) (above : Option ℕ) (whole before mid now : List Next) (next : Turn)
+    → Reads timing kinds s rows above whole before mid Shut → Reads timing kinds s rows (Some b) whole mid now next → now ≡ mid
+shut_keeps timing kinds s rows b above whole before mid now next was reads =
+    let front = front_of_whole timing kinds s rows (Some b) whole now next reads.stops in
+    let none = nothing_more mid reads.more front.0 (sym was.stops.0 ∙ front.1 ∙ ap (λ l. l ++ front.0) reads.further) in
+    reads.further ∙ ap (λ l. mid ++ l) none ∙ append-nil mid
+
 -- the rows up to the border of one round are those that are read up to it in the next
-round_keeps : (timing : Timing) (kinds : List Kind) (s : Source) (rows b : ℕ) (start above : Option ℕ) (whole before mid now : List Next) (turn next : Turn)
+pub round_keeps : (timing : Timing) (kinds : List Kind) (s : Source) (rows b : ℕ) (start above : Option ℕ) (whole before mid now : List Next) (turn next : Turn)
     → Reads timing kinds s rows above whole before mid turn → IsWithin b turn
     → Reads timing kinds s rows (Some b) whole mid now next → rows_between start (At b) (rows_of now) ≡ rows_between start (At b) (rows_of mid)
 round_keeps timing kinds s rows b start above whole before mid now (Open u) next was within reads =
     ap (λ l. rows_between start (At b) (rows_of l)) reads.further
     ∙ nothing_later timing kinds s start b mid reads.more u (ap (defect_in timing kinds s) (sym reads.further) ∙ reads.sound) was.stops.2 within
 round_keeps timing kinds s rows b start above whole before mid now Shut next was within reads =
-    let front = front_of_whole timing kinds s rows (Some b) whole now next reads.stops in
-    let none = nothing_more mid reads.more front.0 (sym was.stops.0 ∙ front.1 ∙ ap (λ l. l ++ front.0) reads.further) in
-    ap (λ l. rows_between start (At b) (rows_of l)) (reads.further ∙ ap (λ l. mid ++ l) none ∙ append-nil mid)
+    ap (λ l. rows_between start (At b) (rows_of l)) (shut_keeps timing kinds s rows b above whole before mid now next was reads)
 round_keeps timing kinds s rows b start above whole before mid now (Meets row why) next was within reads = absurd within
 
 -- ---- each source, behind those before it
@@ -286,7 +292,7 @@ events_timed g kinds s first place (EventRow time name key fields ∷ rows) all 
 events_timed g kinds s first place (BeatRow time ∷ rows) all = events_timed g kinds s first place rows (and_right (g time) _ all)
 events_timed g kinds s first place (EndRow ∷ rows) all = events_timed g kinds s first place rows (and_right (g 0) _ all)
 
-filter_twice : {X : Type 0} (p q : X → Bool) (xs : List X) → filter p (filter q xs) ≡ filter (λ x. q x && p x) xs
+pub filter_twice : {X : Type 0} (p q : X → Bool) (xs : List X) → filter p (filter q xs) ≡ filter (λ x. q x && p x) xs
 filter_twice p q [] = refl
 filter_twice p q (x ∷ xs) =
     elim (q x) as (λ b. filter p (cond b (x ∷ filter q xs) (filter q xs)) ≡ cond (b && p x) (x ∷ filter (λ y. q y && p y) xs) (filter (λ y. q y && p y) xs)) [
@@ -294,7 +300,7 @@ filter_twice p q (x ∷ xs) =
       | false ↦ filter_twice p q xs
     ]
 
-filter_alike : {X : Type 0} (p q : X → Bool) → ((x : X) → p x ≡ q x) → (xs : List X) → filter p xs ≡ filter q xs
+pub filter_alike : {X : Type 0} (p q : X → Bool) → ((x : X) → p x ≡ q x) → (xs : List X) → filter p xs ≡ filter q xs
 filter_alike p q same xs = λ i. filter (λ x. same x i) xs
 
 -- the times up to b are among those up to the end
@@ -473,43 +479,110 @@ moments_cut timing fits kinds s first b start end rows place covers exceeds =
 pub fits_each : (p : Program) → AllByRecursion (λ (e : List Source × Source). IsTiming (timing_of p (length e.0))) (each_with_before p.sources)
 fits_each p = each_source (λ i s. IsTiming (timing_of p i)) p.sources (λ i s e. timing_fits p i (slice_get_within p.sources i s e))
 
--- the items of an itag, and the lists of a source, by the sources before it
-abbrev pub items_in_round : Program → (ℕ → List Next) → Option ℕ → Border → List Source × Source → ℕ → List Item
+-- the items of an itag, by the sources before its own
+abbrev pub items_in_round : Program → (ℕ → List Next) → Option ℕ → Border → Declared → ℕ → List Item
 items_in_round p reads above end e =
     items_at p.kinds e.1 (sum_by width e.0) (at_moments (timing_of p (length e.0)) [] (rows_between above end (rows_of (reads (length e.0)))))
 
-abbrev pub lists_in_round : Program → (ℕ → List Next) → Option ℕ → Border → List Source × Source → List (List Item)
-lists_in_round p reads above end e =
-    lists_of_rows (timing_of p (length e.0)) p.kinds e.1 (sum_by width e.0) (rows_between above end (rows_of (reads (length e.0))))
-
 place_cut_of : (p : Program) (b : ℕ) (start : Option ℕ) (end : Border) (reads : ℕ → List Next) → Covers b end → Exceeds b start
-    → (e : List Source × Source) → IsTiming (timing_of p (length e.0)) → (i : ℕ)
+    → (e : Declared) → IsTiming (timing_of p (length e.0)) → (i : ℕ)
     → MomentsCut (timing_of p (length e.0)) b (items_in_round p reads start end e i) (items_in_round p reads start (At b) e i)
     (items_in_round p reads (Some b) end e i)
 place_cut_of p b start end reads covers exceeds e fits i =
     moments_cut (timing_of p (length e.0)) fits p.kinds e.1 (sum_by width e.0) b start end (rows_of (reads (length e.0))) i covers exceeds
 
--- the rows that are read, cut at a border
+-- ---- ticks
+-- the events of the ticks that pass a test are those that pass it at their moments
+ticks_kept : (timing : Timing) (itag : ℕ) (g h : ℕ → Bool) → ((t : ℕ) → g (moment_at timing t 0) ≡ h t) → (ticks : List ℕ)
+    → events_of (items_of_ticks timing itag (filter h ticks)) ≡ filter (λ (x : Event). g x.time) (events_of (items_of_ticks timing itag ticks))
+ticks_kept timing itag g h same [] = refl
+ticks_kept timing itag g h same (t ∷ ticks) =
+    let event : Event = record { time = moment_at timing t 0; itag = record { 0 = itag }; item = 0; value = pos 0 } in
+    let rest = filter (λ (x : Event). g x.time) (events_of (items_of_ticks timing itag ticks)) in
+    rw (same t) (elim (h t) as (λ b. events_of (items_of_ticks timing itag (cond b (t ∷ filter h ticks) (filter h ticks))) ≡ cond b (event ∷ rest) rest) [
+      | true ↦ ap (λ l. event ∷ l) (ticks_kept timing itag g h same ticks)
+      | false ↦ ticks_kept timing itag g h same ticks
+    ])
+
+-- among the ticks of a round those up to a border, and the later ones
+ticks_early : (above : Option ℕ) (b : ℕ) (end : Border) (ticks : List ℕ) → Covers b end
+    → filter (λ t. nat_le t b) (filter (is_within above end) ticks) ≡ filter (is_within above (At b)) ticks
+ticks_early above b end ticks covers = filter_twice (λ t. nat_le t b) (is_within above end) ticks
+    ∙ filter_alike _ _ (λ t. early_timed (is_above above t) b end t covers) ticks
+
+ticks_late : (above : Option ℕ) (b : ℕ) (end : Border) (ticks : List ℕ) → Exceeds b above
+    → filter (λ t. nat_lt b t) (filter (is_within above end) ticks) ≡ filter (is_within (Some b) end) ticks
+ticks_late above b end ticks exceeds = filter_twice (λ t. nat_lt b t) (is_within above end) ticks
+    ∙ filter_alike _ _ (λ t. late_timed (is_above above t) (nat_lt b t) (is_up_to end t) (exceeds t)) ticks
+
+clock_early : (timing : Timing) (fits : IsTiming timing) (itag b : ℕ) (start : Option ℕ) (end : Border) (ticks : List ℕ) → Covers b end
+    → events_of (items_of_ticks timing itag (filter (is_within start (At b)) ticks))
+    ≡ filter (λ (x : Event). nat_le (x.time / timing.scale) b) (events_of (items_of_ticks timing itag (filter (is_within start end) ticks)))
+clock_early timing fits itag b start end ticks covers =
+    ap (λ l. events_of (items_of_ticks timing itag l)) (sym (ticks_early start b end ticks covers))
+    ∙ ticks_kept timing itag (λ m. nat_le (m / timing.scale) b) (λ t. nat_le t b) (λ t. ap (λ n. nat_le n b) (time_of-moment timing fits t 0))
+    (filter (is_within start end) ticks)
+
+clock_late : (timing : Timing) (fits : IsTiming timing) (itag b : ℕ) (start : Option ℕ) (end : Border) (ticks : List ℕ) → Exceeds b start
+    → events_of (items_of_ticks timing itag (filter (is_within (Some b) end) ticks))
+    ≡ filter (λ (x : Event). nat_lt b (x.time / timing.scale)) (events_of (items_of_ticks timing itag (filter (is_within start end) ticks)))
+clock_late timing fits itag b start end ticks exceeds =
+    ap (λ l. events_of (items_of_ticks timing itag l)) (sym (ticks_late start b end ticks exceeds))
+    ∙ ticks_kept timing itag (λ m. nat_lt b (m / timing.scale)) (λ t. nat_lt b t) (λ t. ap (λ n. nat_lt b n) (time_of-moment timing fits t 0))
+    (filter (is_within start end) ticks)
+
+-- ---- the lists of a source
+abbrev pub lists_in_round : Program → (ℕ → List Next) → Option ℕ → Border → Declared → List (List Item)
+lists_in_round p reads above end e =
+    lists_of_source p (rows_between above end (rows_of (reads (length e.0)))) (ticks_between p above end reads e) e
+
+module _ (p : Program) (b : ℕ) (start : Option ℕ) (end : Border) (reads : ℕ → List Next) (covers : Covers b end) (exceeds : Exceeds b start)
+    (e : Declared) (fits : IsTiming (timing_of p (length e.0))) where
+  abbrev clock_items : Option ℕ → Border → ℕ → List Item
+  clock_items above border place = items_of_ticks (timing_of p (length e.0)) (sum_by width e.0 + place) (ticks_between p above border reads e)
+
+  abbrev lists_by : Bool → Option ℕ → Border → List (List Item)
+  lists_by c above border =
+      if c then map (clock_items above border) (range_with_len 0 (width e.1))
+      else map (items_in_round p reads above border e) (range_with_len 0 (width e.1))
+
+  source_early : all_events (lists_in_round p reads start (At b) e)
+      ≡ filter (λ (x : Event). nat_le (time_of_moment p x.time) b) (all_events (lists_in_round p reads start end e))
+  source_early =
+      let is_early = λ (x : Event). nat_le (time_of_moment p x.time) b in
+      elim (is_clock e.1) as (λ c. all_events (lists_by c start (At b)) ≡ filter is_early (all_events (lists_by c start end))) [
+        | true ↦ maps_cut is_early (clock_items start (At b)) (clock_items start end)
+            (λ i. clock_early (timing_of p (length e.0)) fits (sum_by width e.0 + i) b start end (ticks_of p (ranks p reads) e) covers)
+            (range_with_len 0 (width e.1))
+        | false ↦ maps_cut is_early (items_in_round p reads start (At b) e) (items_in_round p reads start end e)
+            (λ i. (place_cut_of p b start end reads covers exceeds e fits i).early) (range_with_len 0 (width e.1))
+      ]
+
+  source_late : all_events (lists_in_round p reads (Some b) end e)
+      ≡ filter (λ (x : Event). nat_lt b (time_of_moment p x.time)) (all_events (lists_in_round p reads start end e))
+  source_late =
+      let is_late = λ (x : Event). nat_lt b (time_of_moment p x.time) in
+      elim (is_clock e.1) as (λ c. all_events (lists_by c (Some b) end) ≡ filter is_late (all_events (lists_by c start end))) [
+        | true ↦ maps_cut is_late (clock_items (Some b) end) (clock_items start end)
+            (λ i. clock_late (timing_of p (length e.0)) fits (sum_by width e.0 + i) b start end (ticks_of p (ranks p reads) e) exceeds)
+            (range_with_len 0 (width e.1))
+        | false ↦ maps_cut is_late (items_in_round p reads (Some b) end e) (items_in_round p reads start end e)
+            (λ i. (place_cut_of p b start end reads covers exceeds e fits i).late) (range_with_len 0 (width e.1))
+      ]
+
+-- what is read, cut at a border
 pub between_cut : (p : Program) (b : ℕ) (start : Option ℕ) (end : Border) (reads : ℕ → List Next) → Covers b end → Exceeds b start
     → AreCutAt p b (lists_between p start end reads) (lists_between p start (At b) reads) (lists_between p (Some b) end reads)
 between_cut p b start end reads covers exceeds = record {
-  early = sources_cut is_early (lists_in_round p reads start (At b)) (lists_in_round p reads start end) (each_with_before p.sources)
-      (all_map (λ (e : List Source × Source). IsTiming (timing_of p (length e.0))) _ (each_with_before p.sources)
-      (λ e fits. maps_cut is_early (items_in_round p reads start (At b) e) (items_in_round p reads start end e)
-      (λ i. (place_cut_of p b start end reads covers exceeds e fits i).early) (range_with_len 0 (width e.1)))
-      (fits_each p));
-  late = sources_cut is_late (lists_in_round p reads (Some b) end) (lists_in_round p reads start end) (each_with_before p.sources)
-      (all_map (λ (e : List Source × Source). IsTiming (timing_of p (length e.0))) _ (each_with_before p.sources)
-      (λ e fits. maps_cut is_late (items_in_round p reads (Some b) end e) (items_in_round p reads start end e)
-      (λ i. (place_cut_of p b start end reads covers exceeds e fits i).late) (range_with_len 0 (width e.1)))
-      (fits_each p));
+  early = sources_cut (λ (x : Event). nat_le (time_of_moment p x.time) b) (lists_in_round p reads start (At b)) (lists_in_round p reads start end)
+      (each_with_before p.sources)
+      (all_map (λ (e : Declared). IsTiming (timing_of p (length e.0))) _ (each_with_before p.sources)
+      (λ e fits. source_early p b start end reads covers exceeds e fits) (fits_each p));
+  late = sources_cut (λ (x : Event). nat_lt b (time_of_moment p x.time)) (lists_in_round p reads (Some b) end) (lists_in_round p reads start end)
+      (each_with_before p.sources)
+      (all_map (λ (e : Declared). IsTiming (timing_of p (length e.0))) _ (each_with_before p.sources)
+      (λ e fits. source_late p b start end reads covers exceeds e fits) (fits_each p));
 }
-  where
-    is_early : Event → Bool
-    is_early x = nat_le (time_of_moment p x.time) b
-
-    is_late : Event → Bool
-    is_late x = nat_lt b (time_of_moment p x.time)
 
 -- ---- the border of a round is later than the one before it
 pub list_all_true : {X : Type 0} (p : X → Bool) → ((x : X) → p x ≡ true) → (xs : List X) → list_all p xs ≡ true
@@ -543,71 +616,28 @@ later_border timing s rows b t lines one enough at = by_order (cases_lt b t)
     by_order (inr ge) = let none : length (rows_between (Some b) (At t) (rows_of lines)) ≡ 0 = ap length (none_between b t (rows_of lines) ge) in
         absurd (grind (arith, nat_tests))
 
-covers_end : (p : Program) (rows b : ℕ) (whole before now : ℕ → List Next) (end : Border) → 1 ≤ rows → IsRound p rows (Some b) whole before now end
+-- an element that is found among those that pass a test passes it
+passes_kept : {X : Type 0} (f : X → Bool) (xs : List X) (k : ℕ) (x : X) → slice_get (filter f xs) k ≡ Some x → f x ≡ true
+passes_kept f xs k x there = passes_at f (filter f xs) k x (all_kept f xs) there
+
+round_later : (p : Program) (rows b t : ℕ) (whole before now : ℕ → List Next) → 1 ≤ rows → IsRoundAt p rows (Some b) whole before now t → b < t
+round_later p rows b t whole before now one round = by_full round.full
+  where
+    by_full : IsFull p rows (Some b) whole before now t → b < t
+    by_full (BySource i s at reads) = later_border (timing_of p i) s rows b t (now i) one reads.stops.1 reads.stops.2
+    by_full (ByTick i s at last) =
+        true_lt b t (and_left (nat_lt b t) _ (passes_kept (is_within (Some b) Closed) (ticks_of p (ranks p now) (take i p.sources, s)) (rows - 1) t last))
+
+pub covers_end : (p : Program) (rows b : ℕ) (whole before now : ℕ → List Next) (end : Border) → 1 ≤ rows → IsRound p rows (Some b) whole before now end
     → Covers b end
 covers_end p rows b whole before now Closed one round = λ t e. refl
-covers_end p rows b whole before now (At t) one round = λ n e.
-    let reads = round.least.3 in
-    let later = later_border (timing_of p round.least.0) round.least.1 rows b t (now round.least.0) one reads.stops.1 reads.stops.2 in
-    grind (arith, nat_tests)
-
--- ---- what was read up to the border of a round is what is read up to it in the next
-some_reads : (p : Program) (rows : ℕ) (above : Option ℕ) (whole before now : ℕ → List Next) (end : Border) → IsRound p rows above whole before now end
-    → AtEach (λ i s. (turn : Turn) × Reads (timing_of p i) p.kinds s rows above (whole i) (before i) (now i) turn) p.sources
-some_reads p rows above whole before now Closed round = λ i s e. (Shut, round i s e)
-some_reads p rows above whole before now (At t) round = λ i s e. let h = round.each i s e in (h.0, h.1)
-
-lists_keep : (p : Program) (rows b : ℕ) (start above : Option ℕ) (whole before mid now : ℕ → List Next) (end : Border)
-    → IsRoundAt p rows above whole before mid b → IsRound p rows (Some b) whole mid now end
-    → lists_between p start (At b) now ≡ lists_between p start (At b) mid
-lists_keep p rows b start above whole before mid now end was round =
-    flat_same _ _ (each_with_before p.sources)
-    (all_map (λ (e : List Source × Source). rows_between start (At b) (rows_of (now (length e.0))) ≡ rows_between start (At b) (rows_of (mid (length e.0)))) _
-    (each_with_before p.sources)
-    (λ e same. ap (lists_of_rows (timing_of p (length e.0)) p.kinds e.1 (sum_by width e.0)) same)
-    (each_source (λ i s. rows_between start (At b) (rows_of (now i)) ≡ rows_between start (At b) (rows_of (mid i))) p.sources
-    (λ i s e. let h = was.each i s e in let k = some_reads p rows (Some b) whole mid now end round i s e in
-    round_keeps (timing_of p i) p.kinds s rows b start above (whole i) (before i) (mid i) (now i) h.0 k.0 h.1 h.2 k.1)))
-
--- ---- rounds in turn
-state_push : (p : Program) (s : Contents) (done : List (List (List Item))) (lists : List (List Item))
-    → state_in_turn p s (done ++ lists ∷ []) ≡ final_state p (state_in_turn p s done) lists
-state_push p s [] lists = refl
-state_push p s (l ∷ done) lists = state_push p (final_state p s l) done lists
-
-outputs_push : (p : Program) (s : Contents) (done : List (List (List Item))) (lists : List (List Item))
-    → outputs_in_turn p s (done ++ lists ∷ []) ≡ outputs_in_turn p s done ++ final_outputs p (state_in_turn p s done) lists
-outputs_push p s [] lists = append-nil (final_outputs p s lists)
-outputs_push p s (l ∷ done) lists =
-    ap (λ rest. final_outputs p s l ++ rest) (outputs_push p (final_state p s l) done lists)
-    ∙ sym (append_assoc (final_outputs p s l) (outputs_in_turn p (final_state p s l) done) (final_outputs p (state_in_turn p (final_state p s l) done) lists))
-
-reports_push : (p : Program) (s : Contents) (done : List (List (List Item))) (lists : List (List Item))
-    → reports_in_turn p s (done ++ lists ∷ []) ≡ reports_in_turn p s done ++ report p (final_outputs p (state_in_turn p s done) lists)
-reports_push p s [] lists = append-nil (report p (final_outputs p s lists))
-reports_push p s (l ∷ done) lists =
-    ap (λ rest. report p (final_outputs p s l) ++ rest) (reports_push p (final_state p s l) done lists)
-    ∙ sym (append_assoc (report p (final_outputs p s l)) (reports_in_turn p (final_state p s l) done)
-    (report p (final_outputs p (state_in_turn p (final_state p s l) done) lists)))
-
-one_more : (p : Program) (opening : Contents) (done : List (List (List Item))) (first second whole : List (List Item)) → GiveTheFold p opening done first
-    → FoldsInTurn p opening whole first second → GiveTheFold p opening (done ++ second ∷ []) whole
-one_more p opening done first second whole h cut = record {
-  state = state_push p opening done second ∙ ap (λ s. final_state p s second) h.state ∙ sym cut.state;
-  outputs = outputs_push p opening done second ∙ ap (λ outs. outs ++ final_outputs p (state_in_turn p opening done) second) h.outputs
-      ∙ ap (λ s. final_outputs p opening first ++ final_outputs p s second) h.state ∙ sym cut.outputs;
-  reports = reports_push p opening done second ∙ ap (λ bytes. bytes ++ report p (final_outputs p (state_in_turn p opening done) second)) h.reports
-      ∙ ap (λ s. report p (final_outputs p opening first) ++ report p (final_outputs p s second)) h.state ∙ sym cut.lines;
-}
+covers_end p rows b whole before now (At t) one round = λ n e. let later = round_later p rows b t whole before now one round in grind (arith, nat_tests)
 
 -- the border of a round is above the start of the run
 pub round_exceeds : (p : Program) (rows b : ℕ) (above : Option ℕ) (whole before now : ℕ → List Next) → 1 ≤ rows → IsRoundAt p rows above whole before now b
     → Exceeds b above
 round_exceeds p rows b None whole before now one round = λ t e. refl
-round_exceeds p rows b (Some a) whole before now one round = λ t e.
-    let reads = round.least.3 in
-    let later = later_border (timing_of p round.least.0) round.least.1 rows a b (now round.least.0) one reads.stops.1 reads.stops.2 in
-    grind (arith, nat_tests)
+round_exceeds p rows b (Some a) whole before now one round = λ t e. let later = round_later p rows a b whole before now one round in grind (arith, nat_tests)
 
 pub exceeds_start : (p : Program) (rows t : ℕ) (whole : ℕ → List Next) (start : Option ℕ) (done : List (List (List Item))) (above : Option ℕ)
     (before : ℕ → List Next)
@@ -616,30 +646,6 @@ exceeds_start p rows t whole start done above before one (Starts reads none) exc
 exceeds_start p rows t whole start done above before one (GoesOn done' above' before' mid b came was) exceeds =
     let up = round_exceeds p rows b above' whole before' mid one was in
     exceeds_start p rows t whole start done' above' before' one came (λ u e. up u (exceeds u e))
-
--- the rows that were read above the run's start, cut at the border of the round before
-pub cut_of_rounds : (p : Program) (rows : ℕ) (whole : ℕ → List Next) (start : Option ℕ) (done : List (List (List Item))) (above : Option ℕ)
-    (before mid now : ℕ → List Next)
-    (b : ℕ) (end : Border) → 1 ≤ rows → ComesFrom p rows whole start done above before → IsRoundAt p rows above whole before mid b
-    → IsRound p rows (Some b) whole mid now end
-    → AreCutAt p b (lists_between p start end now) (lists_between p start (At b) mid) (lists_between p (Some b) end now)
-cut_of_rounds p rows whole start done above before mid now b end one came was round =
-    let same = lists_keep p rows b start above whole before mid now end was round in
-    let exceeds = exceeds_start p rows b whole start done above before one came (round_exceeds p rows b above whole before mid one was) in
-    subst (λ l. AreCutAt p b (lists_between p start end now) l (lists_between p (Some b) end now)) same
-    (between_cut p b start end now (covers_end p rows b whole mid now end one round) exceeds)
-
-pub law_of_rounds : LawOfRounds
-law_of_rounds p opening rows whole start done above before now end one (Starts reads none) round = record {
-  state = refl;
-  outputs = append-nil (final_outputs p opening (lists_between p start end now));
-  reports = append-nil (report p (final_outputs p opening (lists_between p start end now)));
-}
-law_of_rounds p opening rows whole start done above before now end one (GoesOn done' above' before' mid b came was) round =
-    let so_far = law_of_rounds p opening rows whole start done' above' before' mid (At b) one came was in
-    let cut = cut_of_rounds p rows whole start done' above' before' mid now b end one came was round in
-    one_more p opening _ (lists_between p start (At b) mid) (lists_between p (Some b) end now) (lists_between p start end now) so_far
-    (folds_in_turn p opening b (lists_between p start end now) (lists_between p start (At b) mid) (lists_between p (Some b) end now) cut)
 
 -- no event is between a border and itself
 pub no_events : (p : Program) (t : ℕ) (reads : ℕ → List Next) → all_events (lists_between p (Some t) (At t) reads) ≡ []

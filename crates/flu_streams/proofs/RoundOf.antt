@@ -1,9 +1,9 @@
--- A refill of all sources is a round.
+-- What a refill of all sources reads of each is what a round reads.
 use Rattle.std.proofs.Common.{◌≡◌, inl, inr, ◌⊎◌, ℕ, zero, suc, ◌<◌, ◌≤◌, min, List, [], ◌∷◌, ◌++◌, length, map, Option, Some, None, refl, sym, ap, subst, ◌∙◌}
 use Rattle.std.proofs.Common.{append_assoc, arith}
 use Rattle.std.specs.Prelude.{slice_get}
 use Rattle.std.proofs.lemmas.Bool.{cases_lt}
-use Rattle.std.proofs.lemmas.List.{append-nil, length-map}
+use Rattle.std.proofs.lemmas.List.{append-nil}
 use Rattle.std.proofs.lemmas.Option.{slice_get_within}
 use Rattle.flu_lemmas.specs.Elements.{AtEach}
 use Rattle.flu_lemmas.proofs.Places.{slice_get-there}
@@ -18,11 +18,10 @@ use Rattle.flu_streams.specs.declared.border.Border.{Border}
 use Rattle.flu_streams.specs.declared.border.Border.TheVariants.{At, Closed}
 use Rattle.flu_streams.specs.declared.held.Stage.{Stage}
 use Rattle.flu_streams.specs.declared.inlet.Inlet.{Inlet}
-use Rattle.flu_streams.specs.Holding.{HeldSource, Holding, IsHeldBehind, AreHeldBehind, Fills, first_itag, still}
-use Rattle.flu_streams.specs.LoopHeld.{source_of, earlier_of, earliest, Refills, EndsAt, AreRefilled, HasRefilled, AreBehind, AreTimed}
-use Rattle.flu_streams.specs.Rounds.{Turn, Open, Shut, Meets, StopsAt, Reads, IsWithin, IsPassed, IsRound}
-use Rattle.flu_lemmas.proofs.Mapped.{from_mapped}
-use Rattle.flu_streams.proofs.Starts.{to_mapped, one_there}
+use Rattle.flu_streams.specs.Holding.{Holding, IsHeldBehind, AreHeldBehind, first_itag, still}
+use Rattle.flu_streams.specs.LoopHeld.{source_of, earlier_of, earliest, Refills, EndsAt, AreRefilled, AreBehind, AreTimed}
+use Rattle.flu_streams.specs.Rounds.{Turn, Open, Shut, Meets, StopsAt, Reads, IsWithin, IsPassed}
+use Rattle.flu_streams.proofs.Starts.{to_mapped}
 
 -- ---- what is told
 pub told_from : {A : Type 0} (Q P : A → A → Type 0) (a b : Option A) → WhereTold a b Q → ((x y : A) → a ≡ Some x → b ≡ Some y → P x y) → WhereTold a b P
@@ -189,90 +188,3 @@ holding p rows border stage inlets = record { program = p; rows = rows; border =
 pub behind_at : (p : Program) (rows : ℕ) (border : Option ℕ) (stage : Stage) (inlets : List Inlet) (lines : ℕ → List Next)
     → AreHeldBehind (holding p rows border stage inlets) lines → AreBehind p border lines inlets
 behind_at p rows border stage inlets lines is = λ i s e h f. is.each i s (source_of h) e (to_mapped source_of inlets i h f)
-
-pub behind_of : (p : Program) (rows : ℕ) (border : Option ℕ) (stage : Stage) (inlets : List Inlet) (lines : ℕ → List Next)
-    → length inlets ≡ length p.sources → AreBehind p border lines inlets
-    → AreHeldBehind (holding p rows border stage inlets) lines
-behind_of p rows border stage inlets lines count is = record {
-  count = length-map inlets source_of ∙ count;
-  each = λ i s source e f.
-      let k = from_mapped source_of inlets i source f in
-      subst (λ h. IsHeldBehind (timing_of p i) p.kinds (first_itag p i) s border (lines i) h) (sym k.2) (is i s e k.0 k.1);
-}
-
-abbrev Whole : (ℕ → List Next) → List Inlet → Contents → (ℕ → List Next) → Type 0
-Whole lines inlets left whole = AtEach (λ i source. whole i ≡ lines i ++ still source left) (map source_of inlets)
-
-round_of : (p : Program) (rows : ℕ) (border : Option ℕ) (before now whole : ℕ → List Next) (olds news : List Inlet) (a b : Option Contents)
-    (x y : Contents) (ends : List Border) (end : Border) → length ends ≡ length p.sources
-    → end ≡ earliest ends → a ≡ Some x → b ≡ Some y → Whole before olds x whole
-    → AtEach (λ i s. IsChosen p rows border before olds news a b ends [] i s (now i)) p.sources
-    → IsRound p rows border whole before now end
-round_of p rows border before now whole olds news a b x y ends end count least e f all picks = by_end end least
-  where
-    read : (i : ℕ) (s : Source) → slice_get p.sources i ≡ Some s → IsReadAt p rows border before olds news a b ends i s (now i)
-    read i s at = (picks i s at).0 (rw count (slice_get_within p.sources i s at))
-
-    reads : (i : ℕ) (s : Source) (at : slice_get p.sources i ≡ Some s)
-        → Reads (timing_of p i) p.kinds s rows border (whole i) (before i) (now i) (turn_of (read i s at).end)
-    reads i s at =
-        let r = read i s at in reads_at p rows border before olds news a b ends i s (now i) (whole i) x y r e f
-        (all i (source_of r.old) (to_mapped source_of olds i r.old r.was))
-
-    by_end : (end : Border) → end ≡ earliest ends → IsRound p rows border whole before now end
-    by_end Closed is = λ i s at.
-        subst (λ o. Reads (timing_of p i) p.kinds s rows border (whole i) (before i) (now i) (turn_of o))
-        (all_closed ends i (read i s at).end (sym is) (read i s at).at_end) (reads i s at)
-    by_end (At t) is =
-        let low = earliest_among ends t (sym is) in
-        let source = slice_get-there p.sources low.0 (rw (← count) (slice_get_within ends low.0 (At t) low.1)) in
-        let same : (read low.0 source.0 source.1).end ≡ At t = one_there ends low.0 (read low.0 source.0 source.1).end (At t)
-        (read low.0 source.0 source.1).at_end low.1 in
-        record {
-          each = λ i s at. (turn_of (read i s at).end, reads i s at, earliest_within ends i t (read i s at).end (sym is) (read i s at).at_end);
-          least = (
-            low.0,
-            source.0,
-            source.1,
-            subst (λ o. Reads (timing_of p low.0) p.kinds source.0 rows border (whole low.0) (before low.0) (now low.0) (turn_of o)) same
-                (reads low.0 source.0 source.1),
-          );
-        }
-
-in_all_now : (p : Program) (rows : ℕ) (border : Option ℕ) (before now whole : ℕ → List Next) (olds news : List Inlet) (a b : Option Contents)
-    (x y : Contents) (ends : List Border) → length ends ≡ length p.sources
-    → length news ≡ length p.sources → a ≡ Some x → b ≡ Some y → Whole before olds x whole
-    → AtEach (λ i s. IsChosen p rows border before olds news a b ends [] i s (now i)) p.sources
-    → Whole now news y whole
-in_all_now p rows border before now whole olds news a b x y ends count size e f all picks i source at =
-    let k = from_mapped source_of news i source at in
-    let s = slice_get-there p.sources i (rw (← size) (slice_get_within news i k.0 k.1)) in
-    let r = (picks i s.0 s.1).0 (rw count (slice_get_within p.sources i s.0 s.1)) in
-    let more = r.reads.so_far.more in
-    let same : source_of r.new ≡ source = ap source_of (one_there news i r.new k.0 r.is k.1) ∙ sym k.2 in
-    let told : still (source_of r.old) x ≡ more ++ still (source_of r.new) y = at_told
-    (λ was now. still (source_of r.old) was ≡ more ++ still (source_of r.new) now) a b x y e f r.reads.so_far.told in
-    all i (source_of r.old) (to_mapped source_of olds i r.old r.was) ∙ ap (λ (rest : List Next). before i ++ rest) told
-    ∙ sym (append_assoc (before i) more (still (source_of r.new) y)) ∙ ap (λ (l : List Next). l ++ still (source_of r.new) y) (sym r.now_is)
-    ∙ ap (λ (h : HeldSource). now i ++ still h y) same
-
-pub fills : (p : Program) (rows : ℕ) (border : Option ℕ) (stage stage' : Stage) (olds news : List Inlet) (a b : Option Contents)
-    (Q : Contents → Contents → Type 0) (end : Border) → length olds ≡ length p.sources → AreTimed p olds
-    → WhereTold a b Q → HasRefilled p rows olds news a b end → (before : ℕ → List Next) → AreHeldBehind (holding p rows border stage olds) before
-    → Fills (holding p rows border stage olds) (holding p rows border stage' news) a b end before
-fills p rows border stage stage' olds news a b Q end count timed told has before behind =
-    let own = behind_at p rows border stage olds before behind in
-    let picked = choose p rows border before olds news a b has.ends [] count timed own has.all in
-    let now = picked.0 in
-    record {
-      now = now;
-      behind = behind_of p rows border stage' news now (has.all.size ∙ count) (λ i s e h f.
-          let r = (picked.1 i s e).0 (rw has.count (slice_get_within p.sources i s e)) in
-          subst (λ l. IsHeldBehind (timing_of p i) p.kinds (first_itag p i) s border l (source_of h)) (sym r.now_is)
-          (subst (λ (g : Inlet). IsHeldBehind (timing_of p i) p.kinds (first_itag p i) s border (before i ++ r.reads.so_far.more) (source_of g))
-          (one_there news i r.new h r.is f) r.reads.so_far.behind));
-      round = told_from Q _ a b told (λ x y e f whole all. (
-        round_of p rows border before now whole olds news a b x y has.ends end has.count has.earliest e f all picked.1,
-        in_all_now p rows border before now whole olds news a b x y has.ends has.count (has.all.size ∙ count) e f all picked.1,
-      ));
-    }

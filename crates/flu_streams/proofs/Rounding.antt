@@ -1,17 +1,20 @@
 -- All sources in a refill, one after another.
-use Rattle.std.proofs.Common.{◌≡◌, ◌≢◌, inl, inr, ℕ, zero, suc, ◌+◌, ◌<◌, List, [], ◌∷◌, ◌++◌, length, take, drop, get_or, set, Option, Some, None, refl, sym}
+use Rattle.std.proofs.Common.{◌≡◌, ◌≢◌, inl, inr, ℕ, zero, suc, ◌+◌, ◌<◌, Bool, true, false, List, [], ◌∷◌, ◌++◌, length, take, drop, get_or, set, Option}
+use Rattle.std.proofs.Common.{Some, None, refl, sym}
 use Rattle.std.proofs.Common.{ap, subst, ◌∙◌, append_assoc, arith, if◌then◌else◌}
 use Rattle.std.specs.Prelude.{slice_get, unwrap_or}
 use Rattle.std.specs.List.{Contains}
-use Rattle.std.proofs.lemmas.List.{map-append, length-set}
+use Rattle.std.proofs.lemmas.List.{length-set}
 use Rattle.std.proofs.lemmas.Option.{slice_get_read, slice_get_within}
 use Rattle.flu_lemmas.proofs.Places.{slice_get_push}
 use Rattle.flu_lemmas.proofs.Replaced.{slice_get-set_other}
+use Rattle.flu_lemmas.proofs.Tests.{not_both}
 use Rattle.flu_lemmas.proofs.Told.{told_then}
 use Rattle.flu_model.specs.declared.jobs.Kind.{Kind}
 use Rattle.flu_model.specs.declared.jobs.Source.{Source}
 use Rattle.flu_model.specs.declared.jobs.Program.{Program}
 use Rattle.flu_model.specs.declared.moments.Timing.{Timing}
+use Rattle.flu_model.specs.Rules.{is_clock}
 use Rattle.flu_outside.specs.Outside.{Contents, WhereTold, Rose}
 use Rattle.flu_outside.specs.Taking.{TakesFrom, IsReadOut}
 use Rattle.flu_rows.specs.declared.rows.Next.{Next}
@@ -26,7 +29,8 @@ use Rattle.flu_streams.specs.Files.{files_of, LeavesOthers}
 use Rattle.flu_streams.specs.Holding.{HeldSource, first_itag, still}
 use Rattle.flu_streams.specs.LoopStop.{fault_of_stop}
 use Rattle.flu_streams.specs.LoopHeld.{source_of, earlier_of, earliest, Refills, IsRefilled, IsStopOf, AreRefilled, StopsAtSource}
-use Rattle.flu_streams.proofs.Gatherings.{still_out, files_more, leaves_more, leaves_wider}
+use Rattle.flu_streams.proofs.Gatherings.{still_out}
+use Rattle.flu_streams.proofs.SourceFiles.{among_front, fits_at, files_apart, others_join}
 use Rattle.flu_streams.proofs.Turns.{IsTurn}
 
 -- ---- what is still to be read of a source, where others are read
@@ -151,14 +155,15 @@ set_here [] i x y e = absurd cc
 set_here (z ∷ xs) zero x y e = let same : x ≡ y = cc in sym same
 set_here (z ∷ xs) (suc i) x y e = set_here xs i x y e
 
-among_front : (xs : List Source) (i j : ℕ) (s : Source) → slice_get xs j ≡ Some s → j < i → Contains (files_of (take i xs)) s.file
-among_front [] i j s e lt = absurd cc
-among_front (x ∷ xs) zero j s e lt = absurd (omega (arith, lt))
-among_front (x ∷ xs) (suc i) zero s e lt = let same : x ≡ s = cc in (zero, omega arith, ap (λ (t : Source). t.file) same)
-among_front (x ∷ xs) (suc i) (suc j) s e lt = let k = among_front xs i j s e (omega (arith, lt)) in (suc k.0, omega (arith, k.1), k.2)
-
-apart_file : (p : Program) (i j : ℕ) (s t : Source) → IsTurn p i s → slice_get p.sources j ≡ Some t → j < i → t.file ≢ s.file
-apart_file p i j s t turn at lt = λ e. turn.apart (subst (λ n. Contains (files_of (take i p.sources)) n) e (among_front p.sources i j t at lt))
+-- the file of a source that is read is not that of one before it
+apart_file : (p : Program) (i j : ℕ) (s t : Source) → IsTurn p i s → slice_get p.sources i ≡ Some s → slice_get p.sources j ≡ Some t → j < i
+    → is_clock s ≡ false → t.file ≢ s.file
+apart_file p i j s t turn here at lt goes = by_kind (is_clock t) refl
+  where
+    by_kind : (b : Bool) → is_clock t ≡ b → t.file ≢ s.file
+    by_kind false kind = λ e. turn.apart (subst (λ n. Contains (files_of (take i p.sources)) n) e (among_front p.sources i j t at lt kind))
+    by_kind true kind = λ e.
+        files_apart p.kinds t s (fits_at p.kinds p.sources j t p.sources_fit at) (fits_at p.kinds p.sources i s p.sources_fit here) kind goes (sym e)
 
 -- ---- the earliest border
 earlier-assoc : (a b c : Border) → earlier_of a (earlier_of b c) ≡ earlier_of (earlier_of a b) c
@@ -178,24 +183,28 @@ earliest-push (b ∷ ends) end = ap (earlier_of b) (earliest-push ends end) ∙ 
 -- ---- one source more
 -- what was read of the sources before one is as it was where that one is read
 pub refilled_still : (p : Program) (rows i : ℕ) (s : Source) (olds news : List Inlet) (a b c : Option Contents) (ends : List Border) → IsTurn p i s
-    → length ends ≡ i
+    → length ends ≡ i → slice_get p.sources i ≡ Some s → (is_clock s ≡ true → c ≡ b)
     → WhereTold b c (TakesFrom s.file) → AreRefilled p rows olds news a b ends → AreRefilled p rows olds news a c ends
-refilled_still p rows i s olds news a b c ends turn count taken all = record {
-  size = all.size;
-  each = λ j t at end old new here was is.
-      let lt : j < i = omega (arith, slice_get_within ends j end here, count) in
-      refilled_later p.kinds t (first_itag p j) (Some rows) old new s.file a b c end (apart_file p i j s t turn at lt) taken
-      (all.each j t at end old new here was is);
-}
+refilled_still p rows i s olds news a b c ends turn count here idle taken all = by_kind (is_clock s) refl
+  where
+    by_kind : (k : Bool) → is_clock s ≡ k → AreRefilled p rows olds news a c ends
+    by_kind true ticks = subst (λ x. AreRefilled p rows olds news a x ends) (sym (idle ticks)) all
+    by_kind false goes = record {
+      size = all.size;
+      each = λ j t at end old new there was is.
+          let lt : j < i = omega (arith, slice_get_within ends j end there, count) in
+          refilled_later p.kinds t (first_itag p j) (Some rows) old new s.file a b c end (apart_file p i j s t turn here at lt goes) taken
+          (all.each j t at end old new there was is);
+    }
 
 pub refilled_more : (p : Program) (rows i : ℕ) (s : Source) (olds news : List Inlet) (old new : Inlet) (a b c : Option Contents) (ends : List Border)
     (end : Border) → IsTurn p i s → length ends ≡ i
-    → slice_get p.sources i ≡ Some s → slice_get olds i ≡ Some old → WhereTold a b (LeavesOthers (files_of (take i p.sources)))
-    → WhereTold b c (TakesFrom s.file)
+    → slice_get p.sources i ≡ Some s → (is_clock s ≡ true → c ≡ b) → slice_get olds i ≡ Some old
+    → WhereTold a b (LeavesOthers (files_of (take i p.sources))) → WhereTold b c (TakesFrom s.file)
     → AreRefilled p rows olds news a b ends → IsRefilled p.kinds s (first_itag p i) (Some rows) old new b c end
     → AreRefilled p rows olds (set news i new) a c (ends ++ end ∷ [])
-refilled_more p rows i s olds news old new a b c ends end turn count at was others taken all one =
-    let still_all = refilled_still p rows i s olds news a b c ends turn count taken all in
+refilled_more p rows i s olds news old new a b c ends end turn count at idle was others taken all one =
+    let still_all = refilled_still p rows i s olds news a b c ends turn count at idle taken all in
     record {
       size = length-set news i new ∙ all.size;
       each = λ j t here e o n at_end was_old is_new. elim (slice_get_push ends end j e at_end) [
@@ -217,41 +226,33 @@ refilled_more p rows i s olds news old new a b c ends end turn count at was othe
     one_at e = cc
 
 -- ---- what it does to the files
-pub others_more : (p : Program) (i : ℕ) (s : Source) (a b c : Option Contents) → IsTurn p i s
+pub others_more : (p : Program) (i : ℕ) (s : Source) (a b c : Option Contents) → IsTurn p i s → (is_clock s ≡ true → c ≡ b)
     → WhereTold a b (LeavesOthers (files_of (take i p.sources))) → WhereTold b c (TakesFrom s.file)
     → WhereTold a c (LeavesOthers (files_of (take (i + 1) p.sources)))
-others_more p i s a b c turn others taken =
-    let names : files_of (take (i + 1) p.sources) ≡ files_of (take i p.sources) ++ (s.file ∷ []) = ap files_of turn.more ∙ files_more (take i p.sources) s in
-    subst (λ l. WhereTold a c (LeavesOthers l)) (sym names)
-    (told_then (LeavesOthers (files_of (take i p.sources))) (TakesFrom s.file) (LeavesOthers (files_of (take i p.sources) ++ (s.file ∷ []))) a b c
-    (λ x y z q r. leaves_more (files_of (take i p.sources)) s.file x y z q r) others taken)
+others_more p i s a b c turn idle others taken =
+    subst (λ l. WhereTold a c (LeavesOthers (files_of l))) (sym turn.more) (others_join (take i p.sources) [] s a b c idle others taken)
 
-pub others_end : (p : Program) (i : ℕ) (s : Source) (a b c : Option Contents) → IsTurn p i s
+pub others_end : (p : Program) (i : ℕ) (s : Source) (a b c : Option Contents) → IsTurn p i s → (is_clock s ≡ true → c ≡ b)
     → WhereTold a b (LeavesOthers (files_of (take i p.sources))) → WhereTold b c (TakesFrom s.file)
     → WhereTold a c (LeavesOthers (files_of p.sources))
-others_end p i s a b c turn others taken =
-    let names : files_of p.sources ≡ (files_of (take i p.sources) ++ (s.file ∷ [])) ++ files_of (drop (i + 1) p.sources) =
-    ap files_of turn.split ∙ map-append (λ (x : Source). x.file) (take i p.sources) (s ∷ drop (i + 1) p.sources)
-    ∙ sym (append_assoc (files_of (take i p.sources)) (s.file ∷ []) (files_of (drop (i + 1) p.sources))) in
-    subst (λ l. WhereTold a c (LeavesOthers l)) (sym names)
-    (told_then (LeavesOthers (files_of (take i p.sources))) (TakesFrom s.file)
-    (LeavesOthers ((files_of (take i p.sources) ++ (s.file ∷ [])) ++ files_of (drop (i + 1) p.sources))) a b c
-    (λ x y z q r. leaves_wider (files_of (take i p.sources) ++ (s.file ∷ [])) (files_of (drop (i + 1) p.sources)) x z
-    (leaves_more (files_of (take i p.sources)) s.file x y z q r)) others taken)
+others_end p i s a b c turn idle others taken =
+    subst (λ l. WhereTold a c (LeavesOthers (files_of l))) (sym turn.split)
+    (others_join (take i p.sources) (drop (i + 1) p.sources) s a b c idle others taken)
 
 -- ---- where one stops
 pub stops_at : (p : Program) (rows i : ℕ) (s : Source) (olds news : List Inlet) (mid : Inlet) (a b c : Option Contents) (ends : List Border)
     (stop : Stop) (fault : GatherFault) (faults faults' : List ℕ → ℕ) → IsTurn p i s → length ends ≡ i
-    → slice_get p.sources i ≡ Some s → slice_get olds i ≡ Some mid → WhereTold a b (LeavesOthers (files_of (take i p.sources)))
-    → WhereTold b c (TakesFrom s.file)
+    → slice_get p.sources i ≡ Some s → is_clock s ≡ false → slice_get olds i ≡ Some mid
+    → WhereTold a b (LeavesOthers (files_of (take i p.sources))) → WhereTold b c (TakesFrom s.file)
     → AreRefilled p rows olds news a b ends → IsStopOf p.kinds s (first_itag p i) (Some rows) mid b c stop → fault ≡ fault_of_stop i stop
     → (stop ≡ ReadFault → Rose (faults s.file) (faults' s.file)) → StopsAtSource p rows olds a c faults faults' fault
-stops_at p rows i s olds news mid a b c ends stop fault faults faults' turn count at was others taken all one is rose = record {
+stops_at p rows i s olds news mid a b c ends stop fault faults faults' turn count at goes was others taken all one is rose = record {
   ends = ends;
   news = news;
-  all = refilled_still p rows i s olds news a b c ends turn count taken all;
+  all = refilled_still p rows i s olds news a b c ends turn count at (λ ticks. absurd (not_both (is_clock s) ticks goes)) taken all;
   source = s;
   is = ap (slice_get p.sources) count ∙ at;
+  has_file = goes;
   stop = stop;
   cause = is ∙ ap (λ (n : ℕ). fault_of_stop n stop) (sym count);
   rose = rose;

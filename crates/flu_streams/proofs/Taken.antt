@@ -1,5 +1,5 @@
 -- The rows that were read of a source, and the items that they are.
-use Rattle.std.proofs.Common.{◌≡◌, ℕ, ◌+◌, ◌<◌, ◌≤◌, max, Bool, true, false, ◌||◌, ◌&&◌, leb, eqb, List, [], ◌∷◌, ◌++◌, map, Option, Some, None, refl}
+use Rattle.std.proofs.Common.{◌≡◌, ℕ, ◌+◌, ◌<◌, ◌≤◌, max, min, Bool, true, false, ◌||◌, ◌&&◌, leb, eqb, List, [], ◌∷◌, ◌++◌, map, Option, Some, None, refl}
 use Rattle.std.proofs.Common.{ap, ◌∙◌, arith, if◌then◌else◌}
 use Rattle.std.specs.Prelude.{option_map, unwrap_or}
 use Rattle.std.specs.List.{filter_map, cons_option, list_any}
@@ -26,7 +26,7 @@ use Rattle.flu_streams.specs.declared.faults.Why.{Why}
 use Rattle.flu_streams.specs.Before.{or_else}
 use Rattle.flu_streams.specs.Lists.{item_time, times_in, item_for}
 use Rattle.flu_streams.specs.Tags.{place_named, given_to, width}
-use Rattle.flu_streams.specs.Tests.{row_in, rows_of, is_end, has_ended, time_in, times_of, greatest, items_in, items_of, where_true}
+use Rattle.flu_streams.specs.Tests.{row_in, rows_of, is_end, has_ended, time_in, times_of, least, greatest, items_in, items_of, where_true}
 use Rattle.flu_streams.specs.Good.{event_of, item_in, time_at, in_time_order, items_at}
 use Rattle.flu_streams.specs.Holding.{item_of}
 use Rattle.flu_streams.specs.LoopStop.{defect_behind}
@@ -59,6 +59,14 @@ items_more itags rows row = sum_by-append (items_in itags) rows (row ∷ []) ∙
 pub greatest-push : (ts : List ℕ) (t : ℕ) → greatest (ts ++ (t ∷ [])) ≡ Some (max (unwrap_or (greatest ts) 0) t)
 greatest-push [] t = ap Some (omega arith)
 greatest-push (x ∷ ts) t = rw (greatest-push ts t) (ap Some (omega arith))
+
+pub least-push : (ts : List ℕ) (t : ℕ) → least (ts ++ (t ∷ [])) ≡ Some (min (unwrap_or (least ts) t) t)
+least-push [] t = ap Some (omega arith)
+least-push (x ∷ ts) t = rw (least-push ts t) (by_rest (least ts))
+  where
+    by_rest : (o : Option ℕ) → Some (min x (min (unwrap_or o t) t)) ≡ Some (min (min x (unwrap_or o x)) t)
+    by_rest None = ap Some (omega arith)
+    by_rest (Some l) = ap Some (omega arith)
 
 pub any_time : (time : ℕ) (items : List Item) → list_any (λ t. eqb t time) (times_in items) ≡ list_any (λ (item : Item). eqb (item_time item) time) items
 any_time time [] = refl

@@ -10,12 +10,11 @@ use Rattle.flu_model.specs.declared.jobs.Kind.{Kind}
 use Rattle.flu_model.specs.declared.jobs.Source.{Source}
 use Rattle.flu_model.specs.declared.moments.Timing.{Timing}
 use Rattle.flu_outside.specs.Outside.{Contents, WhereTold}
-use Rattle.flu_outside.specs.Taking.{bytes_left}
 use Rattle.flu_rows.specs.declared.row.Row.{Row}
 use Rattle.flu_rows.specs.declared.row.RowForm.{RowForm}
 use Rattle.flu_rows.specs.declared.rows.Next.{Next}
 use Rattle.flu_rows.specs.declared.rows.Next.TheVariants.{Row as RowNext, Bad, TooManyLines, Done}
-use Rattle.flu_rows.specs.Reading.{ahead, read_file}
+use Rattle.flu_rows.specs.Reading.{ahead}
 use Rattle.flu_streams.specs.declared.border.Border.{Border}
 use Rattle.flu_streams.specs.declared.border.Border.TheVariants.{At, Closed}
 use Rattle.flu_streams.specs.declared.faults.GatherFault.TheVariants.{ReadFault as ReadFaulty}
@@ -26,6 +25,7 @@ use Rattle.flu_streams.specs.declared.stop.Stop.{Stop}
 use Rattle.flu_streams.specs.declared.stop.Stop.TheVariants.{Defect, ReadFault, NoMemory}
 use Rattle.flu_streams.specs.Before.{with_before, first_some, or_else}
 use Rattle.flu_streams.specs.Faults.{WasRead}
+use Rattle.flu_streams.specs.Good.{lines_in}
 use Rattle.flu_streams.specs.Holding.{HeldSource, unread_source, still}
 use Rattle.flu_streams.specs.LoopGathering.{IsFaultOf, HidesNoDefect}
 use Rattle.flu_streams.specs.LoopHeld.{source_of, too_many, EndsAt, IsRefilled, Refills, IsStopOf, MeetsDefect}
@@ -33,7 +33,7 @@ use Rattle.flu_streams.specs.LoopStop.{fault_of_stop}
 use Rattle.flu_streams.specs.Rounds.{row_tests, row_fault, line_defect, defect_in}
 use Rattle.flu_streams.specs.Tags.{width}
 use Rattle.flu_streams.specs.Tests.{row_in, rows_of, has_ended, times_of, items_in, items_of, where_true, test_items}
-use Rattle.flu_streams.specs.Tests.{fault_of, defect_of, first_of, first_defect}
+use Rattle.flu_streams.specs.Tests.{fault_of, defect_of, first_of}
 use Rattle.flu_streams.proofs.Befores.{with_before-append, first_some-append}
 use Rattle.flu_streams.proofs.Counted.{map_both}
 use Rattle.flu_streams.proofs.RoundLaws.{or_none, or_else-none}
@@ -96,7 +96,8 @@ pub passes_whole : (timing : Timing) (kinds : List Kind) (s : Source) (held : �
     → held + items_of (width s) (rows_of lines) ≤ 16777216 → first_of timing kinds s held lines ≡ None
 passes_whole timing kinds s held lines sound fits = passes_all timing kinds s held [] lines sound fits
 
-first_of-at : (timing : Timing) (kinds : List Kind) (s : Source) (held : ℕ) (read rest : List Next) (next : Next) (row : ℕ) (why : Why) → first_of timing kinds s held read ≡ None
+first_of-at : (timing : Timing) (kinds : List Kind) (s : Source) (held : ℕ) (read rest : List Next) (next : Next) (row : ℕ) (why : Why)
+    → first_of timing kinds s held read ≡ None
     → defect_of timing kinds s held read next ≡ Some (row, why) → first_of timing kinds s held (read ++ (next ∷ rest)) ≡ Some (row, why)
 first_of-at timing kinds s held read rest next row why passes e =
     let f = λ (e : List Next × Next). defect_of timing kinds s held e.0 e.1 in
@@ -107,7 +108,7 @@ first_of-at timing kinds s held read rest next row why passes e =
 -- ---- where it is done
 -- before it is read, all its lines are ahead
 pub at_first : (form : RowForm) (s : Source) (old : Inlet) (left : Contents) → source_of old ≡ unread_source form None s
-    → still (source_of old) left ≡ read_file form (bytes_left left s.file)
+    → still (source_of old) left ≡ lines_in form left s
 at_first form s old left is = ap (λ (h : HeldSource). still h left) is
 
 pub is_closed : (timing : Timing) (s : Source) (lines : List Next) (new : Inlet) (end : Border) → EndsAt timing s None None lines new end → new.closed ≡ true
@@ -117,7 +118,8 @@ is_closed timing s lines new (At u) ends = absurd (never ends.0)
     never : false ≡ true → ⊥
     never e = cc
 
-is_shut : (timing : Timing) (s : Source) (lines : List Next) (new : Inlet) (end : Border) (left : Contents) → EndsAt timing s None None lines new end → still (source_of new) left ≡ []
+is_shut : (timing : Timing) (s : Source) (lines : List Next) (new : Inlet) (end : Border) (left : Contents) → EndsAt timing s None None lines new end
+    → still (source_of new) left ≡ []
 is_shut timing s lines new end left ends = rw (is_closed timing s lines new end ends) refl
 
 pub whole_reads : (timing : Timing) (form : RowForm) (kinds : List Kind) (s : Source) (first : ℕ) (old new : Inlet) (a b : Option Contents) (end : Border)
@@ -139,16 +141,18 @@ whole_told timing form kinds s first old new a b end is r =
 -- ---- where it stops
 whole_defect : (timing : Timing) (form : RowForm) (kinds : List Kind) (s : Source) (held : ℕ) (old : Inlet) (a b : Option Contents) (row : ℕ) (why : Why)
     → source_of old ≡ unread_source form None s → old.held ≡ Some held → MeetsDefect timing kinds s None None [] old a b row why
-    → WhereTold a b (λ was now. first_defect timing form kinds s held (bytes_left was s.file) ≡ Some (row, why))
+    → WhereTold a b (λ was now. first_of timing kinds s held (lines_in form was s) ≡ Some (row, why))
 whole_defect timing form kinds s held old a b row why is counted m =
     let passes = passes_whole timing kinds s held m.more m.sound (m.fits held counted) in
     let defect = defect_parts timing kinds s held m.more m.next
     ∙ ap (λ o. or_else (line_defect timing kinds s m.more m.next) (too_many o s m.more m.next)) (sym counted) ∙ m.defect in
     told_weaker (λ was now. (rest : List Next) × (still (source_of old) was ≡ m.more ++ (m.next ∷ rest)))
-    (λ was now. first_defect timing form kinds s held (bytes_left was s.file) ≡ Some (row, why)) a b
-    (λ x y p. ap (first_of timing kinds s held) (sym (at_first form s old x is) ∙ p.1) ∙ first_of-at timing kinds s held m.more p.0 m.next row why passes defect) m.told
+    (λ was now. first_of timing kinds s held (lines_in form was s) ≡ Some (row, why)) a b
+    (λ x y p. ap (first_of timing kinds s held) (sym (at_first form s old x is) ∙ p.1)
+    ∙ first_of-at timing kinds s held m.more p.0 m.next row why passes defect) m.told
 
-pub whole_fault : (timing : Timing) (form : RowForm) (kinds : List Kind) (s : Source) (first number held : ℕ) (old : Inlet) (a b : Option Contents) (stop : Stop)
+pub whole_fault : (timing : Timing) (form : RowForm) (kinds : List Kind) (s : Source) (first number held : ℕ) (old : Inlet) (a b : Option Contents)
+    (stop : Stop)
     → old.timing ≡ timing → source_of old ≡ unread_source form None s → old.held ≡ Some held → IsStopOf kinds s first None old a b stop
     → IsFaultOf timing form kinds s number held a b (fault_of_stop number stop)
 whole_fault timing form kinds s first number held old a b stop timed is counted own =

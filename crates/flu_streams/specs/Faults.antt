@@ -1,30 +1,31 @@
 -- What a fault of the sources says: the first defect of all, and that a read fault hides none.
-use Rattle.std.specs.Prelude.{◌≡◌, ◌<◌, ℕ, Option, Some, None, List, ◌∷◌, ◌++◌, length, ⊤}
+use Rattle.std.specs.Prelude.{◌≡◌, ◌<◌, ℕ, false, Option, Some, None, List, ◌∷◌, ◌++◌, length, ⊤}
 use Rattle.flu_model.specs.Erasure.{job_of}
 use Rattle.flu_model.specs.declared.jobs.Kind.{Kind}
 use Rattle.flu_model.specs.declared.jobs.Source.{Source}
 use Rattle.flu_model.specs.declared.jobs.Program.{Program}
 use Rattle.flu_model.specs.declared.moments.Timing.{Timing}
 use Rattle.flu_model.specs.Moments.{timing_of}
+use Rattle.flu_model.specs.Rules.{is_clock}
 use Rattle.flu_outside.specs.Outside.{Contents, WhereTold, Rose}
-use Rattle.flu_outside.specs.Taking.{bytes_left}
 use Rattle.flu_rows.specs.declared.row.RowForm.{RowForm}
 use Rattle.flu_rows.specs.declared.rows.Next.{Next}
 use Rattle.flu_rows.specs.Row.{form_of}
 use Rattle.flu_rows.specs.Lines.{IsUndecided}
-use Rattle.flu_rows.specs.Reading.{Place, read_file, ahead}
+use Rattle.flu_rows.specs.Reading.{Place, ahead}
 use Rattle.flu_streams.specs.declared.faults.GatherFault.{GatherFault}
 use Rattle.flu_streams.specs.declared.faults.GatherFault.TheVariants.{Source as SourceFaulty, ReadFault, NoMemory}
 use Rattle.flu_streams.specs.Before.{each_with_before, first_some}
 use Rattle.flu_streams.specs.Tests.{first_of}
-use Rattle.flu_streams.specs.Good.{items_held, fault_of_source, first_fault}
+use Rattle.flu_streams.specs.Good.{lines_in, items_held, fault_of_source, first_fault}
 
--- the bytes that a source's file had are what was read of it, and what is still to be read
+-- the lines that a source had are what was read of it, and what is still to be read
 abbrev pub WasRead : RowForm → Source → List Next → List Next → Contents → Type 0
-WasRead form s read behind old = read_file form (bytes_left old s.file) ≡ read ++ behind
+WasRead form s read behind old = lines_in form old s ≡ read ++ behind
 
 -- some sources have no defect, nor do the rows that were read of the next one, before what is still to be read
-pub record StopsWithout (timing : ℕ → Timing) (form : RowForm) (kinds : List Kind) (earlier : List Source) (s : Source) (read behind : List Next) (left : Contents) : Type 0 where
+pub record StopsWithout (timing : ℕ
+    → Timing) (form : RowForm) (kinds : List Kind) (earlier : List Source) (s : Source) (read behind : List Next) (left : Contents) : Type 0 where
   pub good : first_some (λ e. fault_of_source timing form kinds left e.0 e.1) (each_with_before earlier) ≡ None
   pub passes : first_of (timing (length earlier)) kinds s (items_held form left earlier) read ≡ None
   pub was : WasRead form s read behind left
@@ -36,6 +37,7 @@ pub record HidesNothing (p : Program) (old new : Option Contents) (before now : 
   pub source : Source
   pub later : List Source
   pub split : p.sources ≡ earlier ++ (source ∷ later)
+  pub has_file : is_clock source ≡ false
   pub rose : Rose (before source.file) (now source.file)
   pub read : List Next
   pub place : Place

@@ -1,11 +1,14 @@
 -- What reading the sources of a job does to the files.
-use Rattle.std.specs.Prelude.{◌≡◌, ℕ, ◌≤◌, List, map, Contains, Option}
+use Rattle.std.specs.Prelude.{◌≡◌, ℕ, ◌≤◌, List, Contains, Option}
+use Rattle.std.specs.List.{filter_map}
+use Rattle.flu_model.specs.Rules.{file_of_source}
 use Rattle.flu_model.specs.declared.jobs.Source.{Source}
 use Rattle.flu_outside.specs.Outside.{Contents, Rose, CountApart}
 use Rattle.flu_outside.specs.Taking.{IsReadOut}
 
+-- the files of the sources; a clock has none
 abbrev pub files_of : List Source → List (List ℕ)
-files_of sources = map (λ (s : Source). s.file) sources
+files_of sources = filter_map file_of_source sources
 
 -- names other than these have what they had
 abbrev pub LeavesOthers : List (List ℕ) → Contents → Contents → Type 0

@@ -1,5 +1,6 @@
 -- Good sources, and the lists of items that they give.
-use Rattle.std.specs.Prelude.{◌≡◌, ℕ, ℤ, ◌+◌, ◌==◌, pos, false, Option, Some, None, option_map, unwrap_or, List, [], ◌∷◌, ◌++◌, length, map, if◌then◌else◌, sum_by}
+use Rattle.std.specs.Prelude.{◌≡◌, ℕ, ℤ, ◌+◌, ◌==◌, pos, false, Option, Some, None, option_map, unwrap_or, List, [], ◌∷◌, ◌++◌, length, map, if◌then◌else◌}
+use Rattle.std.specs.Prelude.{sum_by}
 use Rattle.std.specs.List.{flat_map, filter_map, range_with_len}
 use Rattle.flu_model.specs.Erasure.{job_of}
 use Rattle.flu_lemmas.specs.Counting.{times}
@@ -13,21 +14,28 @@ use Rattle.flu_model.specs.declared.jobs.Source.{Source}
 use Rattle.flu_model.specs.declared.jobs.Program.{Program}
 use Rattle.flu_model.specs.declared.moments.Timing.{Timing}
 use Rattle.flu_model.specs.Moments.{timing_of, moment_at}
+use Rattle.flu_model.specs.Rules.{is_clock}
 use Rattle.flu_outside.specs.Outside.{Contents}
 use Rattle.flu_rows.specs.declared.row.RowForm.{RowForm}
 use Rattle.flu_rows.specs.declared.row.Row.{Row}
 use Rattle.flu_rows.specs.declared.row.Row.TheVariants.{Event, Beat, End}
+use Rattle.flu_rows.specs.declared.rows.Next.{Next}
 use Rattle.flu_rows.specs.Row.{form_of}
 use Rattle.flu_rows.specs.Reading.{read_file}
 use Rattle.flu_outside.specs.Taking.{bytes_left}
 use Rattle.flu_streams.specs.declared.faults.SourceFault.{SourceFault}
-use Rattle.flu_streams.specs.Before.{each_with_before, first_some}
+use Rattle.flu_streams.specs.Before.{each_with_before, first_some, or_else}
+use Rattle.flu_streams.specs.Clocks.{Declared, ranks_among, ticks_of, lists_of_ticks, fault_among}
 use Rattle.flu_streams.specs.Tags.{place_named, given_to, width}
-use Rattle.flu_streams.specs.Tests.{rows_of, time_in, times_of, items_of, first_defect}
+use Rattle.flu_streams.specs.Tests.{rows_of, time_in, times_of, items_of, first_of}
 
 -- ---- the first fault of all sources
+-- the lines of a source: those of its file; a clock has none
+abbrev pub lines_in : RowForm → Contents → Source → List Next
+lines_in form left s = if is_clock s then [] else read_file form (bytes_left left s.file)
+
 abbrev pub rows_in : RowForm → Contents → Source → List Row
-rows_in form left s = rows_of (read_file form (bytes_left left s.file))
+rows_in form left s = rows_of (lines_in form left s)
 
 -- how many items the rows of some sources have
 abbrev pub items_held : RowForm → Contents → List Source → ℕ
@@ -37,13 +45,25 @@ items_held form left sources = sum_by (λ (s : Source). items_of (width s) (rows
 abbrev pub fault_of_source : (ℕ → Timing) → RowForm → List Kind → Contents → List Source → Source → Option SourceFault
 fault_of_source timing form kinds left earlier s =
     option_map (λ d. record { source = length earlier; row = d.0; why = d.1 })
-    (first_defect (timing (length earlier)) form kinds s (items_held form left earlier) (bytes_left left s.file))
+    (first_of (timing (length earlier)) kinds s (items_held form left earlier) (lines_in form left s))
 
--- THE FIRST FAULT: the fault of the first source, as declared, that has a defect
+-- the fault of the first source, as declared, whose rows have a defect
+abbrev pub fault_of_rows : Program → Contents → Option SourceFault
+fault_of_rows p left = first_some (λ e. fault_of_source (timing_of p) (form_of (job_of p)) p.kinds left e.0 e.1) (each_with_before p.sources)
+
+-- the ticks of the clocks among the rows of the files
+abbrev pub ticks_in : Program → Contents → Declared → List ℕ
+ticks_in p left e = ticks_of p (ranks_among p (λ d. rows_in (form_of (job_of p)) left d.1)) e
+
+-- the fault of clocks: their ticks are counted behind the rows of all files
+abbrev pub fault_of_clocks : Program → Contents → Option SourceFault
+fault_of_clocks p left = fault_among p.sources (items_held (form_of (job_of p)) left p.sources) (ticks_in p left)
+
+-- THE FIRST FAULT: that of rows, or else that of clocks
 abbrev pub first_fault : Program → Contents → Option SourceFault
-first_fault p left = first_some (λ e. fault_of_source (timing_of p) (form_of (job_of p)) p.kinds left e.0 e.1) (each_with_before p.sources)
+first_fault p left = or_else (fault_of_rows p left) (fault_of_clocks p left)
 
--- GOOD SOURCES: none has a defect
+-- GOOD SOURCES: none has a defect, and no clock too many ticks
 abbrev pub AreGood : Program → Contents → Type 0
 AreGood p left = first_fault p left ≡ None
 
@@ -92,9 +112,17 @@ items_at kinds s first rows place = filter_map (item_in kinds s first place) (in
 abbrev pub lists_of_rows : Timing → List Kind → Source → ℕ → List Row → List (List Item)
 lists_of_rows timing kinds s first rows = map (items_at kinds s first (at_moments timing [] rows)) (range_with_len 0 (width s))
 
+-- the lists of a source with these rows, or of a clock with these ticks
+abbrev pub lists_of_source : Program → List Row → List ℕ → Declared → List (List Item)
+lists_of_source p rows ticks e =
+    let timing = timing_of p (length e.0) in let first = sum_by width e.0 in
+    if is_clock e.1 then lists_of_ticks timing e.1 first ticks else lists_of_rows timing p.kinds e.1 first rows
+
+-- of all sources, of each with its own
+abbrev pub lists_of_sources : Program → (Declared → List Row) → (Declared → List ℕ) → List (List Item)
+lists_of_sources p rows ticks = flat_map (λ e. lists_of_source p (rows e) (ticks e) e) (each_with_before p.sources)
+
 -- THE LISTS OF GOOD SOURCES: for each itag, by its number, its events and all heartbeats of its source at their moments, sorted by these, and
--- the end
+-- the end; for that of a clock its ticks at their moments, and the end
 abbrev pub lists_of : Program → Contents → List (List Item)
-lists_of p left =
-    flat_map (λ e. lists_of_rows (timing_of p (length e.0)) p.kinds e.1 (sum_by width e.0) (rows_in (form_of (job_of p)) left e.1))
-    (each_with_before p.sources)
+lists_of p left = lists_of_sources p (λ e. rows_in (form_of (job_of p)) left e.1) (ticks_in p left)

@@ -1,5 +1,6 @@
 -- What is held of the sources between rounds, and after which lines it is held (`docs/MODEL.md`, "Rounds").
-use Rattle.std.specs.Prelude.{◌≡◌, ◌≢◌, ℕ, ◌+◌, ◌*◌, ◌<◌, ◌≤◌, ◌^◌, Bool, true, false, Result, Ok, Option, Some, None, List, [], ◌++◌, length, map, take, slice_get, sum_by}
+use Rattle.std.specs.Prelude.{◌≡◌, ◌≢◌, ℕ, ◌+◌, ◌*◌, ◌<◌, ◌≤◌, ◌^◌, Bool, true, false, Result, Ok, Option, Some, None, List, [], ◌++◌, length, map, take}
+use Rattle.std.specs.Prelude.{slice_get, sum_by}
 use Rattle.std.specs.Prelude.{if◌then◌else◌, unwrap_or, ⊤}
 use Rattle.std.specs.List.{All}
 use Rattle.flu_model.specs.Erasure.{job_of}
@@ -11,6 +12,7 @@ use Rattle.flu_model.specs.declared.jobs.Source.{Source}
 use Rattle.flu_model.specs.declared.jobs.Program.{Program}
 use Rattle.flu_model.specs.declared.moments.Timing.{Timing}
 use Rattle.flu_model.specs.Moments.{timing_of}
+use Rattle.flu_model.specs.Rules.{is_clock}
 use Rattle.flu_model.specs.Itags.{count_of_itags}
 use Rattle.flu_outside.specs.Outside.{Contents, WhereTold, Rose}
 use Rattle.flu_outside.specs.Taking.{IsReadOut}
@@ -31,14 +33,15 @@ use Rattle.flu_streams.specs.Files.{files_of, AreReadOut}
 use Rattle.flu_streams.specs.Good.{event_of, at_moments, in_time_order}
 use Rattle.flu_streams.specs.Rounds.{Turn, Reads, IsPassed, IsRound, IsRoundFault, LinesIn, defect_in, is_above, is_enough, rows_between, settled_time}
 use Rattle.flu_streams.specs.Tags.{place_named, given_to, width}
-use Rattle.flu_streams.specs.Tests.{rows_of, times_of, greatest, has_ended, margin}
+use Rattle.flu_streams.specs.Tests.{rows_of, times_of, least, greatest, has_ended, margin}
 
 -- ---- what is held
--- of a source: the items with a time above the last border, in order of time; where its rows are read; the greatest time that was
--- read; whether `end` was; whether all of its file was; and in a resumed run, the border that the reading has yet to reach
+-- of a source: the items with a time above the last border, in order of time; where its rows are read; the least and the greatest time that were
+-- read; whether `end` was; whether all of its file was, as of a clock from the start; and in a resumed run, the border that the reading has yet to reach
 pub record HeldSource : Type 0 where
   pub items : List Item
   pub place : Place
+  pub first : Option ℕ
   pub last : Option ℕ
   pub ended : Bool
   pub closed : Bool
@@ -54,7 +57,7 @@ pub record Holding : Type 0 where
 
 -- nothing was read of a source, whose rows have this form and are run from this border on, if there is one
 abbrev pub unread_source : RowForm → Option ℕ → Source → HeldSource
-unread_source form border s = record { items = []; place = front_of form s.file; last = None; ended = false; closed = false; goal = border }
+unread_source form border s = record { items = []; place = front_of form s.file; first = None; last = None; ended = false; closed = is_clock s; goal = border }
 
 -- nothing was read of any
 abbrev pub unread : Program → ℕ → Option ℕ → Holding
@@ -89,6 +92,7 @@ pub record IsHeldBehind (timing : Timing) (kinds : List Kind) (first : ℕ) (s :
   pub sound : defect_in timing kinds s lines ≡ None
   pub low : Option ℕ
   pub items : h.items ≡ map (item_of kinds s first) (in_time_order (at_moments timing [] (rows_between low Closed (rows_of lines))))
+  pub earliest : h.first ≡ least (times_of (rows_of lines))
   pub last : h.last ≡ greatest (times_of (rows_of lines))
   pub ended : h.ended ≡ has_ended (rows_of lines)
   pub settled : h.closed ≡ false → (t : ℕ) → low ≡ Some t → (u : ℕ) × (settled_time timing s lines ≡ Some u) × (t ≤ u)
@@ -99,6 +103,7 @@ pub record IsHeldBehind (timing : Timing) (kinds : List Kind) (first : ℕ) (s :
 -- this is held of all sources after these lines of each
 pub record AreHeldBehind (h : Holding) (lines : ℕ → List Next) : Type 0 where
   pub count : length h.sources ≡ length h.program.sources
+  pub clocks : AtEach (λ i s. (source : HeldSource) → slice_get h.sources i ≡ Some source → is_clock s ≡ true → source.closed ≡ true) h.program.sources
   pub each : (i : ℕ) (s : Source) (source : HeldSource) → slice_get h.program.sources i ≡ Some s → slice_get h.sources i ≡ Some source
       → IsHeldBehind (timing_of h.program i) h.program.kinds (first_itag h.program i) s h.border (lines i) source
 
@@ -112,7 +117,9 @@ AreInAll h lines left whole = AtEach (λ i source. whole i ≡ lines i ++ still 
 
 -- nothing is left of a file that was read to its end, if what is left is known
 abbrev pub ClosedAreReadOut : Holding → Option Contents → Type 0
-ClosedAreReadOut h left = AtEach (λ i source. source.closed ≡ true → IsReadOut source.place.file left) h.sources
+ClosedAreReadOut h left =
+    AtEach (λ i s. (source : HeldSource) → slice_get h.sources i ≡ Some source → is_clock s ≡ false → source.closed ≡ true → IsReadOut source.place.file left)
+    h.program.sources
 
 -- all files were read to their ends
 abbrev pub AreClosed : Holding → Type 0
@@ -185,6 +192,7 @@ pub record HidesNoRoundFault (old : Holding) (left left' : Option Contents) (fau
   pub at : ℕ
   pub source : Source
   pub is : slice_get old.program.sources at ≡ Some source
+  pub has_file : is_clock source ≡ false
   pub rose : Rose (faults source.file) (faults' source.file)
   pub now : ℕ → List Next
   pub more : List Next
@@ -196,7 +204,8 @@ pub record HidesNoRoundFault (old : Holding) (left left' : Option Contents) (fau
   pub file : place.file ≡ source.file
   pub undecided : IsUndecided place.taken
   pub told : WhereTold left left' (λ was is. (whole : ℕ → List Next) → AreInAll old before was whole
-      → AtEach (λ i s. i < at → (turn : Turn) × Reads (timing_of old.program i) old.program.kinds s old.rows old.border (whole i) (before i) (now i) turn × IsPassed turn)
+      → AtEach (λ i s. i < at
+      → (turn : Turn) × Reads (timing_of old.program i) old.program.kinds s old.rows old.border (whole i) (before i) (now i) turn × IsPassed turn)
       old.program.sources
       × (whole at ≡ now at ++ ahead place is))
 

@@ -1,5 +1,6 @@
 -- What is held of one source, and how it is read in a round, or whole.
-use Rattle.std.specs.Prelude.{◌≡◌, ℕ, ◌+◌, ◌*◌, ◌<◌, ◌≤◌, max, min, true, false, ◌||◌, nat_lt, nat_le, Option, Some, None, option_and_then, unwrap_or, List, [], ◌∷◌}
+use Rattle.std.specs.Prelude.{◌≡◌, ℕ, ◌+◌, ◌*◌, ◌<◌, ◌≤◌, max, min, true, false, ◌||◌, nat_lt, nat_le, Option, Some, None, option_and_then, unwrap_or, List}
+use Rattle.std.specs.Prelude.{[], ◌∷◌}
 use Rattle.std.specs.Prelude.{◌++◌, length, take, slice_get, if◌then◌else◌, ⊤, Bool, is_some, option_map}
 use Rattle.std.specs.List.{filter, list_all}
 use Rattle.flu_model.specs.Erasure.{job_of}
@@ -12,6 +13,7 @@ use Rattle.flu_model.specs.declared.jobs.Source.{Source}
 use Rattle.flu_model.specs.declared.jobs.Program.{Program}
 use Rattle.flu_model.specs.declared.moments.Timing.{Timing}
 use Rattle.flu_model.specs.Moments.{timing_of, last_moment}
+use Rattle.flu_model.specs.Rules.{is_clock}
 use Rattle.flu_outside.specs.Outside.{Contents, WhereTold, Rose}
 use Rattle.flu_outside.specs.Taking.{IsReadOut}
 use Rattle.flu_rows.specs.declared.row.Row.{Row}
@@ -33,6 +35,7 @@ use Rattle.flu_streams.specs.declared.stop.Stop.TheVariants.{Defect, ReadFault, 
 use Rattle.flu_streams.specs.Before.{first_some, or_else}
 use Rattle.flu_streams.specs.Holding.{HeldSource, IsHeldBehind, IsNewBorder, first_itag, item_of, most_of, still}
 use Rattle.flu_streams.specs.Lists.{item_time}
+use Rattle.flu_streams.specs.LoopClocks.{FewTicks, span_of}
 use Rattle.flu_streams.specs.LoopMoments.{border_moment, own_times, at_moment, item_at_moment}
 use Rattle.flu_streams.specs.LoopStop.{fault_of_stop}
 use Rattle.flu_streams.specs.Rounds.{defect_in, line_defect, is_above, is_up_to, is_enough, settled, settled_time}
@@ -41,7 +44,7 @@ use Rattle.flu_streams.specs.Tests.{rows_of, is_end, time_in, items_in, items_of
 
 -- what contracts see of it
 abbrev pub source_of : Inlet → HeldSource
-source_of h = record { items = h.items; place = h.rows; last = h.last; ended = h.ended; closed = h.closed; goal = h.goal }
+source_of h = record { items = h.items; place = h.rows; first = h.first; last = h.last; ended = h.ended; closed = h.closed; goal = h.goal }
 
 -- ---- how many items are settled
 -- how many of some items come no later than a time
@@ -144,12 +147,17 @@ abbrev pub later_of : Option ℕ → Option ℕ → Option ℕ
 later_of last None = last
 later_of last (Some time) = Some (max (unwrap_or last 0) time)
 
+abbrev pub sooner_of : Option ℕ → Option ℕ → Option ℕ
+sooner_of first None = first
+sooner_of first (Some time) = Some (min (unwrap_or first time) time)
+
 -- a row passes its tests, and is held at its moment
 pub record PutsIn (kinds : List Kind) (s : Source) (first : ℕ) (row : Row) (old new : Inlet) : Type 0 where
   pub passes : fault_behind kinds s old row ≡ None
   pub items : new.items ≡ put_timed (time_in row) (item_of kinds s first (at_moment old.timing (own_times old.timing old.items) row)) old.items
   pub timing : new.timing ≡ old.timing
   pub rows : new.rows ≡ old.rows
+  pub earliest : new.first ≡ sooner_of old.first (time_in row)
   pub last : new.last ≡ later_of old.last (time_in row)
   pub ended : new.ended ≡ (old.ended || is_end row)
   pub closed : new.closed ≡ old.closed
@@ -161,6 +169,7 @@ pub record PutsItem (item : Item) (count : ℕ) (old new : Inlet) : Type 0 where
   pub items : new.items ≡ put_late item_time (item_at_moment old.timing (own_times old.timing old.items) item) old.items
   pub timing : new.timing ≡ old.timing
   pub rows : new.rows ≡ old.rows
+  pub first : new.first ≡ sooner_of old.first (Some (item_time item))
   pub last : new.last ≡ Some (max (unwrap_or old.last 0) (item_time item))
   pub ended : new.ended ≡ old.ended
   pub closed : new.closed ≡ old.closed
@@ -178,6 +187,7 @@ pub record IsWellAt (timing : Timing) (s : Source) (border : Option ℕ) (h : In
   pub timing_is : h.timing ≡ timing
   pub file : h.rows.file ≡ s.file
   pub goal : (t : ℕ) → h.goal ≡ Some t → border ≡ Some t
+  pub clock : is_clock s ≡ true → h.closed ≡ true
   pub above : h.goal ≡ None → list_all (λ item. is_above (border_moment timing border) (item_time item)) h.items ≡ true
   pub settled : h.goal ≡ None → IsSettledAt s border h
 
@@ -209,7 +219,8 @@ AreUncounted inlets = AtEach (λ i h. is_some h.held ≡ false) inlets
 -- nothing more is required after a call that failed
 abbrev pub IsWellIn : Program → ℕ → Option ℕ → Stage → List Inlet → Type 0
 IsWellIn p rows border Filling inlets = AreWell p rows border inlets
-IsWellIn p rows border (Filled b) inlets = AreWell p rows border inlets × IsSettledBy p border b inlets × AreCaughtUp inlets
+IsWellIn p rows border (Filled b) inlets =
+    AreWell p rows border inlets × IsSettledBy p border b inlets × AreCaughtUp inlets × FewTicks p rows border (span_of p inlets) b
 IsWellIn p rows border Over inlets = ⊤
 
 abbrev pub IsWell : Program → ℕ → Option ℕ → Stage → List Inlet → Type 0
@@ -231,12 +242,14 @@ pub data IsCaughtUp (slack : ℕ) (old new : Inlet) : Type 0 where
   Stays : new.items ≡ old.items → new.goal ≡ old.goal → IsCaughtUp slack old new
   Drops : (t goal : ℕ) → old.closed ≡ false → settled (margin old.timing slack) old.last ≡ Some t → t < goal → old.goal ≡ Some goal → new.goal ≡ Some goal
       → new.items ≡ filter (λ item. nat_lt (last_moment old.timing t) (item_time item)) old.items → IsCaughtUp slack old new
-  Comes : (goal : ℕ) → (old.closed ≡ false → (u : ℕ) × (settled (margin old.timing slack) old.last ≡ Some u) × (goal ≤ u)) → old.goal ≡ Some goal → new.goal ≡ None
+  Comes : (goal : ℕ) → (old.closed ≡ false → (u : ℕ) × (settled (margin old.timing slack) old.last ≡ Some u) × (goal ≤ u)) → old.goal ≡ Some goal
+      → new.goal ≡ None
       → new.items ≡ filter (λ item. nat_lt (last_moment old.timing goal) (item_time item)) old.items → IsCaughtUp slack old new
 
 pub record CatchesUp (slack : ℕ) (old new : Inlet) : Type 0 where
   pub timing : new.timing ≡ old.timing
   pub rows : new.rows ≡ old.rows
+  pub first : new.first ≡ old.first
   pub last : new.last ≡ old.last
   pub ended : new.ended ≡ old.ended
   pub closed : new.closed ≡ old.closed
@@ -285,7 +298,8 @@ pub record IsRefilled (kinds : List Kind) (s : Source) (first : ℕ) (rows : Opt
       → Refills old.timing kinds s first rows above before old new left left' end
 
 -- a defect is met after lines that are not enough
-pub record MeetsDefect (timing : Timing) (kinds : List Kind) (s : Source) (rows above : Option ℕ) (before : List Next) (old : Inlet) (left left' : Option Contents)
+pub record MeetsDefect (timing : Timing) (kinds : List Kind) (s : Source) (rows above : Option ℕ) (before : List Next) (old : Inlet)
+    (left left' : Option Contents)
     (row : ℕ) (why : Why) : Type 0 where
   pub more : List Next
   pub next : Next
@@ -309,9 +323,11 @@ pub record StopsBehind (timing : Timing) (kinds : List Kind) (s : Source) (rows 
   pub told : WhereTold left left' (λ was is. still (source_of old) was ≡ more ++ ahead place is)
 
 abbrev pub IsStopOf : List Kind → Source → ℕ → Option ℕ → Inlet → Option Contents → Option Contents → Stop → Type 0
-IsStopOf kinds s first rows old left left' (Defect row why) = (above : Option ℕ) (before : List Next) → IsHeldBehind old.timing kinds first s above before (source_of old)
+IsStopOf kinds s first rows old left left' (Defect row why) = (above : Option ℕ) (before : List Next)
+    → IsHeldBehind old.timing kinds first s above before (source_of old)
     → MeetsDefect old.timing kinds s rows above before old left left' row why
-IsStopOf kinds s first rows old left left' ReadFault = (above : Option ℕ) (before : List Next) → IsHeldBehind old.timing kinds first s above before (source_of old)
+IsStopOf kinds s first rows old left left' ReadFault = (above : Option ℕ) (before : List Next)
+    → IsHeldBehind old.timing kinds first s above before (source_of old)
     → StopsBehind old.timing kinds s rows above before old left left'
 IsStopOf kinds s first rows old left left' NoMemory = ⊤
 
@@ -337,6 +353,7 @@ pub record StopsAtSource (p : Program) (rows : ℕ) (olds : List Inlet) (left le
   pub all : AreRefilled p rows olds news left left' ends
   pub source : Source
   pub is : slice_get p.sources (length ends) ≡ Some source
+  pub has_file : is_clock source ≡ false
   pub stop : Stop
   pub cause : fault ≡ fault_of_stop (length ends) stop
   pub rose : stop ≡ ReadFault → Rose (faults source.file) (faults' source.file)
@@ -352,6 +369,7 @@ pub record DropsTo (time : ℕ) (old new : Inlet) : Type 0 where
   pub items : new.items ≡ filter (λ item. nat_lt (last_moment old.timing time) (item_time item)) old.items
   pub timing : new.timing ≡ old.timing
   pub rows : new.rows ≡ old.rows
+  pub first : new.first ≡ old.first
   pub last : new.last ≡ old.last
   pub ended : new.ended ≡ old.ended
   pub closed : new.closed ≡ old.closed

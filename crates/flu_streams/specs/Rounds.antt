@@ -1,7 +1,7 @@
 -- Rounds: what is read of each source before some of its rows are run, and the time up to which rows are run (`docs/MODEL.md`).
 use Rattle.std.specs.Prelude.{◌≡◌, ℕ, ◌-◌, ◌<◌, ◌≤◌, Bool, true, false, ◌&&◌, nat_lt, nat_le, Option, Some, None, option_map, unwrap_or, List, [], ◌∷◌, ◌++◌}
-use Rattle.std.specs.Prelude.{length, take, slice_get, sum_by, if◌then◌else◌, ⊤}
-use Rattle.std.specs.List.{filter, flat_map}
+use Rattle.std.specs.Prelude.{length, take, slice_get, if◌then◌else◌, ⊤}
+use Rattle.std.specs.List.{filter}
 use Rattle.std.specs.Option.{option_map_or}
 use Rattle.flu_model.specs.Erasure.{job_of}
 use Rattle.flu_lemmas.specs.Elements.{AtEach}
@@ -17,12 +17,10 @@ use Rattle.flu_model.specs.Folding.{final_state, final_outputs}
 use Rattle.flu_model.specs.Merging.{merged}
 use Rattle.flu_model.specs.Reports.{report}
 use Rattle.flu_outside.specs.Outside.{Contents as Files}
-use Rattle.flu_outside.specs.Taking.{bytes_left}
 use Rattle.flu_rows.specs.declared.row.Row.{Row}
 use Rattle.flu_rows.specs.declared.rows.Next.{Next}
 use Rattle.flu_rows.specs.declared.rows.Next.TheVariants.{Row as RowNext, Bad, TooManyLines, Done}
 use Rattle.flu_rows.specs.Row.{form_of}
-use Rattle.flu_rows.specs.Reading.{read_file}
 use Rattle.flu_streams.specs.declared.border.Border.{Border}
 use Rattle.flu_streams.specs.declared.border.Border.TheVariants.{At, Closed}
 use Rattle.flu_streams.specs.declared.faults.SourceFault.{SourceFault}
@@ -30,9 +28,10 @@ use Rattle.flu_streams.specs.declared.faults.Why.{Why}
 use Rattle.flu_streams.specs.declared.faults.Why.TheVariants.{AfterEnd}
 use Rattle.flu_streams.specs.Before.{each_with_before, first_some}
 use Rattle.flu_streams.specs.Borders.{beyond}
-use Rattle.flu_streams.specs.Good.{lists_of_rows, lists_of}
-use Rattle.flu_streams.specs.Tags.{width}
-use Rattle.flu_streams.specs.Tests.{rows_of, time_in, times_of, greatest, has_ended, where_true, margin, test_range, test_tag, test_fields, test_item, test_time, defect_of}
+use Rattle.flu_streams.specs.Clocks.{Declared, ranks_among, ticks_of}
+use Rattle.flu_streams.specs.Good.{lines_in, lists_of_sources, lists_of}
+use Rattle.flu_streams.specs.Tests.{rows_of, time_in, times_of, greatest, has_ended, where_true, margin, test_range, test_tag, test_fields, test_item}
+use Rattle.flu_streams.specs.Tests.{test_time, defect_of}
 
 -- ---- defects
 -- the tests of a row except the one on how many items are held: a round holds few
@@ -47,7 +46,8 @@ row_fault timing kinds s ended earlier row = first_some (λ test. test) (row_tes
 
 -- the defect of a line, or of the file's end, after these lines
 abbrev pub line_defect : Timing → List Kind → Source → List Next → Next → Option (ℕ × Why)
-line_defect timing kinds s read (RowNext line row) = option_map (λ why. (line, why)) (row_fault timing kinds s (has_ended (rows_of read)) (times_of (rows_of read)) row)
+line_defect timing kinds s read (RowNext line row) = option_map (λ why. (line, why))
+    (row_fault timing kinds s (has_ended (rows_of read)) (times_of (rows_of read)) row)
 line_defect timing kinds s read (Bad line) = defect_of timing kinds s 0 read (Bad line)
 line_defect timing kinds s read TooManyLines = defect_of timing kinds s 0 read TooManyLines
 line_defect timing kinds s read (Done lines) = defect_of timing kinds s 0 read (Done lines)
@@ -122,17 +122,46 @@ IsWithin t (Open u) = t ≤ u
 IsWithin t Shut = ⊤
 IsWithin t (Meets row why) = ⊥
 
--- a round with a new border: no defect is met, and the border is the least of the settled times of the open sources
+-- where the rows among these lines of the sources stand
+abbrev pub ranks : Program → (ℕ → List Next) → List ℕ
+ranks p reads = ranks_among p (λ e. rows_of (reads (length e.0)))
+
+-- a time above one border and up to another
+abbrev pub is_within : Option ℕ → Border → ℕ → Bool
+is_within above end t = is_above above t && is_up_to end t
+
+-- the ticks of a clock above one border and up to another, among these lines of the sources
+abbrev pub ticks_between : Program → Option ℕ → Border → (ℕ → List Next) → Declared → List ℕ
+ticks_between p above end reads e = filter (is_within above end) (ticks_of p (ranks p reads) e)
+
+-- the tick of a clock with which a round above a border is full, if it has so many
+abbrev pub last_tick : Program → ℕ → Option ℕ → (ℕ → List Next) → Declared → Option ℕ
+last_tick p rows above reads e = slice_get (ticks_between p above Closed reads e) (rows - 1)
+
+-- a round with a new border is full by a source that is open and settled up to the border, or by a clock
+pub data IsFull (p : Program) (rows : ℕ) (above : Option ℕ) (whole before now : ℕ → List Next) (t : ℕ) : Type 0 where
+  BySource : (i : ℕ) (s : Source) → slice_get p.sources i ≡ Some s → Reads (timing_of p i) p.kinds s rows above (whole i) (before i) (now i) (Open t)
+      → IsFull p rows above whole before now t
+  ByTick : (i : ℕ) (s : Source) → slice_get p.sources i ≡ Some s → last_tick p rows above now (take i p.sources, s) ≡ Some t
+      → IsFull p rows above whole before now t
+
+-- a round with a new border: no defect is met, and the border is the least of the settled times of the open sources and of the last ticks of
+-- the clocks
 pub record IsRoundAt (p : Program) (rows : ℕ) (above : Option ℕ) (whole before now : ℕ → List Next) (t : ℕ) : Type 0 where
   pub each : AtEach (λ i s. (turn : Turn) × Reads (timing_of p i) p.kinds s rows above (whole i) (before i) (now i) turn × IsWithin t turn) p.sources
-  pub least : (i : ℕ) × (s : Source) × (slice_get p.sources i ≡ Some s)
-      × Reads (timing_of p i) p.kinds s rows above (whole i) (before i) (now i) (Open t)
+  pub few : AtEach (λ i s. (last : ℕ) → last_tick p rows above now (take i p.sources, s) ≡ Some last → t ≤ last) p.sources
+  pub full : IsFull p rows above whole before now t
+
+-- the last round: all sources are closed, and no clock has ticks for another round
+pub record IsLastRound (p : Program) (rows : ℕ) (above : Option ℕ) (whole before now : ℕ → List Next) : Type 0 where
+  pub each : AtEach (λ i s. Reads (timing_of p i) p.kinds s rows above (whole i) (before i) (now i) Shut) p.sources
+  pub few : AtEach (λ i s. last_tick p rows above now (take i p.sources, s) ≡ None) p.sources
 
 -- A ROUND above a border, where these are all the lines of the sources, by the source's number; these were read before it,
--- and these are in it. The last round is the one in which all sources are closed.
+-- and these are in it
 abbrev pub IsRound : Program → ℕ → Option ℕ → (ℕ → List Next) → (ℕ → List Next) → (ℕ → List Next) → Border → Type 0
 IsRound p rows above whole before now (At t) = IsRoundAt p rows above whole before now t
-IsRound p rows above whole before now Closed = AtEach (λ i s. Reads (timing_of p i) p.kinds s rows above (whole i) (before i) (now i) Shut) p.sources
+IsRound p rows above whole before now Closed = IsLastRound p rows above whole before now
 
 -- no defect is met
 abbrev pub IsPassed : Turn → Type 0
@@ -150,12 +179,10 @@ pub record IsRoundFault (p : Program) (rows : ℕ) (above : Option ℕ) (whole b
 
 -- ---- the rows of a round
 -- the lists of the rows above one border and up to another, among these lines of each source: for each itag its events and the
--- heartbeats of its source, sorted by time, and the end
+-- heartbeats of its source, sorted by time, and the end; and of the ticks of clocks
 abbrev pub lists_between : Program → Option ℕ → Border → (ℕ → List Next) → List (List Item)
 lists_between p above end reads =
-    flat_map
-    (λ e. lists_of_rows (timing_of p (length e.0)) p.kinds e.1 (sum_by width e.0) (rows_between above end (rows_of (reads (length e.0)))))
-    (each_with_before p.sources)
+    lists_of_sources p (λ e. rows_between above end (rows_of (reads (length e.0)))) (ticks_between p above end reads)
 
 -- ROUNDS ONE AFTER ANOTHER, from the first on, each with a new border, of a run that starts above a border, if there is one: the
 -- lists of each, the border that they come to, and what has been read by then
@@ -204,9 +231,9 @@ LawOfRounds =
 abbrev pub LawOfNoRows : Type 0
 LawOfNoRows = (p : Program) (opening : Contents) (t : ℕ) (reads : ℕ → List Next) → GiveTheFold p opening [] (lists_between p (Some t) (At t) reads)
 
--- these are the lines of the files of all sources
+-- these are the lines of the files of all sources; a clock has none
 abbrev pub LinesIn : Program → Files → (ℕ → List Next) → Type 0
-LinesIn p left whole = AtEach (λ i s. whole i ≡ read_file (form_of (job_of p)) (bytes_left left s.file)) p.sources
+LinesIn p left whole = AtEach (λ i s. whole i ≡ lines_in (form_of (job_of p)) left s) p.sources
 
 -- THE LAST ROUND: after it the rows that were read are all rows of the sources' files, and their lists are those of a whole reading
 abbrev pub LawOfLastRound : Type 0

@@ -1,5 +1,5 @@
 -- The tests that the lines of a source have to pass, and its first defect (`docs/LANGUAGE.md`, "Rows").
-use Rattle.std.specs.Prelude.{ℕ, ◌+◌, ◌/◌, ◌^◌, max, Bool, true, false, not, nat_lt, nat_le, Option, Some, None, is_none, option_map, unwrap_or, List}
+use Rattle.std.specs.Prelude.{ℕ, ◌+◌, ◌^◌, max, min, Bool, true, false, not, nat_lt, nat_le, Option, Some, None, is_none, option_map, unwrap_or, List}
 use Rattle.std.specs.Prelude.{[], ◌∷◌, if◌then◌else◌, sum_by}
 use Rattle.std.specs.List.{list_any, filter_map}
 use Rattle.flu_lemmas.specs.Counting.{times}
@@ -51,6 +51,11 @@ abbrev pub greatest : List ℕ → Option ℕ
 greatest [] = None
 greatest (t ∷ ts) = Some (max t (unwrap_or (greatest ts) 0))
 
+-- the least of some times
+abbrev pub least : List ℕ → Option ℕ
+least [] = None
+least (t ∷ ts) = Some (min t (unwrap_or (least ts) t))
+
 -- how many items a row has in a source of this many itags: an event is one, and a heartbeat is one for each itag
 abbrev pub items_in : ℕ → Row → ℕ
 items_in itags (Event time name key fields) = 1
@@ -65,10 +70,10 @@ abbrev pub where_true : Bool → Why → Option Why
 where_true true why = Some why
 where_true false why = None
 
--- the moments of a time are below 2^63
+-- a time is below the end of times
 abbrev pub has_moments : Timing → Option ℕ → Bool
 has_moments timing None = true
-has_moments timing (Some time) = nat_lt time (2 ^ 63 / timing.scale)
+has_moments timing (Some time) = nat_lt time timing.end
 
 abbrev pub test_range : Timing → Row → Option Why
 test_range timing row = where_true (not (has_moments timing (time_in row))) BadRow
@@ -138,7 +143,8 @@ fault_of timing kinds s ended earlier held row = first_some (λ test. test) (tes
 -- the defect of a line or of the file's end after these lines, while this many items are held of other sources
 abbrev pub defect_of : Timing → List Kind → Source → ℕ → List Next → Next → Option (ℕ × Why)
 defect_of timing kinds s held read (RowNext line row) =
-    option_map (λ why. (line, why)) (fault_of timing kinds s (has_ended (rows_of read)) (times_of (rows_of read)) (held + items_of (width s) (rows_of read)) row)
+    option_map (λ why. (line, why))
+    (fault_of timing kinds s (has_ended (rows_of read)) (times_of (rows_of read)) (held + items_of (width s) (rows_of read)) row)
 defect_of timing kinds s held read (Bad line) = Some (line, (if has_ended (rows_of read) then AfterEnd else BadRow))
 defect_of timing kinds s held read TooManyLines = Some (2 ^ 32, TooMany (2 ^ 32))
 defect_of timing kinds s held read (Done lines) = if has_ended (rows_of read) then None else Some (lines + 1, Unclosed)

@@ -1,7 +1,8 @@
 //! What is held of the sources from round to round.
 
-ghost use Rattle.std.specs.Prelude.{◌≡◌, ◌≢◌, ◌≤◌, ◌<◌, ◌^◌, ℕ, length, map, slice_get, vec_len, List, Option, Some, IsTrue, IfOk, IfErr, OnOk, OnErr, IsErrOf, Ok};
-ghost use Rattle.std.specs.Prelude.{Err};
+ghost use Rattle.std.specs.Prelude.{◌≡◌, ◌≢◌, ◌≤◌, ◌<◌, ◌^◌, ℕ, length, map, slice_get, vec_len, List, Option, Some, IsTrue, IfOk, IfErr, OnOk, OnErr};
+ghost use Rattle.std.specs.Prelude.{IsErrOf, Ok};
+ghost use Rattle.std.specs.Prelude.{Err, None, [], ◌∷◌, ◌+◌, take, is_some, true, false};
 ghost use Rattle.flu_model.specs.Erasure.{job_of};
 ghost use Rattle.flu_model.specs.Itags.{count_of_itags};
 ghost use Rattle.flu_model.specs.Listed.{listed};
@@ -15,16 +16,25 @@ ghost use Rattle.flu_streams.specs.Holding.{HidesNoRoundFault, Cuts, HoldsFew, H
 ghost use Rattle.flu_lemmas.specs.Elements.{AtEach};
 ghost use Rattle.flu_model.specs.Streaming.{are_streams};
 ghost use Rattle.flu_streams.specs.Lists.{lists_in};
-ghost use Rattle.flu_streams.specs.Holding.{unread_source};
+ghost use Rattle.flu_streams.specs.Holding.{unread_source, IsHeldBehind};
 ghost use Rattle.flu_streams.specs.LoopHeld.{source_of, earlier_of, HasRefilled, StopsAtSource, AreDropped, AreBehind, AreCaughtUp, AreTimed, AreUncounted};
-ghost use Rattle.flu_streams.specs.Rounds.{lists_between};
+ghost use Rattle.flu_streams.specs.LoopClocks.{IsEarly, IsByTicks, FewTicks, span_of, ticks_in_span};
+ghost use Rattle.flu_streams.specs.Clocks.{items_of_ticks};
+ghost use Rattle.flu_streams.specs.Good.{lists_of_rows};
+ghost use Rattle.flu_streams.specs.Tags.{width};
+ghost use Rattle.flu_streams.specs.Tests.{rows_of};
+ghost use Rattle.flu_streams.specs.Rounds.{lists_between, rows_between};
+ghost use Rattle.flu_model.specs.Moments.{end_of_times, timing_of};
+ghost use Rattle.flu_model.specs.Rules.{is_clock};
+ghost use Rattle.std.specs.List.{list_any};
 
 use crate::border::Border;
+use crate::clocks::{Span, has_clocks, items_of_ticks, span_with, ticks_within};
 use crate::faults::GatherFault;
 use crate::inlet::Inlet;
 use crate::stop::fault_of;
 use crate::tags::tag_count;
-use flu_model::{Item, Program, Streams, timing_of};
+use flu_model::{Itag, Item, Program, Source, Streams, timing_of};
 use flu_outside::Files;
 use flu_rows::form_of;
 use std::alloc::{AllocError, Global};
@@ -175,6 +185,7 @@ impl Held {
             Ok(end) => end,
             Err(fault) => return Err(fault),
         };
+        let end = border_by_ticks(p, self.sources.as_slice(), self.rows, self.border, end);
         self.stage = Stage::Filled(end);
         Ok(end)
     }
@@ -198,7 +209,7 @@ impl Held {
         ensures few_items { IfOk result (λ streams. HaveAtMost (most_held p.now) (listed streams)) }
     {
         self.stage = Stage::Over;
-        let lists = lists_to(alloc, p, &self.sources, b)?;
+        let lists = lists_to(alloc, p, &self.sources, self.border, b)?;
         let Border::At(time) = b else {
             return Ok(Streams::new(lists));
         };
@@ -237,6 +248,7 @@ fn refill_all<F: Files>(
     requires uncounted { AreUncounted inlets.old.items }
     requires timed { AreTimed p.now inlets.old.items }
     requires files { AtEach (λ i s. (h : Inlet) → slice_get inlets.old.items i ≡ Some h → h.rows.file ≡ s.file) p.now.sources }
+    requires clocks { AtEach (λ i s. (h : Inlet) → slice_get inlets.old.items i ≡ Some h → is_clock s ≡ true → h.closed ≡ true) p.now.sources }
     ensures uncounted { AreUncounted inlets.new.items }
     ensures timed { AreTimed p.now inlets.new.items }
     ensures filled { IfOk result (λ end. HasRefilled p.now rows inlets.old.items inlets.new.items (F.left files.old) (F.left files.new) end) }
@@ -274,32 +286,134 @@ fn earlier(a: Border, b: Border) -> Border
     }
 }
 
-// The items of each itag up to a border.
+// The span of the rows that were read of all sources.
+fn span_of(p: &Program, inlets: &[Inlet]) -> Option<Span>
+    requires count { length inlets.now ≡ length p.now.sources }
+    requires timed { AreTimed p.now inlets.now }
+    requires version { p.now.version ≡ 3 }
+    ensures span { result ≡ span_of p.now inlets.now }
+    ensures early { IsEarly (length p.now.sources) (end_of_times p.now) result }
+{
+    let sources = p.sources.items().len() as u64;
+    let mut span = None;
+    let mut number = 0;
+    for inlet in inlets {
+        span = span_with(sources, number, span, inlet.first, inlet.last);
+        number += 1;
+    }
+    span
+}
+
+// The border of a round up to which the sources are settled, or an earlier one: no clock has more ticks up to it than a round takes.
+fn border_by_ticks(
+    p: &Program,
+    inlets: &[Inlet],
+    rows: u32,
+    above: Option<u64>,
+    end: Border,
+) -> Border
+    requires some { 1 ≤ rows }
+    requires count { length inlets.now ≡ length p.now.sources }
+    requires timed { AreTimed p.now inlets.now }
+    ensures { IsByTicks p.now rows above (span_of p.now inlets.now) end result }
+{
+    if !has_clocks(p) {
+        return end;
+    }
+    let span = span_of(p, inlets);
+    let mut end = end;
+    let mut number = 0;
+    for source in p.sources.items() {
+        let ticks = ticks_within(p, number, source, span, above, Border::Closed);
+        if let Some(time) = ticks.get(u64::from(rows - 1)) {
+            end = earlier(end, Border::At(time));
+        }
+        number += 1;
+    }
+    end
+}
+
+// The span of the rows that were read of all sources, where a clock needs it.
+fn span_for_clocks(p: &Program, inlets: &[Inlet]) -> Option<Span>
+    requires count { length inlets.now ≡ length p.now.sources }
+    requires timed { AreTimed p.now inlets.now }
+    ensures span { list_any is_clock p.now.sources ≡ true → result ≡ span_of p.now inlets.now }
+    ensures early { IsEarly (length p.now.sources) (end_of_times p.now) result }
+{
+    if !has_clocks(p) {
+        return None;
+    }
+    span_of(p, inlets)
+}
+
+// The items of each itag above one border and up to another.
 fn lists_to(
     alloc: Global,
     p: &Program,
     inlets: &[Inlet],
+    above: Option<u64>,
     end: Border,
 ) -> Result<Vec<Vec<Item>>, AllocError>
     requires count { length inlets.now ≡ length p.now.sources }
+    requires few { FewTicks p.now 4096 above (span_of p.now inlets.now) end }
     requires caught { AreCaughtUp inlets.now }
     requires timed { AreTimed p.now inlets.now }
     requires uncounted { AreUncounted inlets.now }
     ensures len { IfOk result (λ lists. vec_len lists ≡ count_of_itags p.now) }
     ensures streams { IfOk result (λ lists. IsTrue (are_streams 0 (lists_in lists))) }
     ensures few { IfOk result (λ lists. HaveAtMost (most_held p.now) (lists_in lists)) }
-    ensures lists { IfOk result (λ lists. (border : Option ℕ) (lines : ℕ → List Next) → AreBehind p.now border lines inlets.now
-        → lists_in lists ≡ lists_between p.now border end lines) }
+    ensures lists { IfOk result (λ lists. (lines : ℕ → List Next) → AreBehind p.now above lines inlets.now
+        → lists_in lists ≡ lists_between p.now above end lines) }
 {
+    let span = span_for_clocks(p, inlets);
     let mut lists = Vec::new(alloc);
     let mut number = 0;
     for source in p.sources.items() {
         let first = lists.len() as u32;
-        let width = tag_count(source.tags.items());
-        let mut own = inlets[number].lists(alloc, first, width, end)?;
+        let inlet = &inlets[number as usize];
+        let mut own = lists_of_one(alloc, p, inlet, number, source, first, span, above, end)?;
         lists.append(&mut own)?;
         number += 1;
     }
+    Ok(lists)
+}
+
+// The same for the itags of one source, the first of which has the number `first`.
+fn lists_of_one(
+    alloc: Global,
+    p: &Program,
+    inlet: &Inlet,
+    number: u32,
+    source: &Source,
+    first: u32,
+    span: Option<Span>,
+    above: Option<u64>,
+    end: Border,
+) -> Result<Vec<Vec<Item>>, AllocError>
+    requires source { slice_get p.now.sources number ≡ Some source.now }
+    requires narrow { first + width source.now ≤ 256 }
+    requires early { IsEarly (length p.now.sources) (end_of_times p.now) span }
+    requires few { length (ticks_in_span p.now above span end (take number p.now.sources, source.now)) ≤ 4096 }
+    requires timed { inlet.now.timing ≡ timing_of p.now number }
+    requires caught { inlet.now.goal ≡ None }
+    requires uncounted { is_some inlet.now.held ≡ false }
+    ensures len { IfOk result (λ lists. vec_len lists ≡ width source.now) }
+    ensures streams { IfOk result (λ lists. IsTrue (are_streams first (lists_in lists))) }
+    ensures few { IfOk result (λ lists. HaveAtMost (most_held p.now) (lists_in lists)) }
+    ensures ticks { IfOk result (λ lists. is_clock source.now ≡ true → lists_in lists
+        ≡ items_of_ticks (timing_of p.now number) first (ticks_in_span p.now above span end (take number p.now.sources, source.now)) ∷ []) }
+    ensures rows { IfOk result (λ lists. is_clock source.now ≡ false → (lines : List Next)
+        → IsHeldBehind (timing_of p.now number) p.now.kinds first source.now above lines (source_of inlet.now)
+        → lists_in lists ≡ lists_of_rows (timing_of p.now number) p.now.kinds source.now first (rows_between above end (rows_of lines))) }
+{
+    if source.every.is_none() {
+        let width = tag_count(source.tags.items());
+        return inlet.lists(alloc, first, width, end);
+    }
+    let ticks = ticks_within(p, number, source, span, above, end);
+    let list = items_of_ticks(alloc, timing_of(p, number), Itag(first), ticks)?;
+    let mut lists = Vec::new(alloc);
+    lists.push(list)?;
     Ok(lists)
 }
 

@@ -1,6 +1,7 @@
 //! What is held of one source from round to round, and the loop over its rows.
 
-ghost use Rattle.std.specs.Prelude.{◌≡◌, ◌≢◌, ◌≤◌, ◌<◌, ◌+◌, ◌^◌, ◌/◌, ◌++◌, ◌∷◌, [], ℕ, None, Some, length, unwrap_or, vec_len, IsTrue, OnOk, IfOk, IfErr, IsErrOf};
+ghost use Rattle.std.specs.Prelude.{◌≡◌, ◌≢◌, ◌≤◌, ◌<◌, ◌+◌, ◌^◌, ◌/◌, ◌++◌, ◌∷◌, [], ℕ, None, Some, length, unwrap_or, vec_len, IsTrue, OnOk, IfOk, IfErr};
+ghost use Rattle.std.specs.Prelude.{IsErrOf};
 ghost use Rattle.std.specs.Prelude.{is_some, true, false, nat_le, Err};
 ghost use Rattle.std.specs.List.{filter_map, list_all};
 ghost use Rattle.flu_lemmas.specs.Late.{rises_from};
@@ -31,7 +32,8 @@ use std::alloc::{AllocError, Global};
 const MOST_ROWS: u64 = 4096;
 
 /// What is held of a source: the items with a time above the last border at their moments, in order; how its rows are numbered; its reader; the
-/// greatest time that was read; and whether `end` was, and all of its file. In a resumed run, `goal` is its border until the reading has reached it.
+/// least and the greatest time that were read; and whether `end` was, and all of its file, as of a clock from the start. In a resumed run, `goal` is
+/// its border until the reading has reached it.
 ///
 /// `held` is how many items are held, those of earlier sources and one for each itag of a heartbeat included, where a source is
 /// read whole: there it has a limit, and no other. A round needs few items, so for rounds they are not counted.
@@ -40,6 +42,7 @@ pub(crate) struct Inlet {
     pub(crate) rows: Rows,
     pub(crate) items: TimedItems,
     pub(crate) timing: Timing,
+    pub(crate) first: Option<u64>,
     pub(crate) last: Option<u64>,
     pub(crate) ended: bool,
     pub(crate) closed: bool,
@@ -49,6 +52,8 @@ pub(crate) struct Inlet {
     pub(crate) ghost none: { last ≡ None → items ≡ [] },
     pub(crate) ghost fits: { IsTiming timing },
     pub(crate) ghost range: { unwrap_or last 0 < 2 ^ 63 / timing.scale },
+    pub(crate) ghost early: { (t : ℕ) → last ≡ Some t → t < timing.end },
+    pub(crate) ghost ordered: { (t : ℕ) → last ≡ Some t → (f : ℕ) → first ≡ Some f → f ≤ t },
     pub(crate) ghost within: { IsTrue (list_all (λ t. nat_le t (unwrap_or last 0)) (own_times timing items)) },
     pub(crate) ghost in_a_row: { IsTrue (are_in_a_row timing None (times_in items)) },
     pub(crate) ghost few: { is_some held ≡ false → length items ≤ most_of timing },
@@ -83,9 +88,10 @@ impl Inlet {
             rows: Rows::new(alloc, form, &source.file)?,
             items: TimedItems::new(alloc),
             timing,
+            first: None,
             last: None,
             ended: false,
-            closed: false,
+            closed: source.every.is_some(),
             goal: border,
             held,
         })
@@ -119,6 +125,8 @@ impl Inlet {
         ensures quiet { result ≢ Err Stop.ReadFault → SameCounts (F.faults files.old) (F.faults files.new) }
         ensures puts { SameCounts (F.put_faults files.old) (F.put_faults files.new) }
         ensures cause { IsErrOf result Stop.ReadFault → Rose (F.faults files.old source.now.file) (F.faults files.new source.now.file) }
+        ensures shut { self.old.closed ≡ true → files.new ≡ files.old }
+        ensures read { IfErr result (λ stop. self.old.closed ≡ false) }
     {
         self.catch_up(source.slack);
         loop {
@@ -317,9 +325,8 @@ impl Inlet {
         }
     }
 
-    // Whether the moments of a row's time are below 2^63.
+    // Whether a row's time is below the end of times.
     fn has_moments(&self, row: &Row) -> bool
-        requires { IsInRange row.now }
         ensures { result ≡ has_moments self.now.timing (time_in row.now) }
     {
         match row {
@@ -328,26 +335,27 @@ impl Inlet {
         }
     }
 
-    // Whether the moments of a time are below 2^63.
+    // Whether a time is below the end of times.
     #[inline]
     fn is_early(&self, time: u64) -> bool
-        requires { time < 2 ^ 63 }
         ensures { result ≡ has_moments self.now.timing (Some time) }
     {
-        self.timing.scale == 1 || time < (1 << 63) / self.timing.scale
+        time < self.timing.end
     }
 
     // Takes in an event or a heartbeat at its moment, which counts as this many items.
     fn insert(&mut self, slack: u64, item: Item, count: u32) -> Result<(), RowRefusal>
-        requires time { item_time item < 2 ^ 63 / self.old.timing.scale }
+        requires time { item_time item < self.old.timing.end }
         requires timed { is_timed item ≡ true }
         requires slack { slack ≤ 60000 }
         requires room { is_some self.old.held ≡ false → length self.old.items < most_of self.old.timing }
-        ensures passes { OnOk result (fault_at self.old.timing slack (own_times self.old.timing self.old.items) self.old.last self.old.held (item_time item) count ≡ None) }
+        ensures passes { OnOk result
+            (fault_at self.old.timing slack (own_times self.old.timing self.old.items) self.old.last self.old.held (item_time item) count ≡ None) }
         ensures taken { OnOk result (PutsItem item count self.old self.new) }
         ensures counted { is_some self.new.held ≡ is_some self.old.held }
         ensures timing { self.new.timing ≡ self.old.timing }
-        ensures refused { IfErr result (IsRefusal (fault_at self.old.timing slack (own_times self.old.timing self.old.items) self.old.last self.old.held (item_time item) count)) }
+        ensures refused { IfErr result
+            (IsRefusal (fault_at self.old.timing slack (own_times self.old.timing self.old.items) self.old.last self.old.held (item_time item) count)) }
     {
         let time = time_of(&item);
         let moment = moment_behind(&mut self.items, self.timing, self.last, slack, time)?;
@@ -357,6 +365,7 @@ impl Inlet {
         if put_item(&mut self.items, at_time(item, moment), settled).is_err() {
             return Err(RowRefusal::NoMemory);
         }
+        self.first = Some(self.first.unwrap_or(time).min(time));
         self.last = Some(last);
         self.held = held;
         Ok(())

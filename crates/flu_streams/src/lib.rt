@@ -2,6 +2,7 @@
 #![tactic(auto)]
 
 mod border;
+mod clocks;
 mod faults;
 mod gathered;
 mod held;

@@ -14,7 +14,8 @@ use Rattle.flu_syntax.specs.Machine.{Context, Frame, Want, Now, Start, InExpress
 use Rattle.flu_syntax.specs.Machine.{Found, Unexpected, TooDeep, ended, run}
 use Rattle.flu_syntax.specs.Grammar.{declarations_signs, AreDeclarations}
 use Rattle.flu_syntax.proofs.Viable.{Can, can, goes_at, declares_at}
-use Rattle.flu_syntax.proofs.Spelling.{said_frames, said, Sound, Says, Spelt, Spells, spells_more, spells_declared, step_says}
+use Rattle.flu_syntax.proofs.Spelling.{Spelt, Spells, spells_more, spells_declared, step_says}
+use Rattle.flu_syntax.proofs.Said.{said_frames, said, Sound, Says}
 use Rattle.flu_syntax.proofs.Spelling.{whole_spelt, heading_says, run_says}
 use Rattle.flu_syntax.proofs.Levels.{Opens, opens_not, opens_minus, opens_paren, Opened, Kept, Keeps, step_keeps, any_allowed, whole_kept, heading_kept}
 use Rattle.flu_syntax.proofs.Levels.{declarations_more, run_kept, opened, kept_opened}

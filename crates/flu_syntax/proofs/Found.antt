@@ -23,25 +23,28 @@ use Rattle.flu_syntax.specs.declared.tree.WrittenCells.TheVariants as cells
 use Rattle.flu_syntax.specs.declared.tree.WrittenItem.{WrittenItem}
 use Rattle.flu_syntax.specs.declared.tree.WrittenRelation.{WrittenRelation}
 use Rattle.flu_syntax.specs.declared.tree.WrittenRelation.TheVariants as relation
-use Rattle.flu_syntax.specs.Tree.{Tree, Deed, Writes, Clears, Emits, Flushes, Action, Declaration, Cell, Tag, Names, Depends, On, Source, Declarations}
+use Rattle.flu_syntax.specs.Tree.{Tree, Deed, Writes, Clears, Emits, Flushes, Action, Declaration, Cell, Tag, Names, Depends, On, Source, Clock, Declarations}
 use Rattle.flu_syntax.specs.Machine.{tag_of, Actions, Tags, Context, Amount, Guard, Want, Done, ToWrite, ToClear, Now, Start, Declared, CellName, CellForm}
 use Rattle.flu_syntax.specs.Machine.{CellSort, TagName, TagForm, TagItem, TagValue, DependsFirst, DependsSecond, DependsHow, SourceName, SourceFile, SourceRate}
-use Rattle.flu_syntax.specs.Machine.{RateNumber, SourceSlack, SlackNumber, SourceColon, TagKind, TagKeys, TagLow, TagMore, TagHigh, TagClose, TagEnd, OnKind}
+use Rattle.flu_syntax.specs.Machine.{SourceColon, TagKind, TagKeys, TagLow, TagMore, TagHigh, TagClose, TagEnd, OnKind}
 use Rattle.flu_syntax.specs.Machine.{OnColon, ActionStart, DeedEnd, ActionEnd, EmitText, FlushFamily, FlushText, CellFamily, InExpression, Goes, acted}
 use Rattle.flu_syntax.specs.Machine.{listed, source_of, deed_step, action_step, operator_of, doing_of, sort_of, value_of, heading_of, opening, step, Found}
 use Rattle.flu_syntax.specs.Machine.{run, CellBy, CellList, TagBy, TagList, NamesName, NamesColon, NamesText, NamesEnd, Listing, by_of, item_of, listing_of}
 use Rattle.flu_syntax.specs.Machine.{texted}
+use Rattle.flu_syntax.specs.Machine.{ClockName, ClockEvery, ClockPeriod, ClockRate, ClockColon, ClockTag}
 use Rattle.flu_text.specs.Signs.{Sign, Any, At, Spanned, Named, IsSign, AreSigns, text, keys_signs}
 use Rattle.flu_syntax.specs.Grammar.{sort_word, value_word, verb_word, cell_signs, spelled, IsExpression, deed_signs, IsDeed}
 use Rattle.flu_syntax.specs.Grammar.{guard_signs, IsGuard, action_signs, AreActions, tag_signs, keyed_signs, list_signs, cells_signs, item_signs}
 use Rattle.flu_syntax.specs.Grammar.{relation_signs, rate_signs, slack_signs, declaration_signs, IsDeclaration, declarations_signs, AreDeclarations}
 use Rattle.flu_syntax.specs.Reading.{no_actions}
 use Rattle.flu_syntax.proofs.Runs.{run-behind, begins, job_ends, opens-nil}
-use Rattle.flu_syntax.proofs.Parts.{run-passed, run-closed, run-declared, run-no_relation, deed_plain, source_plain}
-use Rattle.flu_syntax.proofs.Parts.{source_prompt, cell_plain, cell_listless, tag_plain, tag_itemless, tag_listless, names_end, tag_alone}
+use Rattle.flu_syntax.proofs.Parts.{run-passed, run-closed, run-declared, run-no_relation, deed_plain}
+use Rattle.flu_syntax.proofs.Parts.{cell_plain, cell_listless, tag_plain, tag_itemless, tag_listless, names_end, tag_alone}
 use Rattle.flu_syntax.proofs.Parts.{tags_end, actions_end}
 use Rattle.flu_syntax.proofs.Accepts.{MayBe, on_named, Reaches, Same, Stops, ◌then◌, LeadsTo, takes_sign, NoBracket, NotWord, not_first, bracket_word, Quiet}
 use Rattle.flu_syntax.proofs.Accepts.{Quiet-follows, passes_quiet, high_of, top, accepts, accepts_cell, no_bracket}
+use Rattle.flu_syntax.proofs.SourceSteps.{source_name_step, source_file_step, source_colon_step, behind_rate, accepts_rate, accepts_slack, clock_name_step}
+use Rattle.flu_syntax.proofs.SourceSteps.{clock_every_step, clock_period_step, clock_colon_step, clock_tag_step, accepts_clock_rate}
 
 -- ---- what stands behind a declaration
 
@@ -71,6 +74,8 @@ headed (Depends a b how) more = record
 headed (On kind actions) more = record
     { quiet = λ word is. rw is refl; bracket = λ e. cc; semicolon = λ e. cc; comma = λ e. cc; guarded = λ e. cc; same = λ e. cc; all = λ e. cc }
 headed (Source n file rate slack tags) more = record
+    { quiet = λ word is. rw is refl; bracket = λ e. cc; semicolon = λ e. cc; comma = λ e. cc; guarded = λ e. cc; same = λ e. cc; all = λ e. cc }
+headed (Clock at n every rate tag) more = record
     { quiet = λ word is. rw is refl; bracket = λ e. cc; semicolon = λ e. cc; comma = λ e. cc; guarded = λ e. cc; same = λ e. cc; all = λ e. cc }
 
 declarations_headed : (job : Declarations) → Ends (declarations_signs job)
@@ -585,72 +590,6 @@ accepts_relation most end job a b (relation.Same at) tokens more h ends =
     let c = takes_sign most end job (DependsHow a b) (Declared (Depends a b (relation.Same at))) tokens (At (w.Reserved r.Same) at) more h (same_step a b at) in
     (c.0, c.1, c.2 then Same (run-declared end job (Depends a b (relation.Same at)) c.0))
 
-source_name_step : (n : WrittenSpan) (t : Token) → IsSign (Named n) t → step SourceName t ≡ Goes (SourceFile n)
-unfolding step
-source_name_step n t h = on_named n t (λ name. SourceFile name) h
-
-source_file_step : (n file : WrittenSpan) (t : Token) → IsSign (Spanned w.Text file) t → step (SourceFile n) t ≡ Goes (SourceRate n file)
-unfolding step
-source_file_step n file t h = rw (h.0, h.1, h.2) refl
-
-source_rate_step : (n file : WrittenSpan) (t : Token) → IsSign (Any (w.Reserved r.Rate)) t → step (SourceRate n file) t ≡ Goes (RateNumber n file)
-unfolding step
-source_rate_step n file t h = rw h refl
-
-rate_number_step : (n file : WrittenSpan) (rate : WrittenNumber) (t : Token) → IsSign (At (w.Number rate.value) rate.at) t
-    → step (RateNumber n file) t ≡ Goes (SourceSlack n file (Some rate))
-unfolding step
-rate_number_step n file rate t h = rw (h.0, h.1) refl
-
-source_slack_step : (n file : WrittenSpan) (rate : Option WrittenNumber) (t : Token) → IsSign (Any (w.Reserved r.Slack)) t
-    → step (SourceSlack n file rate) t ≡ Goes (SlackNumber n file rate)
-unfolding step
-source_slack_step n file rate t h = rw h refl
-
-slack_number_step : (n file : WrittenSpan) (rate : Option WrittenNumber) (slack : WrittenNumber) (t : Token) → IsSign (At (w.Number slack.value) slack.at) t
-    → step (SlackNumber n file rate) t ≡ Goes (SourceColon n file rate (Some slack))
-unfolding step
-slack_number_step n file rate slack t h = rw (h.0, h.1) refl
-
-source_colon_step : (n file : WrittenSpan) (rate slack : Option WrittenNumber) (t : Token) → IsSign (Any (w.Mark m.Colon)) t
-    → step (SourceColon n file rate slack) t ≡ Goes (TagKind (source_of n file rate slack))
-unfolding step
-source_colon_step n file rate slack t h = rw h refl
-
-abbrev behind_rate : Option WrittenNumber → List Sign → List Sign
-behind_rate slack more = slack_signs slack ++ (Any (w.Mark m.Colon) ∷ more)
-
-not_a_rate : (slack : Option WrittenNumber) (more : List Sign) → NotWord (w.Reserved r.Rate) (behind_rate slack more)
-not_a_rate None more = λ e. cc
-not_a_rate (Some slack) more = λ e. cc
-
-accepts_rate : (most end : ℕ) (job : Declarations) (n file : WrittenSpan) (rate slack : Option WrittenNumber) (tokens : List Token) (more : List Sign)
-    → AreSigns (rate_signs rate ++ behind_rate slack more) tokens
-    → LeadsTo most end job (SourceRate n file) tokens job (SourceSlack n file rate) (behind_rate slack more)
-accepts_rate most end job n file None slack tokens more h =
-    (tokens, h, Same (run-passed end job tokens (source_plain n file) (not_first _ tokens (behind_rate slack more) h (not_a_rate slack more))))
-accepts_rate most end job n file (Some rate) slack tokens more h =
-    let number = At (w.Number rate.value) rate.at in
-    let a = takes_sign most end job (SourceRate n file) (RateNumber n file) tokens (Any (w.Reserved r.Rate)) (number ∷ behind_rate slack more) h
-    (source_rate_step n file) in
-    let b = takes_sign most end job (RateNumber n file) (SourceSlack n file (Some rate)) a.0 number (behind_rate slack more) a.1
-    (rate_number_step n file rate) in
-    (b.0, b.1, a.2 then b.2)
-
-accepts_slack : (most end : ℕ) (job : Declarations) (n file : WrittenSpan) (rate slack : Option WrittenNumber) (tokens : List Token) (more : List Sign)
-    → AreSigns (behind_rate slack more) tokens
-    → LeadsTo most end job (SourceSlack n file rate) tokens job (SourceColon n file rate slack) (Any (w.Mark m.Colon) ∷ more)
-accepts_slack most end job n file rate None tokens more h =
-    (tokens, h, Same (run-passed end job tokens (source_prompt n file rate) (not_first _ tokens (Any (w.Mark m.Colon) ∷ more) h (λ e. cc))))
-accepts_slack most end job n file rate (Some slack) tokens more h =
-    let number = At (w.Number slack.value) slack.at in
-    let behind = Any (w.Mark m.Colon) ∷ more in
-    let a = takes_sign most end job (SourceSlack n file rate) (SlackNumber n file rate) tokens (Any (w.Reserved r.Slack)) (number ∷ behind) h
-    (source_slack_step n file rate) in
-    let b = takes_sign most end job (SlackNumber n file rate) (SourceColon n file rate (Some slack)) a.0 number behind a.1
-    (slack_number_step n file rate slack) in
-    (b.0, b.1, a.2 then b.2)
-
 on_kind_step : (kind : WrittenSpan) (t : Token) → IsSign (Named kind) t → step OnKind t ≡ Goes (OnColon kind)
 unfolding step
 on_kind_step kind t h = on_named kind t (λ name. OnColon name) h
@@ -682,6 +621,10 @@ heading_source t h = rw h refl
 heading_names : (at : ℕ) (t : Token) → IsSign (At (w.Name contextual.Names) at) t → opening t.from (heading_of t.word) ≡ Some (NamesName at)
 unfolding heading_of
 heading_names at t h = rw (h.0, h.1) refl
+
+heading_clock : (at : ℕ) (t : Token) → IsSign (At (w.Name contextual.Clock) at) t → opening t.from (heading_of t.word) ≡ Some (ClockName at)
+unfolding heading_of
+heading_clock at t h = rw (h.0, h.1) refl
 
 accepts_declaration : (most end : ℕ) (job : Declarations) (d : Declaration) (tokens : List Token) (more : List Sign)
     → AreSigns (declaration_signs d ++ more) tokens → IsDeclaration most d → Ends more
@@ -750,6 +693,27 @@ accepts_declaration most end job (Source n file rate slack (first ∷ tags)) tok
     (source_colon_step n file rate slack) in
     let c = accepts_tags most end job (source_of n file rate slack) first tags v.0 more v.1 ends in
     (c.0, c.1, x.2 then y.2 then z.2 then u.2 then s.2 then v.2 then c.2)
+accepts_declaration most end job (Clock at n every rate tag) tokens more h is ends =
+    let number = At (w.Number every.value) every.at in
+    let tail = Any (w.Mark m.Colon) ∷ Named tag ∷ more in
+    let behind = rate_signs rate ++ tail in
+    let moves : (rate_signs rate ++ (Any (w.Mark m.Colon) ∷ Named tag ∷ [])) ++ more ≡ behind =
+    append_assoc (rate_signs rate) (Any (w.Mark m.Colon) ∷ Named tag ∷ []) more in
+    let g : AreSigns (At (w.Name contextual.Clock) at ∷ Named n ∷ Any (w.Name contextual.Every) ∷ number ∷ behind) tokens =
+    subst (λ (x : List Sign). AreSigns (At (w.Name contextual.Clock) at ∷ Named n ∷ Any (w.Name contextual.Every) ∷ number ∷ x) tokens) moves h in
+    let x = opens_with most end job (ClockName at) tokens (At (w.Name contextual.Clock) at) (Named n ∷ Any (w.Name contextual.Every) ∷ number ∷ behind) g
+    (heading_clock at) in
+    let y = takes_sign most end job (ClockName at) (ClockEvery at n) x.0 (Named n) (Any (w.Name contextual.Every) ∷ number ∷ behind) x.1
+    (clock_name_step at n) in
+    let z = takes_sign most end job (ClockEvery at n) (ClockPeriod at n) y.0 (Any (w.Name contextual.Every)) (number ∷ behind) y.1
+    (clock_every_step at n) in
+    let u = takes_sign most end job (ClockPeriod at n) (ClockRate at n every) z.0 number behind z.1 (clock_period_step at n every) in
+    let s = accepts_clock_rate most end job at n every rate u.0 (Named tag ∷ more) u.1 in
+    let v = takes_sign most end job (ClockColon at n every rate) (ClockTag at n every rate) s.0 (Any (w.Mark m.Colon)) (Named tag ∷ more) s.1
+    (clock_colon_step at n every rate) in
+    let d = takes_sign most end job (ClockTag at n every rate) (Declared (Clock at n every rate tag)) v.0 (Named tag) more v.1
+    (clock_tag_step at n every rate tag) in
+    (d.0, d.1, x.2 then y.2 then z.2 then u.2 then s.2 then v.2 then d.2 then Same (run-declared end job (Clock at n every rate tag) d.0))
 
 -- ---- all declarations
 

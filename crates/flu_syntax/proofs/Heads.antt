@@ -13,7 +13,7 @@ use Rattle.flu_text.specs.declared.written.WrittenNumber.{WrittenNumber}
 use Rattle.flu_syntax.specs.declared.tree.WrittenTies.{WrittenTies}
 use Rattle.flu_syntax.specs.declared.tree.WrittenUnit.{WrittenUnit}
 use Rattle.flu_syntax.specs.declared.tree.WrittenHead.{WrittenHead}
-use Rattle.flu_syntax.specs.Tree.{Declaration, Cell, Tag, Names, Depends, On, Source, Declarations, Job}
+use Rattle.flu_syntax.specs.Tree.{Declaration, Cell, Tag, Names, Depends, On, Source, Clock, Declarations, Job}
 use Rattle.flu_text.specs.Signs.{Sign, AreSigns, is_name_word, span_of, number_of, number, place_of}
 use Rattle.flu_syntax.specs.Grammar.{declaration_signs, declarations_signs, head_signs, ties_signs, iso_signs, IsJobWithin, IsJob}
 use Rattle.flu_syntax.specs.Continued.{MayGoOn, CannotTake, IsFirstThatCannotFollow, IsTooDeep}
@@ -77,7 +77,8 @@ not_front : (word : Word) (front rest : List Token) → NotFirst word (front ++ 
 not_front word [] rest other = tt
 not_front word (t ∷ front) rest other = other
 
-not_more : (word : Word) (front : List Token) (t : Token) (rest more : List Token) → NotFirst word (front ++ t ∷ rest) → NotFirst word ((front ++ t ∷ []) ++ more)
+not_more : (word : Word) (front : List Token) (t : Token) (rest more : List Token) → NotFirst word (front ++ t ∷ rest)
+    → NotFirst word ((front ++ t ∷ []) ++ more)
 not_more word [] t rest more other = other
 not_more word (u ∷ front) t rest more other = other
 
@@ -128,6 +129,8 @@ no_head (On kind actions) more t tokens are =
     let first : t.word ≡ w.Reserved r.On = are.0 in record { version = λ e. cc; ties = λ e. cc; iso = λ e. cc }
 no_head (Source n file rate slack tags) more t tokens are =
     let first : t.word ≡ w.Reserved r.Source = are.0 in record { version = λ e. cc; ties = λ e. cc; iso = λ e. cc }
+no_head (Clock at n every rate tag) more t tokens are =
+    let first : t.word ≡ w.Name contextual.Clock = are.0.0 in record { version = λ e. cc; ties = λ e. cc; iso = λ e. cc }
 
 no_heads : (ds : Declarations) (t : Token) (tokens : List Token) → AreSigns (declarations_signs ds) (t ∷ tokens) → NoHead t.word
 no_heads [] t tokens are = absurd are

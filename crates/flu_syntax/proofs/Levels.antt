@@ -24,13 +24,14 @@ use Rattle.flu_text.specs.declared.written.WrittenKeys.TheVariants as keys
 use Rattle.flu_lemmas.proofs.Elements.{push_some}
 use Rattle.flu_lemmas.proofs.Tests.{true_lt, true_le}
 use Rattle.flu_syntax.specs.Tree.{Tree, NumberTree, ValueTree, KeyTree, TimeTree, ReadTree, HasTree, ParenTree, NegTree}
-use Rattle.flu_syntax.specs.Tree.{NotTree, TwoTree, Deed, Writes, Clears, Emits, Flushes, Action, On, Declarations}
+use Rattle.flu_syntax.specs.Tree.{NotTree, TwoTree, Deed, Writes, Clears, Emits, Flushes, Action, On, Declarations, Clock}
 use Rattle.flu_text.specs.Signs.{span_of}
 use Rattle.flu_syntax.specs.declared.tree.WrittenCells.{WrittenCells}
 use Rattle.flu_syntax.specs.declared.tree.WrittenCells.TheVariants as cells
 use Rattle.flu_syntax.specs.declared.tree.WrittenItem.{WrittenItem}
 use Rattle.flu_syntax.specs.Machine.{CellBy, CellList, TagBy, TagList, NamesName, NamesColon, NamesText, NamesEnd, Listing, by_of, item_of, listing_of, texted}
 use Rattle.flu_syntax.specs.Machine.{cell_by_step, tag_by_step, texts_step}
+use Rattle.flu_syntax.specs.Machine.{ClockName, ClockEvery, ClockPeriod, ClockRate, ClockRateNumber, ClockColon, ClockTag, on_every, clock_rate_step}
 use Rattle.flu_syntax.specs.Machine.{cell_of, tag_of, Actions, Tags, Context, Amount, Guard, Frame, NegFrame, NotFrame, ParenFrame, RightFrame, Mode, Want}
 use Rattle.flu_syntax.specs.Machine.{Have, Done, Aim, ToWrite, ToClear, ToRead, ToTest, Now, Start, Declared, CellName, CellForm, CellSort, TagName}
 use Rattle.flu_syntax.specs.Machine.{TagForm, TagItem, TagValue, DependsFirst, DependsSecond, DependsHow, SourceName, SourceFile, SourceRate, RateNumber}
@@ -140,6 +141,10 @@ module _ (most : ℕ) where
       bracket_keeps (w.Mark m.CloseBracket) now h = h
       bracket_keeps _ now h = tt
 
+      every_keeps : (word : Word) (now : Now) → Kept now → Keeps (on_every word now)
+      every_keeps (w.Name contextual.Every) now h = h
+      every_keeps _ now h = tt
+
       number_keeps : (word : Word) (t : Token) (now : WrittenNumber → Now) → ((n : WrittenNumber) → Kept (now n))
           → Keeps (on_number word (λ n. now (record { value = n; at = t.from })))
       number_keeps (w.Number n) t now h = h (record { value = n; at = t.from })
@@ -191,6 +196,10 @@ module _ (most : ℕ) where
       rate_keeps : (n file : WrittenSpan) (word : Word) → Keeps (rate_step n file word)
       rate_keeps n file (w.Reserved r.Rate) = tt
       rate_keeps n file word = slack_keeps n file None word
+
+      clock_rate_keeps : (at : ℕ) (n : WrittenSpan) (every : WrittenNumber) (word : Word) → Keeps (clock_rate_step at n every word)
+      clock_rate_keeps at n every (w.Reserved r.Rate) = tt
+      clock_rate_keeps at n every word = colon_keeps word (ClockTag at n every None) tt
 
       tags_keeps : (so_far : Tags) (word : Word) → Keeps (tags_step so_far word)
       tags_keeps so_far (w.Mark m.Comma) = tt
@@ -423,6 +432,13 @@ module _ (most : ℕ) where
       step_keeps (SourceSlack n file rate) t h over = slack_keeps n file rate t.word
       step_keeps (SlackNumber n file rate) t h over = number_keeps t.word t (λ slack. SourceColon n file rate (Some slack)) (λ slack. tt)
       step_keeps (SourceColon n file rate slack) t h over = colon_keeps t.word (TagKind (source_of n file rate slack)) tt
+      step_keeps (ClockName at) t h over = name_keeps t.word (ClockEvery at (span_of t)) tt
+      step_keeps (ClockEvery at n) t h over = every_keeps t.word (ClockPeriod at n) tt
+      step_keeps (ClockPeriod at n) t h over = number_keeps t.word t (λ every. ClockRate at n every) (λ every. tt)
+      step_keeps (ClockRate at n every) t h over = clock_rate_keeps at n every t.word
+      step_keeps (ClockRateNumber at n every) t h over = number_keeps t.word t (λ rate. ClockColon at n every (Some rate)) (λ rate. tt)
+      step_keeps (ClockColon at n every rate) t h over = colon_keeps t.word (ClockTag at n every rate) tt
+      step_keeps (ClockTag at n every rate) t h over = name_keeps t.word (Declared (Clock at n every rate (span_of t))) tt
       step_keeps (TagKind so_far) t h over = name_keeps t.word (TagKeys so_far (span_of t)) tt
       step_keeps (TagKeys so_far kind) t h over = tag_keys_keeps so_far kind t.word
       step_keeps (TagLow so_far kind) t h over = number_keeps t.word t (λ low. TagMore so_far kind low) (λ low. tt)
@@ -502,6 +518,7 @@ module _ (most : ℕ) where
     heading_kept at heading.Depends = tt
     heading_kept at heading.On = tt
     heading_kept at heading.Source = tt
+    heading_kept at heading.Clock = tt
     heading_kept at heading.Other = tt
 
     end_kept : (end : ℕ) (job found : Declarations) (o : Option Declarations) → AreDeclarations most job → IfSome o (AreDeclarations most)

@@ -10,3 +10,6 @@ pub mod HeadVerdicts
 pub mod Heads
 pub mod Exact
 pub mod Words
+mod Clocks
+mod Said
+mod SourceSteps

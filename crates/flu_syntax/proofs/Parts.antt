@@ -128,11 +128,11 @@ run-declared end job d (t ∷ tokens) = closes_token end job (Declared d) d t to
 
 -- ---- words
 
-name_takes : (word : Word) (now : Now) → is_name_word word ≡ true → on_name word now ≡ Goes now
+pub name_takes : (word : Word) (now : Now) → is_name_word word ≡ true → on_name word now ≡ Goes now
 name_takes (w.Name c) now named = refl
 name_takes _ now named = cc
 
-name_only : (word : Word) (now : Now) → is_name_word word ≡ false → on_name word now ≡ Refused
+pub name_only : (word : Word) (now : Now) → is_name_word word ≡ false → on_name word now ≡ Refused
 name_only (w.Name c) now other = cc
 name_only _ now other = refl
 
@@ -140,7 +140,7 @@ text_only : (word : Word) (now : Now) → word ≢ w.Text → on_text word now �
 text_only w.Text now ne = absurd (ne refl)
 text_only _ now ne = refl
 
-colon_only : (word : Word) (now : Now) → word ≢ w.Mark m.Colon → on_colon word now ≡ Refused
+pub colon_only : (word : Word) (now : Now) → word ≢ w.Mark m.Colon → on_colon word now ≡ Refused
 colon_only (w.Mark m.Colon) now ne = absurd (ne refl)
 colon_only _ now ne = refl
 
@@ -148,7 +148,7 @@ bracket_only : (word : Word) (now : Now) → word ≢ w.Mark m.CloseBracket → 
 bracket_only (w.Mark m.CloseBracket) now ne = absurd (ne refl)
 bracket_only _ now ne = refl
 
-number_only : (word : Word) (now : ℤ → Now) → ((n : ℤ) → word ≢ w.Number n) → on_number word now ≡ Refused
+pub number_only : (word : Word) (now : ℤ → Now) → ((n : ℤ) → word ≢ w.Number n) → on_number word now ≡ Refused
 number_only (w.Number n) now ne = absurd (ne n refl)
 number_only _ now ne = refl
 

@@ -25,7 +25,7 @@ use Rattle.flu_syntax.specs.declared.tree.WrittenCells.TheVariants as cells
 use Rattle.flu_syntax.specs.declared.tree.WrittenItem.{WrittenItem}
 use Rattle.flu_lemmas.proofs.Elements.{push_some}
 use Rattle.flu_syntax.specs.Tree.{Tree, ReadTree, HasTree, ParenTree, NegTree, NotTree, TwoTree, Deed}
-use Rattle.flu_syntax.specs.Tree.{Writes, Clears, Emits, Flushes, Action, Names, On, Source, Declarations}
+use Rattle.flu_syntax.specs.Tree.{Writes, Clears, Emits, Flushes, Action, Names, On, Source, Clock, Declarations}
 use Rattle.flu_text.specs.Signs.{span_of, number_of}
 use Rattle.flu_syntax.specs.Machine.{cell_of, tag_of, Actions, Tags, Context, Amount, Guard, Frame, NegFrame, NotFrame, ParenFrame, RightFrame, Mode, Want}
 use Rattle.flu_syntax.specs.Machine.{Have, Done, Aim, ToWrite, ToClear, ToRead, ToTest, Now, Start, Declared, CellName, CellForm, CellSort, TagName, TagForm}
@@ -37,138 +37,16 @@ use Rattle.flu_syntax.specs.Machine.{listed, source_of, named, named_step, keys_
 use Rattle.flu_syntax.specs.Machine.{sort_step, cell_step, value_of, value_step, item_step, tag_step, how_step, rate_step, slack_step, source_line, tags_step}
 use Rattle.flu_syntax.specs.Machine.{tag_keys_step, range_step, doing_of, act_step, start_of, operator_of, is_within, is_close, level_behind, opens}
 use Rattle.flu_syntax.specs.Machine.{heading_of, opening, done_whole, behind_whole, named_whole, step, whole, Verdict, Found, goes_on, next_declaration}
+use Rattle.flu_syntax.specs.Machine.{ClockName, ClockEvery, ClockPeriod, ClockRate, ClockRateNumber, ClockColon, ClockTag, on_every, clock_rate_step}
 use Rattle.flu_syntax.specs.Machine.{ended, run, CellBy, CellList, TagBy, TagList, NamesName, NamesColon, NamesText, NamesEnd, Listing, by_of, item_of}
 use Rattle.flu_syntax.specs.Machine.{texted, listing_of, cell_by_step, tag_by_step, texts_step}
 use Rattle.flu_text.specs.Signs.{Sign, Any, At, Spanned, Named, IsSign, AreSigns, name, text, number, separated}
 use Rattle.flu_syntax.specs.Grammar.{op_level, op_word, verb_word, key_signs, cell_signs, spelled, deed_signs, guard_signs, action_signs}
-use Rattle.flu_syntax.specs.Grammar.{tag_signs, keyed_signs, cells_signs, item_signs, rate_signs, slack_signs, declaration_signs, declarations_signs}
+use Rattle.flu_syntax.specs.Grammar.{tag_signs, keyed_signs, rate_signs, slack_signs, declaration_signs, declarations_signs}
+use Rattle.flu_syntax.proofs.Said.{mark_ended, on_head, said_actions, source_begun, source_head, said_tags, tag_begun, clock_begun, listing_head, said_texts}
+use Rattle.flu_syntax.proofs.Said.{said_context, said_frames, said_aim, key_open, keys_open, said, Sound, Says}
 
--- ---- what a turn has said
-
-abbrev mark_ended : {X : Type 0} → Word → (X → List Sign) → List X → List Sign
-mark_ended mark item xs = flat_map (λ y. item y ++ Any mark ∷ []) xs
-
-abbrev on_head : WrittenSpan → List Sign
-on_head kind = Any (w.Reserved r.On) ∷ Named kind ∷ Any (w.Mark m.Colon) ∷ []
-
-abbrev said_actions : Actions → List Sign
-said_actions so_far = on_head so_far.kind ++ mark_ended (w.Mark m.Semicolon) action_signs so_far.all
-
-abbrev source_begun : WrittenSpan → WrittenSpan → List Sign → List Sign
-source_begun n file more = Any (w.Reserved r.Source) ∷ Named n ∷ Spanned w.Text file ∷ more
-
-abbrev source_head : Tags → List Sign
-source_head so_far =
-    Any (w.Reserved r.Source) ∷ Named so_far.name ∷ Spanned w.Text so_far.file ∷
-    (rate_signs so_far.rate ++ slack_signs so_far.slack ++ Any (w.Mark m.Colon) ∷ [])
-
-abbrev said_tags : Tags → List Sign
-said_tags so_far = source_head so_far ++ mark_ended (w.Mark m.Comma) tag_signs so_far.all
-
-abbrev tag_begun : WrittenSpan → List Sign → List Sign
-tag_begun n more = Any (w.Reserved r.Tag) ∷ Named n ∷ more
-
-abbrev listing_head : Listing → List Sign
-listing_head so_far = At (w.Name contextual.Names) so_far.at ∷ Named so_far.name ∷ Any (w.Mark m.Colon) ∷ []
-
-abbrev said_texts : Listing → List Sign
-said_texts so_far = listing_head so_far ++ mark_ended (w.Mark m.Comma) text so_far.texts
-
-abbrev said_context : Context → List Sign
-said_context (Amount so_far at v cell) = said_actions so_far ++ (At (verb_word v) at ∷ cell_signs cell)
-said_context (Guard so_far at deed) = said_actions so_far ++ (deed_signs at deed ++ Any (w.Reserved r.When) ∷ [])
-
-abbrev pub said_frames : Context → List Frame → List Sign
-said_frames context [] = said_context context
-said_frames context (NegFrame level at ∷ frames) = said_frames context frames ++ At (w.Mark m.Minus) at ∷ []
-said_frames context (NotFrame level at ∷ frames) = said_frames context frames ++ At (w.Reserved r.Not) at ∷ []
-said_frames context (ParenFrame level at ∷ frames) = said_frames context frames ++ At (w.Mark m.OpenParen) at ∷ []
-said_frames context (RightFrame level o at left ∷ frames) = said_frames context frames ++ (spelled left ++ At (op_word o) at ∷ [])
-
-abbrev said_aim : Aim → List Sign
-said_aim (ToWrite so_far at v) = said_actions so_far ++ At (verb_word v) at ∷ []
-said_aim (ToClear so_far at) = said_actions so_far ++ At (w.Reserved r.Clear) at ∷ []
-said_aim (ToRead context level frames) = said_frames context frames
-said_aim (ToTest context level frames at) = said_frames context frames ++ At (w.Reserved r.Has) at ∷ []
-
--- what stands in brackets, without the closing one
-abbrev key_open : WrittenKey → List Sign
-key_open key.Alone = []
-key_open (key.OwnKey at) = Any (w.Mark m.OpenBracket) ∷ At (w.Reserved r.Key) at ∷ []
-key_open (key.OwnItem at) = Any (w.Mark m.OpenBracket) ∷ At (w.Name contextual.Item) at ∷ []
-key_open (key.Fixed n) = Any (w.Mark m.OpenBracket) ∷ number n
-
-abbrev keys_open : WrittenKeys → List Sign
-keys_open keys.Alone = []
-keys_open (keys.One n) = Any (w.Mark m.OpenBracket) ∷ number n
-keys_open (keys.Range low high) = Any (w.Mark m.OpenBracket) ∷ (number low ++ Any (w.Mark m.Dots) ∷ number high)
-
-abbrev pub said : Now → List Sign
-said Start = []
-said (Declared d) = declaration_signs d
-said CellName = Any (w.Reserved r.Cell) ∷ []
-said (CellForm n) = Any (w.Reserved r.Cell) ∷ name n
-said (CellBy n) = Any (w.Reserved r.Cell) ∷ (name n ++ cells_signs cells.Keyed)
-said (CellList n at) = Any (w.Reserved r.Cell) ∷ (name n ++ cells_signs cells.Keyed ++ At (w.Name contextual.By) at ∷ [])
-said (CellSort n cells) = Any (w.Reserved r.Cell) ∷ (name n ++ cells_signs cells)
-said TagName = Any (w.Reserved r.Tag) ∷ []
-said (TagForm n) = Any (w.Reserved r.Tag) ∷ name n
-said (TagItem n keyed) = Any (w.Reserved r.Tag) ∷ (name n ++ keyed_signs keyed)
-said (TagBy n keyed at) = Any (w.Reserved r.Tag) ∷ (name n ++ keyed_signs keyed ++ item_signs (Some (item_of at None)))
-said (TagList n keyed at by_at) =
-    Any (w.Reserved r.Tag) ∷ (name n ++ keyed_signs keyed ++ At (w.Name contextual.Item) at ∷ At (w.Name contextual.By) by_at ∷ [])
-said (TagValue n keyed item) = Any (w.Reserved r.Tag) ∷ (name n ++ keyed_signs keyed ++ item_signs item)
-said (NamesName at) = At (w.Name contextual.Names) at ∷ []
-said (NamesColon at n) = At (w.Name contextual.Names) at ∷ name n
-said (NamesText so_far) = said_texts so_far
-said (NamesEnd so_far) = listing_head so_far ++ separated (w.Mark m.Comma) text so_far.texts
-said DependsFirst = Any (w.Reserved r.Depends) ∷ []
-said (DependsSecond a) = Any (w.Reserved r.Depends) ∷ name a
-said (DependsHow a b) = Any (w.Reserved r.Depends) ∷ (name a ++ name b)
-said SourceName = Any (w.Reserved r.Source) ∷ []
-said (SourceFile n) = Any (w.Reserved r.Source) ∷ name n
-said (SourceRate n file) = Any (w.Reserved r.Source) ∷ (name n ++ text file)
-said (RateNumber n file) = Any (w.Reserved r.Source) ∷ (name n ++ text file ++ Any (w.Reserved r.Rate) ∷ [])
-said (SourceSlack n file rate) = Any (w.Reserved r.Source) ∷ (name n ++ text file ++ rate_signs rate)
-said (SlackNumber n file rate) = Any (w.Reserved r.Source) ∷ (name n ++ text file ++ rate_signs rate ++ Any (w.Reserved r.Slack) ∷ [])
-said (SourceColon n file rate slack) = Any (w.Reserved r.Source) ∷ (name n ++ text file ++ rate_signs rate ++ slack_signs slack)
-said (TagKind so_far) = said_tags so_far
-said (TagKeys so_far kind) = said_tags so_far ++ name kind
-said (TagLow so_far kind) = said_tags so_far ++ (name kind ++ Any (w.Mark m.OpenBracket) ∷ [])
-said (TagMore so_far kind low) = said_tags so_far ++ (name kind ++ keys_open (keys.One low))
-said (TagHigh so_far kind low) = said_tags so_far ++ (name kind ++ Any (w.Mark m.OpenBracket) ∷ (number low ++ Any (w.Mark m.Dots) ∷ []))
-said (TagClose so_far kind ks) = said_tags so_far ++ (name kind ++ keys_open ks)
-said (TagEnd so_far) = source_head so_far ++ separated (w.Mark m.Comma) tag_signs so_far.all
-said OnKind = Any (w.Reserved r.On) ∷ []
-said (OnColon kind) = Any (w.Reserved r.On) ∷ name kind
-said (ActionStart so_far) = said_actions so_far
-said (DeedEnd so_far at deed) = said_actions so_far ++ deed_signs at deed
-said (ActionEnd so_far) = []
-said (EmitText so_far at) = said_actions so_far ++ At (w.Reserved r.Emit) at ∷ []
-said (FlushFamily so_far at) = said_actions so_far ++ At (w.Reserved r.Flush) at ∷ []
-said (FlushText so_far at family) = said_actions so_far ++ (At (w.Reserved r.Flush) at ∷ name family)
-said (CellFamily aim) = said_aim aim
-said (CellKeys aim family) = said_aim aim ++ name family
-said (CellKey aim family) = said_aim aim ++ (name family ++ Any (w.Mark m.OpenBracket) ∷ [])
-said (CellClose aim cell) = said_aim aim ++ (name cell.family ++ key_open cell.key)
-said (InExpression context (Want level) frames) = said_frames context frames
-said (InExpression context (Have low high t) frames) = said_frames context frames ++ spelled t
-said (InExpression context (Done t) frames) = said_frames context frames ++ spelled t
-
--- the turns that a step may lead to: a bracket closes behind something, and there is a tag, or a text
-abbrev pub Sound : Now → Type 0
-Sound (TagClose so_far kind keys.Alone) = ⊥
-Sound (CellClose aim cell) = cell.key ≢ key.Alone
-Sound (TagEnd so_far) = so_far.all ≢ []
-Sound (NamesEnd so_far) = so_far.texts ≢ []
-Sound (ActionEnd so_far) = ⊥
-Sound _ = Unit {0}
-
--- a step has said a sign that the token is
-abbrev pub Says : List Sign → Token → Next → Type 0
-Says before t (Goes next) = (s : Sign) × IsSign s t × Sound next × (said next ≡ before ++ s ∷ [])
-Says before t Deep = Unit {0}
-Says before t Refused = Unit {0}
+-- ---- what a step says
 
 moved : (a b : List Sign) (t : Token) (next : Next) → a ≡ b → Says b t next → Says a t next
 moved a b t next e h = rw e h
@@ -189,6 +67,11 @@ colon_says : (before : List Sign) (t : Token) (word : Word) (next : Now) → t.w
     → Says before t (on_colon word next)
 colon_says before t (w.Mark m.Colon) next e sound h = (Any (w.Mark m.Colon), e, sound, h)
 colon_says before t _ next e sound h = tt
+
+every_says : (before : List Sign) (t : Token) (word : Word) (next : Now) → t.word ≡ word → Sound next
+    → said next ≡ before ++ Any (w.Name contextual.Every) ∷ [] → Says before t (on_every word next)
+every_says before t (w.Name contextual.Every) next e sound h = (Any (w.Name contextual.Every), e, sound, h)
+every_says before t _ next e sound h = tt
 
 bracket_says : (before : List Sign) (t : Token) (word : Word) (next : Now) → t.word ≡ word → Sound next
     → said next ≡ before ++ Any (w.Mark m.CloseBracket) ∷ [] → Says before t (on_bracket word next)
@@ -269,6 +152,11 @@ slack_says n file rate t word e =
 rate_says : (n file : WrittenSpan) (t : Token) (word : Word) → t.word ≡ word → Says (said (SourceRate n file)) t (rate_step n file word)
 rate_says n file t (w.Reserved r.Rate) e = (Any (w.Reserved r.Rate), e, tt, refl)
 rate_says n file t word e = slack_says n file None t word e
+
+clock_rate_says : (at : ℕ) (n : WrittenSpan) (every : WrittenNumber) (t : Token) (word : Word) → t.word ≡ word
+    → Says (said (ClockRate at n every)) t (clock_rate_step at n every word)
+clock_rate_says at n every t (w.Reserved r.Rate) e = (Any (w.Reserved r.Rate), e, tt, refl)
+clock_rate_says at n every t word e = colon_says (said (ClockRate at n every)) t word (ClockTag at n every None) e tt refl
 
 after_first : {X : Type 0} (mark : Word) (item : X → List Sign) (xs : List X) (x : X)
     → flat_map (λ y. Any mark ∷ item y) (xs ++ x ∷ []) ≡ Any mark ∷ (mark_ended mark item xs ++ item x)
@@ -625,6 +513,18 @@ step_says (SlackNumber n file rate) t sound =
 step_says (SourceColon n file rate slack) t sound =
     colon_says (said (SourceColon n file rate slack)) t t.word (TagKind (source_of n file rate slack)) refl tt
     (append-nil (source_head (source_of n file rate slack)))
+step_says (ClockName at) t sound = name_says (said (ClockName at)) t t.word (ClockEvery at (span_of t)) refl tt refl
+step_says (ClockEvery at n) t sound = every_says (said (ClockEvery at n)) t t.word (ClockPeriod at n) refl tt refl
+step_says (ClockPeriod at n) t sound =
+    number_says (said (ClockPeriod at n)) t t.word (λ every. ClockRate at n every) refl (λ every. tt) (λ every. refl)
+step_says (ClockRate at n every) t sound = clock_rate_says at n every t t.word refl
+step_says (ClockRateNumber at n every) t sound =
+    number_says (said (ClockRateNumber at n every)) t t.word (λ rate. ClockColon at n every (Some rate)) refl (λ rate. tt) (λ rate. refl)
+step_says (ClockColon at n every rate) t sound =
+    colon_says (said (ClockColon at n every rate)) t t.word (ClockTag at n every rate) refl tt refl
+step_says (ClockTag at n every rate) t sound =
+    name_says (said (ClockTag at n every rate)) t t.word (Declared (Clock at n every rate (span_of t))) refl tt
+    (ap (clock_begun at n every) (sym (append_assoc (rate_signs rate) (Any (w.Mark m.Colon) ∷ []) (name (span_of t)))))
 step_says (TagKind so_far) t sound = name_says (said (TagKind so_far)) t t.word (TagKeys so_far (span_of t)) refl tt refl
 step_says (TagKeys so_far kind) t sound = tag_keys_says so_far kind t t.word refl
 step_says (TagLow so_far kind) t sound =
@@ -754,6 +654,13 @@ whole_spelt (RateNumber n file) sound = tt
 whole_spelt (SourceSlack n file rate) sound = tt
 whole_spelt (SlackNumber n file rate) sound = tt
 whole_spelt (SourceColon n file rate slack) sound = tt
+whole_spelt (ClockName at) sound = tt
+whole_spelt (ClockEvery at n) sound = tt
+whole_spelt (ClockPeriod at n) sound = tt
+whole_spelt (ClockRate at n every) sound = tt
+whole_spelt (ClockRateNumber at n every) sound = tt
+whole_spelt (ClockColon at n every rate) sound = tt
+whole_spelt (ClockTag at n every rate) sound = tt
 whole_spelt (TagKind so_far) sound = tt
 whole_spelt (TagLow so_far kind) sound = tt
 whole_spelt (TagMore so_far kind low) sound = tt
@@ -781,6 +688,7 @@ heading_says t (w.Name contextual.Names) e = (At (w.Name contextual.Names) t.fro
 heading_says t (w.Reserved r.Depends) e = (Any (w.Reserved r.Depends), e, tt, refl)
 heading_says t (w.Reserved r.On) e = (Any (w.Reserved r.On), e, tt, refl)
 heading_says t (w.Reserved r.Source) e = (Any (w.Reserved r.Source), e, tt, refl)
+heading_says t (w.Name contextual.Clock) e = (At (w.Name contextual.Clock) t.from, (e, refl), tt, refl)
 heading_says t _ e = tt
 
 -- signs that the tokens are, behind those said before, spell the job

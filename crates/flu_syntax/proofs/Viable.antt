@@ -23,6 +23,7 @@ use Rattle.flu_syntax.specs.Machine.{SlackNumber, SourceColon, TagKind, TagKeys,
 use Rattle.flu_syntax.specs.Machine.{DeedEnd, ActionEnd, EmitText, FlushFamily, FlushText, CellFamily, CellKeys, CellKey, CellClose, InExpression, Next, Goes}
 use Rattle.flu_syntax.specs.Machine.{Deep, Refused, operator_of, start_of, doing_of, sort_of, value_of, level_behind, behind, named, source_of, listed}
 use Rattle.flu_syntax.specs.Machine.{heading_of, opening, expression_step, step, whole, Verdict, Found, Unexpected, TooDeep, goes_on, next_declaration, ended}
+use Rattle.flu_syntax.specs.Machine.{ClockName, ClockEvery, ClockPeriod, ClockRate, ClockRateNumber, ClockColon, ClockTag}
 use Rattle.flu_syntax.specs.Machine.{run, CellBy, CellList, TagBy, TagList, NamesName, NamesColon, NamesText, NamesEnd, Listing, listing_of, texted}
 use Rattle.flu_text.specs.Signs.{place_of}
 use Rattle.flu_syntax.specs.Grammar.{op_level}
@@ -169,6 +170,29 @@ file_can : (end : ℕ) (job : Declarations) (name : WrittenSpan) → Can end job
 unfolding step
 file_can end job name = via end job _ (SourceRate name (span_of (token w.Text))) (token w.Text) refl (rate_can end job _ _)
 
+clock_tag_can : (end : ℕ) (job : Declarations) (at : ℕ) (name : WrittenSpan) (every : WrittenNumber) (rate : Option WrittenNumber)
+    → Can end job (ClockTag at name every rate)
+unfolding step whole
+clock_tag_can end job at name every rate = via end job _ (Declared _) a_name refl (whole_can end job _ (Declared _) refl)
+
+clock_colon_can : (end : ℕ) (job : Declarations) (at : ℕ) (name : WrittenSpan) (every : WrittenNumber) (rate : Option WrittenNumber)
+    → Can end job (ClockColon at name every rate)
+unfolding step
+clock_colon_can end job at name every rate = via end job _ (ClockTag at name every rate) (token (w.Mark m.Colon)) refl (clock_tag_can end job _ _ _ _)
+
+clock_rate_can : (end : ℕ) (job : Declarations) (at : ℕ) (name : WrittenSpan) (every : WrittenNumber) → Can end job (ClockRate at name every)
+unfolding step
+clock_rate_can end job at name every = via end job _ (ClockTag at name every None) (token (w.Mark m.Colon)) refl (clock_tag_can end job _ _ _ _)
+
+clock_period_can : (end : ℕ) (job : Declarations) (at : ℕ) (name : WrittenSpan) → Can end job (ClockPeriod at name)
+unfolding step
+clock_period_can end job at name =
+    via end job _ (ClockRate at name (number_of (pos 0) (token (w.Number (pos 0))))) (token (w.Number (pos 0))) refl (clock_rate_can end job _ _ _)
+
+clock_every_can : (end : ℕ) (job : Declarations) (at : ℕ) (name : WrittenSpan) → Can end job (ClockEvery at name)
+unfolding step
+clock_every_can end job at name = via end job _ (ClockPeriod at name) (token (w.Name contextual.Every)) refl (clock_period_can end job _ _)
+
 emit_can : (end : ℕ) (job : Declarations) (so_far : Actions) (at : ℕ) → Can end job (EmitText so_far at)
 unfolding step
 emit_can end job so_far at = via end job _ (DeedEnd so_far at (Emits (span_of (token w.Text)))) (token w.Text) refl (deed_can end job so_far at _)
@@ -252,6 +276,15 @@ can end job (SourceSlack name file rate) = slack_can end job name file rate
 can end job (SlackNumber name file rate) =
     via end job _ (SourceColon name file rate (Some (number_of (pos 0) (token (w.Number (pos 0)))))) (token (w.Number (pos 0))) refl (colon_can end job _ _ _ _)
 can end job (SourceColon name file rate slack) = colon_can end job name file rate slack
+can end job (ClockName at) = via end job _ (ClockEvery at (span_of a_name)) a_name refl (clock_every_can end job _ _)
+can end job (ClockEvery at name) = clock_every_can end job at name
+can end job (ClockPeriod at name) = clock_period_can end job at name
+can end job (ClockRate at name every) = clock_rate_can end job at name every
+can end job (ClockRateNumber at name every) =
+    via end job _ (ClockColon at name every (Some (number_of (pos 0) (token (w.Number (pos 0)))))) (token (w.Number (pos 0))) refl
+    (clock_colon_can end job _ _ _ _)
+can end job (ClockColon at name every rate) = clock_colon_can end job at name every rate
+can end job (ClockTag at name every rate) = clock_tag_can end job at name every rate
 can end job (TagKind so_far) = kind_can end job so_far
 can end job (TagKeys so_far kind) = whole_can end job _ (TagKeys so_far kind) refl
 can end job (TagLow so_far kind) =

@@ -20,8 +20,8 @@ use Rattle.flu_syntax.specs.declared.tree.WrittenTies.{WrittenTies}
 use Rattle.flu_syntax.specs.declared.tree.WrittenUnit.{WrittenUnit}
 use Rattle.flu_syntax.specs.declared.tree.WrittenHead.{WrittenHead}
 use Rattle.flu_syntax.specs.Tree.{Tree, NumberTree, ValueTree, KeyTree, TimeTree, ReadTree, HasTree, ParenTree, NegTree, NotTree, TwoTree, Deed}
-use Rattle.flu_syntax.specs.Tree.{Writes, Clears, Emits, Flushes, Action, Declaration, Cell, Tag, Names, Depends, On, Source, Declarations, Job}
-use Rattle.flu_text.specs.Signs.{Sign, Any, text, separated, keys_signs}
+use Rattle.flu_syntax.specs.Tree.{Writes, Clears, Emits, Flushes, Action, Declaration, Cell, Tag, Names, Depends, On, Source, Clock, Declarations, Job}
+use Rattle.flu_text.specs.Signs.{Sign, Any, name, text, separated, keys_signs}
 use Rattle.flu_syntax.specs.Grammar.{sort_word, value_word, keyed_signs, list_signs, cells_signs, item_signs}
 use Rattle.flu_syntax.specs.Grammar.{key_signs, cell_signs, spelled, deed_signs, guard_signs, action_signs, tag_signs}
 use Rattle.flu_syntax.specs.Grammar.{rate_signs, slack_signs, ties_signs, iso_signs, head_signs, declaration_signs, declarations_signs, job_signs}
@@ -155,6 +155,11 @@ module _ (P : Sign → Type 0) where
               (all_append P (number_words rate) (number_words slack) rate_stands slack_stands) tags_stand,
         ),
       )
+  declaration_has (Clock at n every rate tag) all =
+      let listed : List Sign = Any (w.Mark m.Colon) ∷ name tag in
+      let rate_stands = rate_has rate (all_front P (rate_signs rate) listed all.1.1.1.1) in
+      let tag_stands = (all_back P (rate_signs rate) listed all.1.1.1.1).1 in
+      (all.1.0, (all.1.1.1.0, all_append P (number_words rate) (name tag) rate_stands tag_stands))
 
   declarations_have : (ds : Declarations) → AllByRecursion P (declarations_signs ds) → AllByRecursion P (flat_map declaration_words ds)
   declarations_have [] all = tt

@@ -29,7 +29,7 @@ use Rattle.flu_syntax.specs.declared.tree.WrittenTies.{WrittenTies}
 use Rattle.flu_syntax.specs.declared.tree.WrittenUnit.{WrittenUnit}
 use Rattle.flu_syntax.specs.declared.tree.WrittenHead.{WrittenHead}
 use Rattle.flu_syntax.specs.Tree.{Tree, NumberTree, ValueTree, KeyTree, TimeTree, ReadTree, HasTree, ParenTree, NegTree, NotTree, TwoTree, Deed, Writes, Clears}
-use Rattle.flu_syntax.specs.Tree.{Emits, Flushes, Action, Declaration, Cell, Tag, Names, Depends, On, Source, Declarations, Job}
+use Rattle.flu_syntax.specs.Tree.{Emits, Flushes, Action, Declaration, Cell, Tag, Names, Depends, On, Source, Clock, Declarations, Job}
 
 -- ---- the words
 
@@ -216,6 +216,7 @@ slack_signs (Some n) = Any (w.Reserved r.Slack) ∷ number n
 --     | "names" NAME ":" TEXT { "," TEXT }, where `names` is a name that spells it
 --     | "depends" NAME NAME ["same" | "all"] | "on" NAME ":" action { ";" action }
 --     | "source" NAME TEXT ["rate" NUMBER] ["slack" NUMBER] ":" tagref { "," tagref }
+--     | "clock" NAME "every" NUMBER ["rate" NUMBER] ":" NAME, where `clock` and `every` are names that spell them
 abbrev pub declaration_signs : Declaration → List Sign
 declaration_signs (Cell n cells s) = Any (w.Reserved r.Cell) ∷ (name n ++ cells_signs cells ++ Any (sort_word s) ∷ [])
 declaration_signs (Tag n keyed item has_value) =
@@ -226,6 +227,9 @@ declaration_signs (On kind actions) = Any (w.Reserved r.On) ∷ (name kind ++ An
 declaration_signs (Source n file rate slack tags) =
     Any (w.Reserved r.Source) ∷
     (name n ++ text file ++ rate_signs rate ++ slack_signs slack ++ Any (w.Mark m.Colon) ∷ separated (w.Mark m.Comma) tag_signs tags)
+declaration_signs (Clock at n every rate tag) =
+    At (w.Name contextual.Clock) at ∷
+    (name n ++ Any (w.Name contextual.Every) ∷ (number every ++ rate_signs rate ++ Any (w.Mark m.Colon) ∷ name tag))
 
 abbrev pub IsDeclaration : ℕ → Declaration → Type 0
 IsDeclaration most (Cell n cells s) = Unit {0}
@@ -234,6 +238,7 @@ IsDeclaration most (Names at n texts) = texts ≢ []
 IsDeclaration most (Depends a b how) = Unit {0}
 IsDeclaration most (On kind actions) = (actions ≢ []) × AreActions most actions
 IsDeclaration most (Source n file rate slack tags) = tags ≢ []
+IsDeclaration most (Clock at n every rate tag) = Unit {0}
 
 -- { decl }
 abbrev pub declarations_signs : Declarations → List Sign

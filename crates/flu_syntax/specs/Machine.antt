@@ -39,7 +39,7 @@ use Rattle.flu_syntax.specs.declared.tokens.Doing.TheVariants as doing
 use Rattle.flu_syntax.specs.declared.tokens.Heading.{Heading}
 use Rattle.flu_syntax.specs.declared.tokens.Heading.TheVariants as heading
 use Rattle.flu_syntax.specs.Tree.{Tree, NumberTree, ValueTree, KeyTree, TimeTree, ReadTree, HasTree, ParenTree, NegTree, NotTree, TwoTree, Deed, Writes, Clears}
-use Rattle.flu_syntax.specs.Tree.{Emits, Flushes, Action, Declaration, Cell, Tag, Names, Depends, On, Source, Declarations, Job}
+use Rattle.flu_syntax.specs.Tree.{Emits, Flushes, Action, Declaration, Cell, Tag, Names, Depends, On, Source, Clock, Declarations, Job}
 use Rattle.flu_syntax.specs.Grammar.{op_level}
 
 abbrev pub cell_of : WrittenSpan → WrittenKey → WrittenRef
@@ -133,6 +133,14 @@ pub data Now : Type 0 where
   SourceSlack : (name file : WrittenSpan) (rate : Option WrittenNumber) → Now
   SlackNumber : (name file : WrittenSpan) (rate : Option WrittenNumber) → Now
   SourceColon : (name file : WrittenSpan) (rate slack : Option WrittenNumber) → Now
+  -- after `clock`, after its name, after `every`, after the period, after `rate`, after the rate, after `:`
+  ClockName : (at : ℕ) → Now
+  ClockEvery : (at : ℕ) (name : WrittenSpan) → Now
+  ClockPeriod : (at : ℕ) (name : WrittenSpan) → Now
+  ClockRate : (at : ℕ) (name : WrittenSpan) (every : WrittenNumber) → Now
+  ClockRateNumber : (at : ℕ) (name : WrittenSpan) (every : WrittenNumber) → Now
+  ClockColon : (at : ℕ) (name : WrittenSpan) (every : WrittenNumber) (rate : Option WrittenNumber) → Now
+  ClockTag : (at : ℕ) (name : WrittenSpan) (every : WrittenNumber) (rate : Option WrittenNumber) → Now
   -- where a tag is expected, after its kind, after `[`, after the first number, after `..`, after the last number, after it
   TagKind : (so_far : Tags) → Now
   TagKeys : (so_far : Tags) (kind : WrittenSpan) → Now
@@ -336,6 +344,10 @@ abbrev pub on_colon : Word → Now → Next
 on_colon (w.Mark m.Colon) now = Goes now
 on_colon _ now = Refused
 
+abbrev pub on_every : Word → Now → Next
+on_every (w.Name contextual.Every) now = Goes now
+on_every _ now = Refused
+
 abbrev pub on_bracket : Word → Now → Next
 on_bracket (w.Mark m.CloseBracket) now = Goes now
 on_bracket _ now = Refused
@@ -418,6 +430,10 @@ abbrev pub rate_step : WrittenSpan → WrittenSpan → Word → Next
 rate_step name file (w.Reserved r.Rate) = Goes (RateNumber name file)
 rate_step name file word = slack_step name file None word
 
+abbrev pub clock_rate_step : ℕ → WrittenSpan → WrittenNumber → Word → Next
+clock_rate_step at name every (w.Reserved r.Rate) = Goes (ClockRateNumber at name every)
+clock_rate_step at name every word = on_colon word (ClockTag at name every None)
+
 abbrev pub listed : Tags → WrittenTag → Tags
 listed so_far t = record { name = so_far.name; file = so_far.file; rate = so_far.rate; slack = so_far.slack; all = so_far.all ++ t ∷ [] }
 
@@ -482,6 +498,13 @@ step (RateNumber name file) t = on_number t.word (λ n. SourceSlack name file (S
 step (SourceSlack name file rate) t = slack_step name file rate t.word
 step (SlackNumber name file rate) t = on_number t.word (λ n. SourceColon name file rate (Some (number_of n t)))
 step (SourceColon name file rate slack) t = on_colon t.word (TagKind (source_of name file rate slack))
+step (ClockName at) t = on_name t.word (ClockEvery at (span_of t))
+step (ClockEvery at name) t = on_every t.word (ClockPeriod at name)
+step (ClockPeriod at name) t = on_number t.word (λ n. ClockRate at name (number_of n t))
+step (ClockRate at name every) t = clock_rate_step at name every t.word
+step (ClockRateNumber at name every) t = on_number t.word (λ n. ClockColon at name every (Some (number_of n t)))
+step (ClockColon at name every rate) t = on_colon t.word (ClockTag at name every rate)
+step (ClockTag at name every rate) t = on_name t.word (Declared (Clock at name every rate (span_of t)))
 step (TagKind so_far) t = on_name t.word (TagKeys so_far (span_of t))
 step (TagKeys so_far kind) t = tag_keys_step so_far kind t.word
 step (TagLow so_far kind) t = on_number t.word (λ n. TagMore so_far kind (number_of n t))
@@ -549,6 +572,7 @@ heading_of (w.Name contextual.Names) = heading.Names
 heading_of (w.Reserved r.Depends) = heading.Depends
 heading_of (w.Reserved r.On) = heading.On
 heading_of (w.Reserved r.Source) = heading.Source
+heading_of (w.Name contextual.Clock) = heading.Clock
 heading_of _ = heading.Other
 
 -- how far a declaration is after its first word, which is at this place
@@ -559,6 +583,7 @@ opening at heading.Names = Some (NamesName at)
 opening at heading.Depends = Some DependsFirst
 opening at heading.On = Some OnKind
 opening at heading.Source = Some SourceName
+opening at heading.Clock = Some (ClockName at)
 opening at heading.Other = None
 
 -- ---- all declarations

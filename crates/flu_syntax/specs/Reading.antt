@@ -31,7 +31,7 @@ use Rattle.flu_syntax.specs.Machine.{TagMore, TagClose, TagEnd, SourceRate, Sour
 use Rattle.flu_syntax.specs.Machine.{ParenFrame, RightFrame, Mode, Want, Have, Done, opens, named, cell_of, tag_of, listed, source_of, acted, Verdict, Found}
 use Rattle.flu_syntax.specs.Machine.{Unexpected, TooDeep, run, verdict, with_head, head_of, behind_ties, behind_number, CellForm}
 use Rattle.flu_syntax.specs.Machine.{CellBy, CellSort, TagItem, TagBy}
-use Rattle.flu_syntax.specs.Machine.{TagValue, NamesText, item_of, listing_of}
+use Rattle.flu_syntax.specs.Machine.{TagValue, NamesText, item_of, listing_of, ClockRate, ClockColon}
 
 -- the fault is the verdict, unless memory runs out
 abbrev pub Tells : {X : Type 0} → SyntaxFault → Verdict X → Type 0
@@ -200,6 +200,11 @@ abbrev pub ReadsRate : {X : Type 0} → ℕ → List Token → (X → Option Wri
 ReadsRate end tokens rate rest result =
     Reads (Declarations × WrittenSpan × WrittenSpan) end tokens (λ here. (here.0, SourceRate here.1 here.2))
     (λ x here. (here.0, SourceSlack here.1 here.2 (rate x))) rest result
+
+abbrev pub ReadsClockRate : {X : Type 0} → ℕ → List Token → (X → Option WrittenNumber) → (X → List Token) → Result X SyntaxFault → Type 0
+ReadsClockRate end tokens rate rest result =
+    Reads (Declarations × ℕ × WrittenSpan × WrittenNumber) end tokens (λ here. (here.0, ClockRate here.1 here.2 here.3))
+    (λ x here. (here.0, ClockColon here.1 here.2 here.3 (rate x))) rest result
 
 abbrev pub ReadsSlack : {X : Type 0} → ℕ → List Token → (X → Option WrittenNumber) → (X → List Token) → Result X SyntaxFault → Type 0
 ReadsSlack end tokens slack rest result =

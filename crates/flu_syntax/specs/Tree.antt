@@ -77,6 +77,7 @@ pub data Declaration : Type 0 where
   Depends : (a b : WrittenSpan) (relation : WrittenRelation) → Declaration
   On : (kind : WrittenSpan) (actions : List Action) → Declaration
   Source : (name file : WrittenSpan) (rate slack : Option WrittenNumber) (tags : List WrittenTag) → Declaration
+  Clock : (at : ℕ) (name : WrittenSpan) (every : WrittenNumber) (rate : Option WrittenNumber) (tag : WrittenSpan) → Declaration
 
 abbrev pub declaration_of : WrittenDeclaration → Declaration
 declaration_of (declaration.Cell name cells sort) = Cell name cells sort
@@ -85,6 +86,7 @@ declaration_of (declaration.Names at name texts) = Names at name texts
 declaration_of (declaration.Depends a b relation) = Depends a b relation
 declaration_of (declaration.On kind actions) = On kind (map action_of actions)
 declaration_of (declaration.Source name file rate slack tags) = Source name file rate slack tags
+declaration_of (declaration.Clock at name every rate tag) = Clock at name every rate tag
 
 abbrev pub Declarations : Type 0
 Declarations = List Declaration

@@ -17,7 +17,7 @@ use Rattle.flu_syntax.specs.declared.tree.WrittenTies.{WrittenTies}
 use Rattle.flu_syntax.specs.declared.tree.WrittenUnit.{WrittenUnit}
 use Rattle.flu_syntax.specs.declared.tree.WrittenHead.{WrittenHead}
 use Rattle.flu_syntax.specs.Tree.{Tree, NumberTree, ValueTree, KeyTree, TimeTree, ReadTree, HasTree, ParenTree, NegTree, NotTree, TwoTree, Deed, Writes, Clears}
-use Rattle.flu_syntax.specs.Tree.{Emits, Flushes, Action, Declaration, Cell, Tag, Names, Depends, On, Source, Job}
+use Rattle.flu_syntax.specs.Tree.{Emits, Flushes, Action, Declaration, Cell, Tag, Names, Depends, On, Source, Clock, Job}
 use Rattle.flu_text.specs.Signs.{Sign}
 use Rattle.flu_text.specs.Signs.{name, text, number}
 
@@ -94,6 +94,7 @@ declaration_words (Names at n texts) = name n ++ flat_map text texts
 declaration_words (Depends a b relation) = name a ++ name b
 declaration_words (On kind actions) = name kind ++ flat_map action_words actions
 declaration_words (Source n file rate slack tags) = name n ++ text file ++ number_words rate ++ number_words slack ++ flat_map tag_words tags
+declaration_words (Clock at n every rate tag) = name n ++ number every ++ number_words rate ++ name tag
 
 -- those of a head: the number of the version, the one of the rows at one time and the name of the unit, if they are written
 abbrev pub ties_words : Option WrittenTies → List Sign

@@ -2,9 +2,9 @@
 
 ghost use Rattle.std.specs.Prelude.{◌≡◌, ◌≤◌, ◌<◌, length, map, option_map, IfOk, MatchOption};
 ghost use Rattle.flu_syntax.specs.Tree.{view, deed_of, Writes, action_of, declaration_of};
-ghost use Rattle.flu_syntax.specs.Machine.{Start, CellName, TagName, NamesName, DependsFirst, OnKind, SourceName};
+ghost use Rattle.flu_syntax.specs.Machine.{Start, CellName, TagName, NamesName, DependsFirst, OnKind, SourceName, ClockName};
 ghost use Rattle.flu_syntax.specs.Reading.{ReadsWriting, ReadsDeed, ReadsGuard, ReadsAction, ReadsActions, ReadsRange, ReadsKeys, ReadsTag, ReadsTags};
-ghost use Rattle.flu_syntax.specs.Reading.{ReadsRate, ReadsSlack, ReadsRelation, ReadsDeclaration, IsFirst, NotFirst, TakesKeyed};
+ghost use Rattle.flu_syntax.specs.Reading.{ReadsRate, ReadsClockRate, ReadsSlack, ReadsRelation, ReadsDeclaration, IsFirst, NotFirst, TakesKeyed};
 ghost use Rattle.flu_syntax.specs.Reading.{keyed_by, ReadsKeyedBy, ReadsItemBy, ReadsCells, ReadsItem, ReadsTexts};
 
 use crate::cells::cell;
@@ -363,9 +363,10 @@ fn tags(
     }
 }
 
-/// The rate of a source, if one is written.
+/// The rate of a source or a clock, if one is written.
 fn rate(tokens: &[Token], end: usize) -> Result<(Option<WrittenNumber>, &[Token]), SyntaxFault>
-    ensures run { ReadsRate end tokens.now (λ x. x.0) (λ x. x.1.now) result }
+    ensures sources { ReadsRate end tokens.now (λ x. x.0) (λ x. x.1.now) result }
+    ensures clocks { ReadsClockRate end tokens.now (λ x. x.0) (λ x. x.1.now) result }
     ensures shorter { IfOk result (λ x. length x.1.now ≤ length tokens.now) }
 {
     let Some((_, rest)) = take(tokens, Word::Reserved(Reserved::Rate)) else {
@@ -415,6 +416,33 @@ fn source_line(
     ))
 }
 
+/// A clock, after its first word, which is at this place.
+fn clock_line(
+    at: usize,
+    tokens: &[Token],
+    end: usize,
+) -> Result<(WrittenDeclaration, &[Token]), SyntaxFault>
+    ensures run { ReadsDeclaration end (ClockName at) tokens.now (λ x. declaration_of x.0) (λ x. x.1.now) result }
+    ensures shorter { IfOk result (λ x. length x.1.now < length tokens.now) }
+{
+    let (clock, rest) = name(tokens, end)?;
+    let (_, rest) = expect(rest, end, Word::Name(Contextual::Every))?;
+    let (every, rest) = number(rest, end)?;
+    let (rate, rest) = rate(rest, end)?;
+    let (_, rest) = expect(rest, end, Word::Mark(Mark::Colon))?;
+    let (tag, rest) = name(rest, end)?;
+    Ok((
+        WrittenDeclaration::Clock {
+            at,
+            name: clock,
+            every,
+            rate,
+            tag,
+        },
+        rest,
+    ))
+}
+
 /// A declaration.
 pub fn declaration(
     alloc: Global,
@@ -435,6 +463,7 @@ pub fn declaration(
         Heading::Depends => depends_line(rest, end),
         Heading::On => on_line(alloc, rest, end),
         Heading::Source => source_line(alloc, rest, end),
+        Heading::Clock => clock_line(token.from, rest, end),
         Heading::Other => Err(unexpected(tokens, end)),
     }
 }

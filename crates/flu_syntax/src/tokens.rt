@@ -240,6 +240,7 @@ pub enum Heading {
     Depends,
     On,
     Source,
+    Clock,
     Other,
 }
 
@@ -257,7 +258,11 @@ pub fn heading_of(word: Word) -> Heading
             Reserved::Source => Heading::Source,
             _ => Heading::Other,
         },
-        Word::Name(Contextual::Names) => Heading::Names,
+        Word::Name(word) => match word {
+            Contextual::Names => Heading::Names,
+            Contextual::Clock => Heading::Clock,
+            _ => Heading::Other,
+        },
         _ => Heading::Other,
     }
 }

@@ -133,7 +133,7 @@ pub struct WrittenItem {
 
 /// A declaration. The events of a tag have an item if the word `item` is there. The relation of a `depends` is `same` if that word is
 /// there, by its place; a written `all` means the same as none, so it is kept only as that word. A list of names keeps the place of
-/// the word `names`.
+/// the word `names`, and a clock the place of the word `clock`.
 #[derive(Drop)]
 pub enum WrittenDeclaration {
     Cell {
@@ -167,6 +167,13 @@ pub enum WrittenDeclaration {
         rate: Option<WrittenNumber>,
         slack: Option<WrittenNumber>,
         tags: List<WrittenTag>,
+    },
+    Clock {
+        at: usize,
+        name: WrittenSpan,
+        every: WrittenNumber,
+        rate: Option<WrittenNumber>,
+        tag: WrittenSpan,
     },
 }
 

@@ -39,4 +39,5 @@ marks =
 unfoldable pub contextual_of : List ℕ → Contextual
 contextual_of name =
     if bytes_eq name (codes "item") then c.Item else if bytes_eq name (codes "ties") then c.Ties else if bytes_eq name (codes "iso") then c.Iso
-    else if bytes_eq name (codes "names") then c.Names else if bytes_eq name (codes "by") then c.By else c.Other
+    else if bytes_eq name (codes "names") then c.Names else if bytes_eq name (codes "by") then c.By else if bytes_eq name (codes "clock") then c.Clock
+    else if bytes_eq name (codes "every") then c.Every else c.Other

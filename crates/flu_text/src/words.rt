@@ -65,6 +65,10 @@ pub enum Contextual {
     Names,
     /// `by`
     By,
+    /// `clock`
+    Clock,
+    /// `every`
+    Every,
     /// None.
     Other,
 }
@@ -84,6 +88,10 @@ pub fn contextual_of(name: &[u8]) -> Contextual
         Contextual::Names
     } else if name == b"by".as_slice() {
         Contextual::By
+    } else if name == b"clock".as_slice() {
+        Contextual::Clock
+    } else if name == b"every".as_slice() {
+        Contextual::Every
     } else {
         Contextual::Other
     }

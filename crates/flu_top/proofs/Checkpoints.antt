@@ -1,10 +1,10 @@
 -- The checkpoint of a file's bytes, of which more than a checkpoint may have need not be read.
 use Rattle.std.proofs.Common.{◌≡◌, ◌≢◌, refl, sym, ap, ◌∙◌, subst, ℕ, ◌+◌, ◌<◌, ◌≤◌, ◌^◌, List, [], ◌∷◌, ◌++◌, length, Bool, true, false, Option, Some, None}
 use Rattle.std.proofs.Common.{cond, inl, inr, ◌⊎◌, arith, append-nil, length-append}
-use Rattle.std.specs.Prelude.{Contains, IfSome, option_map, slice_get}
+use Rattle.std.specs.Prelude.{Contains, IfSome, option_map, slice_get, is_none, is_some, ◌&&◌}
 use Rattle.std.specs.List.{position}
 use Rattle.std.specs.Str.{bytes_eq}
-use Rattle.std.proofs.lemmas.Bool.{false≢true}
+use Rattle.std.proofs.lemmas.Bool.{cases_Bool, false≢true}
 use Rattle.std.proofs.lemmas.Slice.Eq.{bytes_eq-Decides}
 use Rattle.flu_lemmas.proofs.Containing.{contains_cases, contains_none}
 use Rattle.flu_lemmas.proofs.Places.{position-cons, position_passes}
@@ -15,6 +15,7 @@ use Rattle.flu_model.specs.declared.jobs.Program.{Program}
 use Rattle.flu_model.specs.Contents.{Contents as Cells, nothing_held}
 use Rattle.flu_model.specs.Sorts.{IsStateOf}
 use Rattle.flu_model.specs.declared.jobs.Source.{Source}
+use Rattle.flu_model.specs.Rules.{is_clock}
 use Rattle.flu_streams.specs.Files.{files_of, LeavesOthers}
 use Rattle.flu_words.specs.Words.{RunOptions, Run}
 use Rattle.flu_command.specs.Starting.{IsFileOf, IsNoSource, IsSameName, Resumes}
@@ -23,6 +24,7 @@ use Rattle.flu_save.specs.declared.fault.SaveFault.TheVariants as f
 use Rattle.flu_save.specs.Forms.{IsFaultOf, IsSave, IsShort, most_bytes}
 use Rattle.flu_lines.specs.Answer.{refusal_of_save}
 use Rattle.flu_top.specs.Running.{IsOpened, IsOpening, IsOpeningRefusal}
+use Rattle.flu_top.proofs.SourceFiles.{no_file_of, own_file}
 use Rattle.flu_top.proofs.Sequence.{one_text}
 
 -- where they are few, the bytes that were read are all
@@ -108,20 +110,41 @@ others_of_one name a b taken = told_weaker (TakesFrom name) (LeavesOthers (name 
     (λ x y took other missing. took.others other (λ same. missing (0, omega arith, sym same))) taken
 
 -- ---- names that are sources' files
--- whether a source has a file
+-- whether a source has a file of this name
 abbrev pub has_file : List ℕ → Source → Bool
-has_file name s = bytes_eq s.file name
+has_file name s = is_none s.every && bytes_eq s.file name
+
+is_of_both : (every : Option ℕ) (same : Bool) → (is_none every && same) ≡ true → (is_some every ≡ false) × (same ≡ true)
+is_of_both None same e = (refl, e)
+is_of_both (Some k) same e = absurd (false≢true e)
+
+both_are : (every : Option ℕ) (same : Bool) → is_some every ≡ false → same ≡ true → (is_none every && same) ≡ true
+both_are None same has is = is
+both_are (Some k) same has is = absurd cc
 
 -- the place that is found is that of a source with the file
-pub found_file : (xs : List Source) (name : List ℕ) (i : ℕ) → position (has_file name) xs ≡ Some i → (s : Source) × (slice_get xs i ≡ Some s) × (name ≡ s.file)
+pub found_file : (xs : List Source) (name : List ℕ) (i : ℕ) → position (has_file name) xs ≡ Some i
+    → (s : Source) × (slice_get xs i ≡ Some s) × (is_clock s ≡ false) × (name ≡ s.file)
 found_file xs name i is =
     let found = position_passes (has_file name) xs i is in
-    (found.0, found.1, sym ((bytes_eq-Decides found.0.file name).0 found.2))
+    let both = is_of_both found.0.every (bytes_eq found.0.file name) found.2 in
+    (found.0, found.1, both.0, sym ((bytes_eq-Decides found.0.file name).0 both.1))
+
+-- a file of some sources is that of the first one, or of a later one
+first_or_later : (x : Source) (xs : List Source) (name : List ℕ) → Contains (files_of (x ∷ xs)) name
+    → ((is_clock x ≡ false) × (x.file ≡ name)) ⊎ Contains (files_of xs) name
+first_or_later x xs name found = elim (cases_Bool (is_clock x)) [
+  | inl clock ↦ inr (subst (λ (names : List (List ℕ)). Contains names name) (no_file_of x xs clock) found)
+  | inr has ↦ elim (contains_cases x.file name (files_of xs) (subst (λ (names : List (List ℕ)). Contains names name) (own_file x xs has) found)) [
+    | inl same ↦ inl (has, same)
+    | inr among ↦ inr among
+  ]
+]
 
 -- and where none is found, none has it
 pub no_file : (xs : List Source) (name : List ℕ) → position (has_file name) xs ≡ None → ¬ Contains (files_of xs) name
 no_file [] name none found = contains_none name found
-no_file (x ∷ xs) name none found = by_test (has_file name x) refl (contains_cases x.file name (files_of xs) found) (no_file xs name)
+no_file (x ∷ xs) name none found = by_test (has_file name x) refl (first_or_later x xs name found) (no_file xs name)
   where
     not_both : (i : ℕ) → Some i ≡ None → ⊥
     not_both i e = cc
@@ -130,12 +153,13 @@ no_file (x ∷ xs) name none found = by_test (has_file name x) refl (contains_ca
     rest_none None e = refl
     rest_none (Some i) e = absurd (cc)
 
-    by_test : (b : Bool) → has_file name x ≡ b → (x.file ≡ name) ⊎ Contains (files_of xs) name
+    by_test : (b : Bool) → has_file name x ≡ b → ((is_clock x ≡ false) × (x.file ≡ name)) ⊎ Contains (files_of xs) name
         → (position (has_file name) xs ≡ None → ¬ Contains (files_of xs) name) → ⊥
     by_test true here either later = not_both 0
         (sym (ap (λ (b : Bool). cond b (Some 0) (option_map (λ (i : ℕ). i + 1) (position (has_file name) xs))) here)
         ∙ sym (position-cons (has_file name) x xs) ∙ none)
-    by_test false other (inl same) later = false≢true (sym other ∙ (bytes_eq-Decides x.file name).1 same)
+    by_test false other (inl same) later =
+        false≢true (sym other ∙ both_are x.every (bytes_eq x.file name) same.0 ((bytes_eq-Decides x.file name).1 same.1))
     by_test false other (inr among) later =
         later (rest_none (position (has_file name) xs)
         (sym (ap (λ (b : Bool). cond b (Some 0) (option_map (λ (i : ℕ). i + 1) (position (has_file name) xs))) other)

@@ -15,11 +15,10 @@ use Rattle.flu_model.specs.Contents.{nothing_held}
 use Rattle.flu_model.specs.Erasure.{job_of}
 use Rattle.flu_model.specs.Modes.{IsAccepted}
 use Rattle.flu_rows.specs.Row.{form_of}
-use Rattle.flu_rows.specs.Reading.{read_file}
 use Rattle.flu_grammar.specs.Laws.{JobsAreGrammar}
 use Rattle.flu_rounds.specs.Written.{AreSound, lines_in}
 use Rattle.flu_streams.specs.Files.{files_of}
-use Rattle.flu_streams.specs.Good.{first_fault}
+use Rattle.flu_streams.specs.Good.{first_fault, lines_in as lines_of_source}
 use Rattle.flu_streams.specs.Rounds.{defect_in}
 use Rattle.flu_words.specs.Words.{Command, Fold, Run, Simulate, Replay, RoundsHaveRows, command_in}
 use Rattle.flu_command.specs.Behind.{Named, HasJob, fault_behind, lists_behind, report_behind, plan_behind}
@@ -108,7 +107,8 @@ writes words old new before now status outcome complete command left p text word
         appended old.out new.out text had out (subst (λ bytes. WhereTold old.out new.out (AppendsAll bytes)) (is all.0 all.1 all.2.good.has all.3) all.5)
 
 -- ---- one text
-one_report : TextsHaveOneJob → JobsHaveOneReport → (name : List ℕ) (left behind : Contents) (p q : Program) → HasJob (Named name) left p → HasJob (Named name) left q
+one_report : TextsHaveOneJob → JobsHaveOneReport → (name : List ℕ) (left behind : Contents) (p q : Program) → HasJob (Named name) left p
+    → HasJob (Named name) left q
     → fold_report q behind ≡ fold_report p behind
 one_report one report name left behind p q first second = report q p nothing_held behind (one (Named name) left q p second first)
 
@@ -132,7 +132,7 @@ given_in named first others name is =
 -- lines without a defect are sound
 sound : (p : Program) (left : Contents) → HaveNoDefect p left → AreSound p (lines_in p left)
 sound p left none = λ i s e.
-    ap (λ o. defect_in (timing_of p i) p.kinds s (option_map_or (λ (t : Source). read_file (form_of (job_of p)) (bytes_left left t.file)) o [])) e ∙ none i s e
+    ap (λ o. defect_in (timing_of p i) p.kinds s (option_map_or (lines_of_source (form_of (job_of p)) left) o [])) e ∙ none i s e
 
 -- ---- fold
 fold_among : (job : List ℕ) (p : Program) → AreAmong (Fold job) job p (job ∷ files_of p.sources)
@@ -199,7 +199,8 @@ run_good job plan depth rows adapt save unflushed left p some text accepted vali
       (sound p (emptied_each (job ∷ if_named plan) left) good);
 }
 
-run_writes : TextsHaveOneJob → JobsHaveOneReport → (job : List ℕ) (plan : Option (List ℕ)) (depth rows : ℕ) (adapt : Bool) (save : Option (List ℕ)) (unflushed : Bool)
+run_writes : TextsHaveOneJob → JobsHaveOneReport
+    → (job : List ℕ) (plan : Option (List ℕ)) (depth rows : ℕ) (adapt : Bool) (save : Option (List ℕ)) (unflushed : Bool)
     → (left : Contents) (p : Program) → HasJob (Named job) left p
     → WritesOnly (run_fresh job plan depth rows adapt save unflushed) left (fold_report p (emptied_each (job ∷ if_named plan) left))
 unfolding lists_behind
@@ -271,7 +272,8 @@ replay_good job plan trace left p text accepted valid good = record {
 }
 
 -- both write the report of the job behind its text and the plan's
-both_write : TextsHaveOneJob → JobsHaveOneReport → (job plan : List ℕ) (left : Contents) (p : Program) → HasJob (Named job) left p → (q : Program) (other : List ℕ)
+both_write : TextsHaveOneJob → JobsHaveOneReport → (job plan : List ℕ) (left : Contents) (p : Program) → HasJob (Named job) left p
+    → (q : Program) (other : List ℕ)
     → HasJob (Named job) left q → other ≡ report_behind (job ∷ plan ∷ []) left q → other ≡ fold_report p (emptied plan (emptied job left))
 unfolding report_behind
 both_write one report job plan left p text q other its is = is ∙ one_report one report job left (emptied plan (emptied job left)) p q text its

@@ -1,4 +1,5 @@
 pub mod OneCommand
+pub mod SourceFiles
 pub mod Jobs
 pub mod PlanTexts
 pub mod Sequence

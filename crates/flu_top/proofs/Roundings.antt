@@ -47,9 +47,8 @@ use Rattle.flu_top.specs.Ending.{Call, call}
 use Rattle.flu_command.specs.Openings.{Opening}
 use Rattle.flu_lines.specs.Products.{line_said}
 use Rattle.flu_command.specs.Reading.{HaveWritten, MeetsDefect, ReportsNext, put_by, greatest_border}
-use Rattle.flu_top.specs.Running.{GoesOn, StaysWithin, IsAllRun, HasFailed, RanAll, RanToDefect, RanSome, RanInto, RanUnsaved, EndsRounds, Steps, PutsAt, PutFailed}
-use Rattle.flu_top.specs.Running.{IsSavedTo, border_at, borders_above, put_behind}
-use Rattle.flu_top.specs.Running.{IsPlanSaid, IsWithin, SaysCounts, SaysPlan, all_lists}
+use Rattle.flu_top.specs.Running.{GoesOn, StaysWithin, IsAllRun, HasFailed, RanAll, RanToDefect, RanSome, RanInto, RanUnsaved, EndsRounds, Steps, PutsAt}
+use Rattle.flu_top.specs.Running.{PutFailed, IsSavedTo, border_at, borders_above, put_behind, IsPlanSaid, IsWithin, SaysCounts, SaysPlan, all_lists}
 use Rattle.flu_command.specs.Starting.{IsNoSource, LeavesPut, LeavesAnything}
 use Rattle.flu_command.specs.Taking.{TookOnly, TookFrontsBut}
 
@@ -280,6 +279,7 @@ failed_behind p o a b d k l m s u had has x z old done before job number told ri
     at = h.at;
     source = h.source;
     is = subst (λ (r : Program). slice_get r.sources h.at ≡ Some h.source) job h.is;
+    has_file = h.has_file;
     more = h.more;
     further = h.further;
     sound = subst (λ (r : Program). defect_in (timing_of r h.at) r.kinds h.source (h.now h.at) ≡ None) job h.sound;

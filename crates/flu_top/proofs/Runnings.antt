@@ -2,7 +2,6 @@
 use Rattle.std.proofs.Common.{◌≡◌, refl, sym, ap, ◌∙◌, subst, ℕ, Bool, true, false, ◌≤◌, List, [], ◌∷◌, ◌++◌, Option, Some, None, Result, Ok, Err, inl, inr}
 use Rattle.std.proofs.Common.{◌⊎◌, arith, append_assoc}
 use Rattle.std.specs.Prelude.{Contains, option_map, slice_get, IfErr, IfSome}
-use Rattle.std.proofs.lemmas.Option.{slice_get-map, slice_get_within, get_or_from_slice_get}
 use Rattle.std.proofs.lemmas.Result.{IfErr-weaker}
 use Rattle.std.proofs.lemmas.List.Elements.{Contains-append_cases, Contains-append_left, Contains-append_right}
 use Rattle.flu_outside.specs.declared.files.PutFault.{PutFault}
@@ -18,8 +17,7 @@ use Rattle.flu_lemmas.proofs.Told.{told_both, told_then, told_weaker}
 use Rattle.flu_model.specs.Modes.{IsAccepted}
 use Rattle.flu_streams.specs.declared.faults.SourceFault.{SourceFault}
 use Rattle.flu_streams.specs.Files.{files_of, LeavesOthers}
-use Rattle.flu_rounds.specs.Written.{lists_above}
-use Rattle.flu_rounds.specs.Written.{AreSound, lines_in}
+use Rattle.flu_rounds.specs.Written.{lists_above, AreSound, lines_in}
 use Rattle.flu_streams.specs.Counts.{grown, no_counts}
 use Rattle.flu_save.specs.Checkpoint.{save}
 use Rattle.flu_save.specs.Forms.{IsFaultOf}
@@ -33,7 +31,8 @@ use Rattle.flu_lines.specs.declared.refusals.SaveDefect.TheVariants as defects
 use Rattle.flu_lines.specs.Answer.{code_after}
 use Rattle.flu_command.specs.Behind.{WantedJob, Named, job_files, HasJob, emptied_each, lists_behind}
 use Rattle.flu_command.specs.Causes.{IsJobRead, HasSourceFault, HasStartDefect, IsMet}
-use Rattle.flu_command.specs.Done.{HasPlanAsked, MayHaveJob, MayBeJob, IsDone, IsLine, WroteRounds, WroteUnsaved, WroteIntoRound, IsReadName, IsSourceFile, IsPutAt}
+use Rattle.flu_command.specs.Done.{HasPlanAsked, MayHaveJob, MayBeJob, IsDone, IsLine, WroteRounds, WroteUnsaved, WroteIntoRound, IsReadName, IsSourceFile}
+use Rattle.flu_command.specs.Done.{IsPutAt}
 use Rattle.flu_top.specs.Ending.{call, HasAll, HasDefectMet, IsStopped, IsEnding}
 use Rattle.flu_lines.specs.Jobs.{program_read}
 use Rattle.flu_command.specs.Openings.{Opening, Opens, OpensAt, lists_from}
@@ -44,21 +43,14 @@ use Rattle.flu_command.specs.Reading.{InRounds, HaveWritten, MeetsDefect, Report
 use Rattle.flu_command.specs.ReadFaults.{InCheckpoint, InRows}
 use Rattle.flu_top.specs.Refusing.{IsRefusal}
 use Rattle.flu_top.specs.Running.{IsBegun, IsOpened, IsOpeningRefusal, IsSavedTo, StaysWithin, IsAllRun, RanAll, RanToDefect, RanSome, RanInto, RanUnsaved}
-use Rattle.flu_top.specs.Running.{IsRoundsRefusal, EndsRun}
-use Rattle.flu_top.specs.Running.{IsPlanSaid, MaySayPlan, SaysPlan}
+use Rattle.flu_top.specs.Running.{IsRoundsRefusal, EndsRun, IsPlanSaid, MaySayPlan, SaysPlan}
 use Rattle.flu_command.specs.Starting.{AreNoSources, CanStart, HasBadCheckpoint, StartsFrom, IsSameName, Saves, Resumes, Leaves, LeavesPut, LeavesAnything}
 use Rattle.flu_command.specs.Taking.{TookOnly, TookFrontsBut}
 use Rattle.flu_command.specs.Unfinished.{IsUnfinished}
 use Rattle.flu_command.specs.Wants.{if_named, plan_said, job_and_plan_named, texts_named, sources_read, IsNotSaved}
 use Rattle.flu_top.proofs.AsValid.{only_as_valid, refusal_as_valid, run_reads}
+use Rattle.flu_top.proofs.SourceFiles.{file_is_named}
 use Rattle.flu_top.proofs.Sequence.{among, name_given, none_among, one_text, is_source_file, stays_ended, text_is_read}
-
--- the file of a source is among those of all
-file_is_named : (ss : List Source) (number : ℕ) (source : Source) → slice_get ss number ≡ Some source → Contains (files_of ss) source.file
-file_is_named ss number source is =
-    let there : slice_get (files_of ss) number ≡ Some source.file =
-    slice_get-map (λ (s : Source). s.file) ss number ∙ ap (option_map (λ (s : Source). s.file)) is in
-    (number, slice_get_within (files_of ss) number source.file there, get_or_from_slice_get (files_of ss) number source.file source.file there)
 
 -- ---- texts
 -- some texts are read, and then others
@@ -193,8 +185,8 @@ module _ (job : List ℕ) (plan : Option (List ℕ)) (options : RunOptions) (p :
   }
     where
       names_it : IsSameName (Run job plan options) p number → (name : List ℕ) × ((options.save ≡ Some name) ⊎ (options.resume ≡ Some name))
-      names_it (Saves file) = (file.0.file, inl file.2)
-      names_it (Resumes others file) = (file.0.file, inr file.2)
+      names_it (Saves file) = (file.0.file, inl file.3)
+      names_it (Resumes others file) = (file.0.file, inr file.3)
 
   -- the checkpoint that it is resumed from could not be read, or has a fault
   pub opening_refuses : (d : Option Contents) (k l m : List ℕ → ℕ) → IsAccepted p → AreNoSources (Run job plan options) p
@@ -523,7 +515,7 @@ module _ (job : List ℕ) (plan : Option (List ℕ)) (options : RunOptions) (p :
       let round = is.0.round in
       let name = round.source.file in
       record {
-        why = InRows name (source_file name (file_is_named p.sources round.at round.source round.is)) refl
+        why = InRows name (source_file name (file_is_named p.sources round.at round.source round.is round.has_file)) refl
             (rose_behind (k name) (l name) (m name) (rise name) is.0.rose) (record {
               p = p;
               o = o;
@@ -588,6 +580,7 @@ module _ (job : List ℕ) (plan : Option (List ℕ)) (options : RunOptions) (p :
   run_only result is = told_then (IsStarted job plan options p o) (TookOnly (λ name. Contains (files_of p.sources) name ⊎ IsSavedTo options.save name))
       (TookOnly (λ name. IsReadName a (Run job plan options) name ⊎ IsPutAt (Run job plan options) (code_after result) name)) a b d
       (λ v w r first second name unread.
-      second name (λ either. elim either [ inl source ↦ unread (inl (inr (inr (inr (inl (source_file name source)))))) | inr saved ↦ unread (inr (saved, may_put result is)) ])
+      second name (λ either.
+      elim either [ inl source ↦ unread (inl (inr (inr (inr (inl (source_file name source)))))) | inr saved ↦ unread (inr (saved, may_put result is)) ])
       ∙ first.ready.texts.others name (λ found. unread (inl (text_is_read (Run job plan options) p a b (λ asked. accepted) apart is_ready name found))))
       started within.others

@@ -5,7 +5,6 @@ use Rattle.std.specs.Prelude.{Contains, IsTrue, IfSome, is_some, option_map, ◌
 use Rattle.std.specs.Str.{bytes_eq}
 use Rattle.std.proofs.Math.Path.{fun_ext}
 use Rattle.std.proofs.lemmas.Bool.{false≢true}
-use Rattle.std.proofs.lemmas.List.{map-append}
 use Rattle.std.proofs.lemmas.List.Elements.{Contains-append_cases, Contains-append_left, Contains-append_right}
 use Rattle.std.proofs.lemmas.Slice.Eq.{bytes_eq-Decides}
 use Rattle.flu_outside.specs.Outside.{WhereTold, Contents}
@@ -13,6 +12,7 @@ use Rattle.flu_model.specs.declared.events.Item.{Item}
 use Rattle.flu_model.specs.declared.jobs.Program.{Program}
 use Rattle.flu_model.specs.Moments.{timing_of}
 use Rattle.flu_model.specs.declared.jobs.Source.{Source}
+use Rattle.flu_model.specs.Rules.{is_clock}
 use Rattle.flu_model.specs.Contents.{nothing_held}
 use Rattle.flu_model.specs.Folding.{final_outputs}
 use Rattle.flu_model.specs.Reports as reports
@@ -46,6 +46,7 @@ use Rattle.flu_top.specs.Replays.{StaysEnded}
 use Rattle.flu_command.specs.ReadFaults.{InJob, InSources}
 use Rattle.flu_top.specs.Refusing.{IsRefusal}
 use Rattle.flu_top.proofs.OneCommand.{not_named}
+use Rattle.flu_top.proofs.SourceFiles.{file_behind}
 
 -- ---- names
 pub only_one : (one name : List ℕ) → Contains (one ∷ []) name → one ≡ name
@@ -362,11 +363,10 @@ job_refusal command job a b before now refusals.PutFault named is = is
 job_refusal command job a b before now (refusals.TraceFault fault) named is = absurd is
 
 -- a source's file is among those of all
-file_among : (p : Program) (earlier later : List Source) (s : Source) → p.sources ≡ earlier ++ (s ∷ later) → Contains (files_of p.sources) s.file
-file_among p earlier later s split =
-    let among : Contains (files_of (earlier ++ (s ∷ later))) s.file = rw (map-append (λ (x : Source). x.file) earlier (s ∷ later))
-    (Contains-append_right (files_of earlier) (s.file ∷ files_of later) s.file (0, omega arith, refl)) in
-    subst (λ (sources : List Source). Contains (files_of sources) s.file) (sym split) among
+file_among : (p : Program) (earlier later : List Source) (s : Source) → p.sources ≡ earlier ++ (s ∷ later) → is_clock s ≡ false
+    → Contains (files_of p.sources) s.file
+file_among p earlier later s split has =
+    subst (λ (sources : List Source). Contains (files_of sources) s.file) (sym split) (file_behind earlier later s has)
 
 pub report_refusal : (command : Command) (p : Program) (a b c : Option Contents) (k l m : List ℕ → ℕ) (refusal : Refusal) → how_read command ≡ Whole
     → (IsTrue (asks_accepted command) → IsAccepted p) → NamesNoCheckpoint command → WhereTold a b (IsReady command p) → ((n : List ℕ) → k n ≤ l n)
@@ -395,12 +395,13 @@ report_refusal command p a b c k l m (refusals.SourceFault q fault) whole accept
 report_refusal command p a b c k l m refusals.ReadFault whole accepted none ready rise is =
     let name = is.source.file in
     InSources name (is_source_file command p a b (ap is_read whole) accepted (no_sources command p none) (start_told command p a none) ready name
-    (file_among p is.earlier is.later is.source is.split)) whole (rose_behind (k name) (l name) (m name) (rise name) is.rose) (record {
+    (file_among p is.earlier is.later is.source is.split is.has_file)) whole (rose_behind (k name) (l name) (m name) (rise name) is.rose) (record {
       p = p;
       earlier = is.earlier;
       source = is.source;
       later = is.later;
       split = is.split;
+      has_file = is.has_file;
       named = refl;
       read = is.read;
       place = is.place;

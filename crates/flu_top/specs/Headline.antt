@@ -17,9 +17,8 @@ use Rattle.flu_model.specs.Validity.{IsValid}
 use Rattle.flu_grammar.specs.Jobs.{IsJobText}
 use Rattle.flu_grammar.specs.Plans.{IsPlanText}
 use Rattle.flu_rows.specs.Row.{form_of}
-use Rattle.flu_rows.specs.Reading.{read_file}
 use Rattle.flu_streams.specs.Files.{files_of}
-use Rattle.flu_streams.specs.Good.{first_fault, lists_of}
+use Rattle.flu_streams.specs.Good.{first_fault, lines_in, lists_of}
 use Rattle.flu_streams.specs.Rounds.{defect_in}
 use Rattle.flu_words.specs.Words.{Fold, Run, Simulate, Replay, command_in}
 use Rattle.flu_command.specs.Emptied.{emptied, emptied_each, if_named}
@@ -48,7 +47,7 @@ pub record NoneFailed (names : List (List ℕ)) (before now : Faults) : Type 0 w
 -- no line of a source has a defect, however many items the sources hold, as when they are read in rounds
 abbrev pub HaveNoDefect : Program → Contents → Type 0
 HaveNoDefect p left =
-    (i : ℕ) (s : Source) → slice_get p.sources i ≡ Some s → defect_in (timing_of p i) p.kinds s (read_file (form_of (job_of p)) (bytes_left left s.file)) ≡ None
+    (i : ℕ) (s : Source) → slice_get p.sources i ≡ Some s → defect_in (timing_of p i) p.kinds s (lines_in (form_of (job_of p)) left s) ≡ None
 
 -- the bytes under a name are the text of a plan that is valid for the job
 abbrev pub IsValidPlanText : List ℕ → Contents → Program → Type 0

@@ -106,10 +106,7 @@ fn source_with(program: &Program, name: Option<&str>) -> Option<u32>
     ensures none { result ≡ None → IsNoSource (option_map (λ n. n.now) name.entry) program.now }
 {
     let name = name?;
-    let number = program
-        .sources
-        .items()
-        .iter()
-        .position(|source| source.file.as_str() == name)?;
+    let number = program.sources.items().iter().position(|source| source.every.is_none()
+        && source.file.as_str() == name)?;
     Some(number as u32)
 }

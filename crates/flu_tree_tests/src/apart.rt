@@ -1,7 +1,7 @@
 //! Which nodes of a plan may be apart, and the classes of cells.
 
 use crate::jobs::{COUNT, COUNT_DEPENDS, COUNT_PLAN, PAGES, PAGES_ACCEPTED, job, judged};
-use flu_apart::{Class, Reason, Subtree, apart};
+use flu_apart::{Class, Reason, SharedUse, Subtree, apart};
 use flu_model::{Cell, Tag};
 use std::alloc::Global;
 use std::process::Abort;
@@ -115,11 +115,30 @@ node left: look@a
 node right: look@b
 ";
 
+/// Rides that a clock counts.
+const CLOCKED: &str = "version 3
+cell rides sum
+tag ride none
+tag day none
+depends ride day
+depends day day
+on ride: add rides 1
+on day: emit \"{rides}\"; clear rides
+source north \"north.csv\": ride
+source south \"south.csv\": ride
+clock midnight every 86400: day
+";
+
+const CLOCKED_PLAN: &str = "node root: day -> left right
+node left: ride@north
+node right: ride@south
+";
+
 const fn on(kind: u32, key: u32, family: u32, at: u32) -> Option<Reason> {
-    Some(Reason {
+    Some(Reason::Shared(SharedUse {
         tag: Tag { kind, key },
         cell: Cell { family, key: at },
-    })
+    }))
 }
 
 /// Whether each node of the plan may be apart, or else the first reason why not.
@@ -188,7 +207,16 @@ fn nodes_that_may_not(rt: HostRuntime) -> Result<(), Fail> {
         &[None, on(0, 0, 1, 7), None],
     )?;
     let first = on(0, 0, 0, 0);
-    check(&rt, alloc, LOOKS, "", LOOKS_PLAN, &[None, first, first])
+    check(&rt, alloc, LOOKS, "", LOOKS_PLAN, &[None, first, first])?;
+    let clock = Some(Reason::Clock(2));
+    check(
+        &rt,
+        alloc,
+        CLOCKED,
+        "",
+        CLOCKED_PLAN,
+        &[clock, clock, clock],
+    )
 }
 
 /// Whether the cells have these classes for a node of a plan.

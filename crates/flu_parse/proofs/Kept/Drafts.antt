@@ -2,18 +2,19 @@
 use Rattle.std.proofs.Common.{◌≡◌, ℕ, zero, suc, ◌+◌, ◌≤◌, Bool, true, false, List, [], ◌∷◌, ◌++◌, map, length, Option, Some, None, Ok, refl, sym, ap}
 use Rattle.std.proofs.Common.{◌∙◌, append_assoc, add-zero, arith}
 use Rattle.std.specs.Prelude.{◌&&◌, ◌||◌, ◌==◌, not, nat_le, is_some, slice_get, codes}
-use Rattle.std.specs.List.{list_all, list_any, flat_map, AllByRecursion}
+use Rattle.std.specs.List.{list_all, list_any, cons_option, flat_map, AllByRecursion}
+use Rattle.std.proofs.lemmas.List.Elements.{filter_map-append}
+use Rattle.std.proofs.lemmas.List.Folds.{list_any-append}
 use Rattle.std.specs.Str.{bytes_eq}
 use Rattle.std.proofs.lemmas.Cmp.{nat_list_eq_equiv}
 use Rattle.std.proofs.lemmas.List.{length-append, length-map, append-nil, map-append}
 use Rattle.flu_lemmas.proofs.Tests.{and_left, and_right, both, le_true}
-use Rattle.flu_lemmas.proofs.Searches.{list_any-map}
 use Rattle.flu_lemmas.proofs.Loops.{bind_ok}
 use Rattle.flu_model.specs.declared.jobs.Family.{Family}
 use Rattle.flu_model.specs.declared.jobs.Source.{Source}
 use Rattle.flu_model.specs.Listing.{tags_of_source, itags_of_sources}
 use Rattle.flu_model.specs.Numberings.{Numbering}
-use Rattle.flu_model.specs.Rules.{is_same_text, are_distinct}
+use Rattle.flu_model.specs.Rules.{is_same_text, are_distinct, is_clock, file_of_source}
 use Rattle.flu_names.specs.Names.{is_name}
 use Rattle.flu_model.specs.Erasure.{PlainAction, PlainKind}
 use Rattle.flu_text.specs.declared.written.WrittenSpan.{WrittenSpan}
@@ -32,8 +33,9 @@ use Rattle.flu_parse.specs.Faults.{each}
 use Rattle.flu_parse.specs.Naming.{Naming, is_version_3, keys_by, items_by, look_up, known}
 use Rattle.flu_parse.specs.Lists.{texts_of, list_of}
 use Rattle.flu_parse.specs.Actions.{resolved_actions}
-use Rattle.flu_parse.specs.Listings.{Listed, tags_of, rate_of, slack_of, file_of}
-use Rattle.flu_parse.specs.Resolving.{Drafted, same_of, with_depend, with_actions, with_on, with_source, cell_name_fits, with_cell, with_tag, with_names}
+use Rattle.flu_parse.specs.Listings.{Listed, tags_of, rate_of, slack_of, file_of, period_of, tick_of}
+use Rattle.flu_parse.specs.Resolving.{Drafted, same_of, with_depend, with_actions, with_on, with_source, with_clock, cell_name_fits, with_cell, with_tag}
+use Rattle.flu_parse.specs.Resolving.{with_names}
 use Rattle.flu_parse.specs.Resolving.{with_declaration}
 use Rattle.flu_parse.proofs.Distinct.{distinct_with}
 use Rattle.flu_parse.proofs.Looks.{passed}
@@ -42,6 +44,7 @@ use Rattle.flu_parse.proofs.Kept.Versions.{action_suits, actions_suit, passes_an
 use Rattle.flu_parse.proofs.Kept.Names.{depends_in, sources_in, families_in, items_in}
 use Rattle.flu_parse.proofs.Kept.Names.{keys_in, lists_in}
 use Rattle.flu_parse.proofs.Kept.Lists.{all_fit, all_fit-append, keys_fit, items_fit}
+use Rattle.flu_parse.proofs.Kept.Listings.{files_in}
 use Rattle.flu_parse.proofs.Kept.Terms.{was_known}
 
 -- what a kind's declaration says
@@ -104,16 +107,34 @@ more_itags place (q ∷ sources) s =
     let before = length-append here (itags_of_sources (place + 1) sources) in
     omega (arith, rest, all, before)
 
-abbrev pub files_in : List Source → List (List ℕ)
-files_in sources = map (λ (s : Source). s.file) sources
-
-pub one_more_file : (sources : List Source) (s : Source) → are_distinct is_same_text (files_in sources) ≡ true
-    → list_any (λ (x : Source). is_same_text s.file x.file) sources ≡ false → are_distinct is_same_text (files_in (sources ++ s ∷ [])) ≡ true
-one_more_file sources s apart fresh =
+pub one_more_file : (sources : List Source) (s : Source) → file_of_source s ≡ Some s.file → are_distinct is_same_text (files_in sources) ≡ true
+    → list_any (is_same_text s.file) (files_in sources) ≡ false → are_distinct is_same_text (files_in (sources ++ s ∷ [])) ≡ true
+one_more_file sources s has apart fresh =
     let none : files_in sources ++ [] ≡ files_in sources = append-nil (files_in sources) in
-    ap (are_distinct is_same_text) (map-append (λ (x : Source). x.file) sources (s ∷ []))
+    ap (are_distinct is_same_text) (filter_map-append file_of_source sources (s ∷ []))
+    ∙ ap (λ (o : Option (List ℕ)). are_distinct is_same_text (files_in sources ++ cons_option o [])) has
     ∙ distinct_with is_same_text nat_list_eq_equiv.symm (files_in sources) [] s.file (ap (are_distinct is_same_text) none ∙ apart)
-    (ap (list_any (is_same_text s.file)) none ∙ list_any-map (is_same_text s.file) (λ (x : Source). x.file) sources ∙ fresh)
+    (ap (list_any (is_same_text s.file)) none ∙ fresh)
+
+-- a clock has no file
+pub no_more_file : (sources : List Source) (s : Source) → file_of_source s ≡ None → are_distinct is_same_text (files_in sources) ≡ true
+    → are_distinct is_same_text (files_in (sources ++ s ∷ [])) ≡ true
+no_more_file sources s none apart =
+    ap (are_distinct is_same_text) (filter_map-append file_of_source sources (s ∷ []))
+    ∙ ap (λ (o : Option (List ℕ)). are_distinct is_same_text (files_in sources ++ cons_option o [])) none
+    ∙ ap (are_distinct is_same_text) (append-nil (files_in sources)) ∙ apart
+
+-- clocks are there in version 3 alone
+pub one_more_origin : (newer : Bool) (sources : List Source) (s : Source) → is_clock s ≡ false → (newer || not (list_any is_clock sources)) ≡ true
+    → (newer || not (list_any is_clock (sources ++ s ∷ []))) ≡ true
+one_more_origin newer sources s filed so_far =
+    ap (λ b. newer || not b) (list_any-append is_clock sources (s ∷ []))
+    ∙ ap (λ b. newer || not (list_any is_clock sources || (b || false))) filed
+    ∙ ap (λ b. newer || not b) (or_none (list_any is_clock sources)) ∙ so_far
+  where
+    or_none : (b : Bool) → (b || false) ≡ b
+    or_none true = refl
+    or_none false = refl
 
 -- ---- what is named
 abbrev pub source_names : List Source → List (List ℕ)
@@ -168,7 +189,7 @@ module _ (text : List ℕ) (n : Naming) where
 
   -- a source of what is written
   abbrev pub source_with : WrittenSpan → List ℕ → ℕ → ℕ → Listed → Source
-  source_with s bytes rate slack l = record { name = name_of text s; file = bytes; rate = rate; slack = slack; tags = l.tags }
+  source_with s bytes rate slack l = record { name = name_of text s; file = bytes; every = None; rate = rate; slack = slack; tags = l.tags }
 
   pub record AddsSource (d : Drafted) (s file : WrittenSpan) (written late : Option WrittenNumber) (tags : List WrittenTag) (next : Drafted) : Type 0 where
     pub bytes : List ℕ
@@ -199,6 +220,41 @@ module _ (text : List ℕ) (n : Naming) where
         by_rate = two.1;
         by_slack = three.1;
         by_tags = four.1;
+        is = cc;
+      }
+
+  -- a clock of what is written
+  abbrev pub clock_with : WrittenSpan → ℕ → ℕ → Listed → Source
+  clock_with s period rate l = record { name = name_of text s; file = []; every = Some period; rate = rate; slack = 0; tags = l.tags }
+
+  pub record AddsClock (d : Drafted) (s : WrittenSpan) (every : WrittenNumber) (written : Option WrittenNumber) (tag : WrittenSpan) (next : Drafted) : Type 0
+    where
+      pub newer : is_version_3 n ≡ true
+      pub period : ℕ
+      pub rate : ℕ
+      pub list : Listed
+      pub by_period : period_of every ≡ Ok period
+      pub by_rate : rate_of written ≡ Ok rate
+      pub by_tag : tick_of text n d.itags tag ≡ Ok list
+      pub is : record d { sources = d.sources ++ clock_with s period rate list ∷ []; itags = list.itags } ≡ next
+
+  pub added_clock : (d : Drafted) (at : ℕ) (s : WrittenSpan) (every : WrittenNumber) (written : Option WrittenNumber) (tag : WrittenSpan) (next : Drafted)
+      → with_clock text n d at s every written tag ≡ Ok next → AddsClock d s every written tag next
+  unfolding with_clock
+  added_clock d at s every written tag next e =
+      let one = passed (is_version_3 n) (f.WrongShape at) _ next e in
+      let two = bind_ok (period_of every) _ next one.1 in
+      let three = bind_ok (rate_of written) _ next two.2 in
+      let four = bind_ok (tick_of text n d.itags tag)
+      (λ l. Ok (record d { sources = d.sources ++ clock_with s two.0 three.0 l ∷ []; itags = l.itags })) next three.2 in
+      record {
+        newer = one.0;
+        period = two.0;
+        rate = three.0;
+        list = four.0;
+        by_period = two.1;
+        by_rate = three.1;
+        by_tag = four.1;
         is = cc;
       }
 
@@ -241,6 +297,7 @@ module _ (text : List ℕ) (n : Naming) where
   Passes (tree.Depends a b relation) = Unit {0}
   Passes (tree.On s actions) = Unit {0}
   Passes (tree.Source s file rate slack tags) = Unit {0}
+  Passes (tree.Clock at s every rate tag) = Unit {0}
 
   pub one_passes : (d : Drafted) (w : Declaration) (next : Drafted) → with_declaration text n d w ≡ Ok next → Passes w
   unfolding with_declaration
@@ -250,6 +307,7 @@ module _ (text : List ℕ) (n : Naming) where
   one_passes d (tree.Depends a b relation) next e = tt
   one_passes d (tree.On s actions) next e = tt
   one_passes d (tree.Source s file rate slack tags) next e = tt
+  one_passes d (tree.Clock at s every rate tag) next e = tt
 
   pub all_pass : (ds : List Declaration) (d next : Drafted) → each (with_declaration text n) d ds ≡ Ok next → AllByRecursion Passes ds
   unfolding each
@@ -277,6 +335,7 @@ module _ (text : List ℕ) (n : Naming) where
   none_called_item (tree.Depends a b relation ∷ ds) all = none_called_item ds all.1
   none_called_item (tree.On s actions ∷ ds) all = none_called_item ds all.1
   none_called_item (tree.Source s file rate slack tags ∷ ds) all = none_called_item ds all.1
+  none_called_item (tree.Clock at s every rate tag ∷ ds) all = none_called_item ds all.1
 
   pub items_in_version : (ds : List Declaration) → AllByRecursion Passes ds
       → list_all (λ h. is_version_3 n || not h) (flat_map (items_in text) ds) ≡ true
@@ -288,6 +347,7 @@ module _ (text : List ℕ) (n : Naming) where
   items_in_version (tree.Depends a b relation ∷ ds) all = items_in_version ds all.1
   items_in_version (tree.On s actions ∷ ds) all = items_in_version ds all.1
   items_in_version (tree.Source s file rate slack tags ∷ ds) all = items_in_version ds all.1
+  items_in_version (tree.Clock at s every rate tag ∷ ds) all = items_in_version ds all.1
 
   -- the dependencies are counted and the sources listed as the names are
   pub counted : (d : Drafted) (w : Declaration) (next : Drafted) → with_declaration text n d w ≡ Ok next
@@ -306,6 +366,8 @@ module _ (text : List ℕ) (n : Naming) where
       let h = added_actions d s actions next e in ap (λ (x : Drafted). length x.depends) (sym h.4) ∙ sym (add-zero (length d.depends))
   counted d (tree.Source s file rate slack tags) next e =
       let h = added_source d s file rate slack tags next e in ap (λ (x : Drafted). length x.depends) (sym h.is) ∙ sym (add-zero (length d.depends))
+  counted d (tree.Clock at s every rate tag) next e =
+      let h = added_clock d at s every rate tag next e in ap (λ (x : Drafted). length x.depends) (sym h.is) ∙ sym (add-zero (length d.depends))
 
   pub listed : (d : Drafted) (w : Declaration) (next : Drafted) → with_declaration text n d w ≡ Ok next
       → source_names next.sources ≡ source_names d.sources ++ sources_in text w
@@ -323,6 +385,9 @@ module _ (text : List ℕ) (n : Naming) where
   listed d (tree.Source s file rate slack tags) next e =
       let h = added_source d s file rate slack tags next e in
       ap (λ (x : Drafted). source_names x.sources) (sym h.is) ∙ map-append (λ (x : Source). x.name) d.sources (source_with s h.bytes h.rate h.slack h.list ∷ [])
+  listed d (tree.Clock at s every rate tag) next e =
+      let h = added_clock d at s every rate tag next e in
+      ap (λ (x : Drafted). source_names x.sources) (sym h.is) ∙ map-append (λ (x : Source). x.name) d.sources (clock_with s h.period h.rate h.list ∷ [])
 
   pub lists_listed : (d : Drafted) (w : Declaration) (next : Drafted) → with_declaration text n d w ≡ Ok next
       → list_names next.lists ≡ list_names d.lists ++ lists_in text w
@@ -340,6 +405,8 @@ module _ (text : List ℕ) (n : Naming) where
       ap (λ (x : Drafted). list_names x.lists) (sym (added_actions d s actions next e).4) ∙ sym (append-nil (list_names d.lists))
   lists_listed d (tree.Source s file rate slack tags) next e =
       ap (λ (x : Drafted). list_names x.lists) (sym (added_source d s file rate slack tags next e).is) ∙ sym (append-nil (list_names d.lists))
+  lists_listed d (tree.Clock at s every rate tag) next e =
+      ap (λ (x : Drafted). list_names x.lists) (sym (added_clock d at s every rate tag next e).is) ∙ sym (append-nil (list_names d.lists))
 
   -- ---- which lists name the keys of the families and the items of the kinds
   pub record AddsLists (before after : List (Option ℕ)) (heads : List Bool) : Type 0 where
@@ -366,6 +433,8 @@ module _ (text : List ℕ) (n : Naming) where
       none_added d.family_lists next.family_lists (ap (λ (x : Drafted). x.family_lists) (added_actions d s actions next e).4)
   family_listed d (tree.Source s file rate slack tags) next e =
       none_added d.family_lists next.family_lists (ap (λ (x : Drafted). x.family_lists) (added_source d s file rate slack tags next e).is)
+  family_listed d (tree.Clock at s every rate tag) next e =
+      none_added d.family_lists next.family_lists (ap (λ (x : Drafted). x.family_lists) (added_clock d at s every rate tag next e).is)
 
   pub kind_listed : (d : Drafted) (w : Declaration) (next : Drafted) → with_declaration text n d w ≡ Ok next
       → AddsLists d.kind_lists next.kind_lists (items_in text w)
@@ -383,6 +452,8 @@ module _ (text : List ℕ) (n : Naming) where
       none_added d.kind_lists next.kind_lists (ap (λ (x : Drafted). x.kind_lists) (added_actions d s actions next e).4)
   kind_listed d (tree.Source s file rate slack tags) next e =
       none_added d.kind_lists next.kind_lists (ap (λ (x : Drafted). x.kind_lists) (added_source d s file rate slack tags next e).is)
+  kind_listed d (tree.Clock at s every rate tag) next e =
+      none_added d.kind_lists next.kind_lists (ap (λ (x : Drafted). x.kind_lists) (added_clock d at s every rate tag next e).is)
 
   module _ (found : Drafted → List (Option ℕ)) (heads : Declaration → List Bool)
       (one : (d : Drafted) (w : Declaration) (next : Drafted) → with_declaration text n d w ≡ Ok next → AddsLists (found d) (found next) (heads w)) where

@@ -23,7 +23,7 @@ use Rattle.flu_model.specs.declared.jobs.Source.{Source}
 use Rattle.flu_model.specs.Listing.{itags_of_sources}
 use Rattle.flu_model.specs.Numberings.{Numbering}
 use Rattle.flu_model.specs.ListRules.{is_list, family_list_fits, kind_list_fits, fit_lists}
-use Rattle.flu_model.specs.Rules.{is_same_text, are_distinct, is_version, are_kinds}
+use Rattle.flu_model.specs.Rules.{is_same_text, are_distinct, is_version, are_kinds, is_clock}
 use Rattle.flu_model.specs.Texts.{Unit as TimeUnit}
 use Rattle.flu_model.specs.Versions.{is_named_item, fit_version, ties_fit, iso_fits}
 use Rattle.flu_names.specs.Names.{is_name}
@@ -62,7 +62,7 @@ use Rattle.flu_parse.proofs.Looks.{passed}
 use Rattle.flu_parse.proofs.Listed.{map-listed_kinds, all-listed_kinds, length-listed_families, listed_alike, names-alike, families-alike}
 use Rattle.flu_parse.proofs.Listed.{kinds-alike, version-alike}
 use Rattle.flu_parse.proofs.Kept.Plain.{plain_action_fits, plain_kind_fits, kinds-plain, keyed_at, ties_kinds, is_source, keyed_kinds, depends-plain}
-use Rattle.flu_parse.proofs.Kept.Plain.{sources-plain}
+use Rattle.flu_parse.proofs.Kept.Plain.{sources-plain, ticking_kinds}
 use Rattle.flu_parse.proofs.Kept.Versions.{action_suits, actions_suit, items_suit, passes_any, version-plain, plain_fit_version}
 use Rattle.flu_parse.proofs.Kept.Names.{NamesKeep, kind_number, at_number, names_in, item_heads, depends_in, sources_in, families_in, items_in}
 use Rattle.flu_parse.proofs.Kept.Names.{key_heads, keys_in, lists_in, naming_counts, naming_lists, naming_families, naming_items, naming_keys}
@@ -71,12 +71,17 @@ use Rattle.flu_parse.proofs.Kept.Names.{names_kept}
 use Rattle.flu_parse.proofs.Kept.Lists.{all_fit, list_kept, families_named, kinds_named}
 use Rattle.flu_parse.proofs.Kept.Terms.{families_of}
 use Rattle.flu_parse.proofs.Kept.Actions.{actions_kept}
-use Rattle.flu_parse.proofs.Kept.Listings.{keyed_heads, kind_at, source_kept}
+use Rattle.flu_parse.proofs.Kept.Listings.{files_in, keyed_heads, ticking_heads, kind_at, source_kept, clock_kept}
 use Rattle.flu_parse.proofs.Kept.Drafts.{all_listed}
-use Rattle.flu_parse.proofs.Kept.Drafts.{Head, head, declared_head, acted_heads, acted_fit, acted_suit, more_itags, files_in, one_more_file}
+use Rattle.flu_parse.proofs.Kept.Drafts.{Head, head, declared_head, acted_heads, acted_fit, acted_suit, more_itags, one_more_file, no_more_file}
+use Rattle.flu_parse.proofs.Kept.Drafts.{one_more_origin}
 use Rattle.flu_parse.proofs.Kept.Drafts.{source_names, list_names, is_item_name, same_kept, added_depend, added_actions, source_with}
-use Rattle.flu_parse.proofs.Kept.Drafts.{added_source, added_cell, added_tag, list_with, added_names, all_pass, none_called_item}
+use Rattle.flu_parse.proofs.Kept.Drafts.{added_source, clock_with, added_clock, added_cell, added_tag, list_with, added_names, all_pass, none_called_item}
 use Rattle.flu_parse.proofs.Kept.Drafts.{items_in_version, counted, listed, lists_listed, family_listed, kind_listed}
+
+-- whether a kind may tick, by what its declaration says
+abbrev head_ticks : Head → Bool
+head_ticks h = not h.1 && not h.3 && not h.2
 
 module _ (text : List ℕ) (n : Naming) where
   -- ---- what the job keeps as far as its declarations are looked at
@@ -87,6 +92,9 @@ module _ (text : List ℕ) (n : Naming) where
     abbrev declared_kinds : List Bool
     declared_kinds = keyed_heads text n keep.kinds
 
+    abbrev declared_ticks : List Bool
+    declared_ticks = ticking_heads text n keep.kinds
+
     record Keeps (d : Drafted) : Type 0 where
       lists : list_all is_list d.lists ≡ true
       newer : (is_version_3 n || (length d.lists == 0)) ≡ true
@@ -94,7 +102,8 @@ module _ (text : List ℕ) (n : Naming) where
       kinds : list_all (plain_kind_fits declared_families) d.kinds ≡ true
       suits : list_all (actions_suit (is_version_3 n)) d.kinds ≡ true
       depends : list_all (ties_kinds declared_kinds) d.depends ≡ true
-      sources : list_all (is_source declared_kinds) d.sources ≡ true
+      sources : list_all (is_source declared_kinds declared_ticks) d.sources ≡ true
+      clocks : (is_version_3 n || not (list_any is_clock d.sources)) ≡ true
       files : are_distinct is_same_text (files_in d.sources) ≡ true
       count : length (itags_of_sources 0 d.sources) ≡ d.itags
       few : d.itags ≤ 256
@@ -129,6 +138,7 @@ module _ (text : List ℕ) (n : Naming) where
           suits = kept.suits;
           depends = kept.depends;
           sources = kept.sources;
+          clocks = kept.clocks;
           files = kept.files;
           count = kept.count;
           few = kept.few;
@@ -144,6 +154,7 @@ module _ (text : List ℕ) (n : Naming) where
           suits = kept.suits;
           depends = kept.depends;
           sources = kept.sources;
+          clocks = kept.clocks;
           files = kept.files;
           count = kept.count;
           few = kept.few;
@@ -161,6 +172,7 @@ module _ (text : List ℕ) (n : Naming) where
           suits = kept.suits;
           depends = kept.depends;
           sources = kept.sources;
+          clocks = kept.clocks;
           files = kept.files;
           count = kept.count;
           few = kept.few;
@@ -179,6 +191,7 @@ module _ (text : List ℕ) (n : Naming) where
               list_all_push (ties_kinds declared_kinds) d.depends (record { a = h.0.number; b = h.1.number; same = h.2 }) kept.depends
               (tied a b h.0 h.1 h.2 h.3 h.4 (same_kept relation h.0 h.1 h.2 h.5));
           sources = kept.sources;
+          clocks = kept.clocks;
           files = kept.files;
           count = kept.count;
           few = kept.few;
@@ -204,6 +217,7 @@ module _ (text : List ℕ) (n : Naming) where
           suits = acted_suit (is_version_3 n) d.kinds h.0.number (declared_head there.0) h.1 kept.suits place suits;
           depends = kept.depends;
           sources = kept.sources;
+          clocks = kept.clocks;
           files = kept.files;
           count = kept.count;
           few = kept.few;
@@ -225,8 +239,30 @@ module _ (text : List ℕ) (n : Naming) where
           kinds = kept.kinds;
           suits = kept.suits;
           depends = kept.depends;
-          sources = list_all_push (is_source declared_kinds) d.sources source kept.sources is.fits;
-          files = one_more_file d.sources source kept.files is.fresh;
+          sources = list_all_push (is_source declared_kinds declared_ticks) d.sources source kept.sources is.fits;
+          clocks = one_more_origin (is_version_3 n) d.sources source refl kept.clocks;
+          files = one_more_file d.sources source refl kept.files is.fresh;
+          count = omega (arith, more, kept.count, is.count);
+          few = is.few;
+        }
+        )
+    stays d (tree.Clock at s every rate tag) next kept well e =
+        let h = added_clock text n d at s every rate tag next e in
+        let named = read.names s well.0.0 in
+        let clock : Source = clock_with text n s h.period h.rate h.list in
+        let is = clock_kept text n keep.kinds meet differ d.itags s every rate tag h.period h.rate h.list named kept.few h.by_period h.by_rate h.by_tag in
+        let more = more_itags 0 d.sources clock in
+        subst Keeps h.is (
+        record {
+          lists = kept.lists;
+          newer = kept.newer;
+          heads = kept.heads;
+          kinds = kept.kinds;
+          suits = kept.suits;
+          depends = kept.depends;
+          sources = list_all_push (is_source declared_kinds declared_ticks) d.sources clock kept.sources is.fits;
+          clocks = ap (λ b. b || not (list_any is_clock (d.sources ++ clock ∷ []))) h.newer;
+          files = no_more_file d.sources clock refl kept.files;
           count = omega (arith, more, kept.count, is.count);
           few = is.few;
         }
@@ -279,6 +315,7 @@ module _ (text : List ℕ) (n : Naming) where
           suits = idle_suit n.kinds;
           depends = refl;
           sources = refl;
+          clocks = sym (passes_any (is_version_3 n));
           files = refl;
           count = refl;
           few = omega arith;
@@ -383,6 +420,8 @@ module _ (text : List ℕ) (n : Naming) where
         let many = ap length heads in
         let keyed : keyed_kinds kinds ≡ declared_kinds = sym (map-map (λ (h : Head). h.1) (λ (k : Kind). head (plain_kind k)) kinds)
         ∙ ap (map (λ (h : Head). h.1)) heads ∙ map-map (λ (h : Head). h.1) declared_head n.kinds in
+        let ticking : ticking_kinds kinds ≡ declared_ticks = sym (map-map head_ticks (λ (k : Kind). head (plain_kind k)) kinds)
+        ∙ ap (map head_ticks) heads ∙ map-map head_ticks declared_head n.kinds in
         let kind_names_are : map (λ (k : Kind). k.name) kinds ≡ names_in n.kinds = sym (map-map (λ (h : Head). h.0) (λ (k : Kind). head (plain_kind k)) kinds)
         ∙ ap (map (λ (h : Head). h.0)) heads ∙ map-map (λ (h : Head). h.0) declared_head n.kinds in
         let family_names_are : map (λ (f : Family). f.name) (listed_families families d.family_lists) ≡ names_in n.families =
@@ -412,7 +451,9 @@ module _ (text : List ℕ) (n : Naming) where
           version_fits = versions_kept ds d kinds named kept e same;
           lists_fit = lists_kept ds d kinds named kept e same;
           depends_fit = depends-plain kinds d.depends ∙ ap (λ ks. list_all (ties_kinds ks) d.depends) keyed ∙ kept.depends;
-          sources_fit = sources-plain kinds d.sources ∙ ap (λ ks. list_all (is_source ks) d.sources) keyed ∙ kept.sources;
+          sources_fit = sources-plain kinds d.sources ∙ ap (λ ks. list_all (is_source ks (ticking_kinds kinds)) d.sources) keyed
+              ∙ ap (λ ts. list_all (is_source declared_kinds ts) d.sources) ticking ∙ kept.sources;
+          clocks_fit = kept.clocks;
           own_names =
               (λ i. are_distinct is_same_text (family_names_are i ++ kind_names_are i ++ source_names_are i ++ list_names_are i)) ∙ keep.distinct;
           own_files = kept.files;

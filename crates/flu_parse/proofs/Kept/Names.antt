@@ -242,6 +242,7 @@ module _ (text : List ℕ) where
   depends_in (d.Depends a b relation) = 1
   depends_in (d.On kind actions) = 0
   depends_in (d.Source s file rate slack tags) = 0
+  depends_in (d.Clock at s every rate tag) = 0
 
   abbrev pub sources_in : Declaration → List (List ℕ)
   sources_in (d.Cell s cells sort) = []
@@ -250,6 +251,7 @@ module _ (text : List ℕ) where
   sources_in (d.Depends a b relation) = []
   sources_in (d.On kind actions) = []
   sources_in (d.Source s file rate slack tags) = name_of text s ∷ []
+  sources_in (d.Clock at s every rate tag) = name_of text s ∷ []
 
   abbrev pub families_in : Declaration → List (List ℕ)
   families_in (d.Cell s cells sort) = name_of text s ∷ []
@@ -258,6 +260,7 @@ module _ (text : List ℕ) where
   families_in (d.Depends a b relation) = []
   families_in (d.On kind actions) = []
   families_in (d.Source s file rate slack tags) = []
+  families_in (d.Clock at s every rate tag) = []
 
   abbrev pub keys_in : Declaration → List Bool
   keys_in (d.Cell s cells sort) = has_keys cells ∷ []
@@ -266,6 +269,7 @@ module _ (text : List ℕ) where
   keys_in (d.Depends a b relation) = []
   keys_in (d.On kind actions) = []
   keys_in (d.Source s file rate slack tags) = []
+  keys_in (d.Clock at s every rate tag) = []
 
   abbrev pub lists_in : Declaration → List (List ℕ)
   lists_in (d.Cell s cells sort) = []
@@ -274,6 +278,7 @@ module _ (text : List ℕ) where
   lists_in (d.Depends a b relation) = []
   lists_in (d.On kind actions) = []
   lists_in (d.Source s file rate slack tags) = []
+  lists_in (d.Clock at s every rate tag) = []
 
   abbrev pub items_in : Declaration → List Bool
   items_in (d.Cell s cells sort) = []
@@ -282,6 +287,7 @@ module _ (text : List ℕ) where
   items_in (d.Depends a b relation) = []
   items_in (d.On kind actions) = []
   items_in (d.Source s file rate slack tags) = []
+  items_in (d.Clock at s every rate tag) = []
 
   counted : (n : Naming) (w : Declaration) (m : Naming) → declare text n w ≡ Ok m → m.depends ≡ n.depends + depends_in w
   unfolding declare
@@ -292,6 +298,7 @@ module _ (text : List ℕ) where
   counted n (d.Depends a b relation) m e = ap (λ (k : Naming). k.depends) (sym (added_depend n m e).1)
   counted n (d.On kind actions) m e = let same : n ≡ m = cc in ap (λ (k : Naming). k.depends) (sym same) ∙ sym (add-zero n.depends)
   counted n (d.Source s file rate slack tags) m e = ap (λ (k : Naming). k.depends) (sym (added_source n s m e).2) ∙ sym (add-zero n.depends)
+  counted n (d.Clock at s every rate tag) m e = ap (λ (k : Naming). k.depends) (sym (added_source n s m e).2) ∙ sym (add-zero n.depends)
 
   listed : (n : Naming) (w : Declaration) (m : Naming) → declare text n w ≡ Ok m → m.sources ≡ n.sources ++ sources_in w
   unfolding declare
@@ -302,6 +309,7 @@ module _ (text : List ℕ) where
   listed n (d.Depends a b relation) m e = ap (λ (k : Naming). k.sources) (sym (added_depend n m e).1) ∙ sym (append-nil n.sources)
   listed n (d.On kind actions) m e = let same : n ≡ m = cc in ap (λ (k : Naming). k.sources) (sym same) ∙ sym (append-nil n.sources)
   listed n (d.Source s file rate slack tags) m e = ap (λ (k : Naming). k.sources) (sym (added_source n s m e).2)
+  listed n (d.Clock at s every rate tag) m e = ap (λ (k : Naming). k.sources) (sym (added_source n s m e).2)
 
   families_listed : (n : Naming) (w : Declaration) (m : Naming) → declare text n w ≡ Ok m → names_in m.families ≡ names_in n.families ++ families_in w
   unfolding declare
@@ -319,6 +327,8 @@ module _ (text : List ℕ) where
       let same : n ≡ m = cc in ap (λ (k : Naming). names_in k.families) (sym same) ∙ sym (append-nil (names_in n.families))
   families_listed n (d.Source s file rate slack tags) m e =
       ap (λ (k : Naming). names_in k.families) (sym (added_source n s m e).2) ∙ sym (append-nil (names_in n.families))
+  families_listed n (d.Clock at s every rate tag) m e =
+      ap (λ (k : Naming). names_in k.families) (sym (added_source n s m e).2) ∙ sym (append-nil (names_in n.families))
 
   items_listed : (n : Naming) (w : Declaration) (m : Naming) → declare text n w ≡ Ok m → item_heads m ≡ item_heads n ++ items_in w
   unfolding declare
@@ -330,6 +340,7 @@ module _ (text : List ℕ) where
   items_listed n (d.Depends a b relation) m e = ap item_heads (sym (added_depend n m e).1) ∙ sym (append-nil (item_heads n))
   items_listed n (d.On kind actions) m e = let same : n ≡ m = cc in ap item_heads (sym same) ∙ sym (append-nil (item_heads n))
   items_listed n (d.Source s file rate slack tags) m e = ap item_heads (sym (added_source n s m e).2) ∙ sym (append-nil (item_heads n))
+  items_listed n (d.Clock at s every rate tag) m e = ap item_heads (sym (added_source n s m e).2) ∙ sym (append-nil (item_heads n))
 
   keys_listed : (n : Naming) (w : Declaration) (m : Naming) → declare text n w ≡ Ok m → key_heads m ≡ key_heads n ++ keys_in w
   unfolding declare
@@ -342,6 +353,7 @@ module _ (text : List ℕ) where
   keys_listed n (d.Depends a b relation) m e = ap key_heads (sym (added_depend n m e).1) ∙ sym (append-nil (key_heads n))
   keys_listed n (d.On kind actions) m e = let same : n ≡ m = cc in ap key_heads (sym same) ∙ sym (append-nil (key_heads n))
   keys_listed n (d.Source s file rate slack tags) m e = ap key_heads (sym (added_source n s m e).2) ∙ sym (append-nil (key_heads n))
+  keys_listed n (d.Clock at s every rate tag) m e = ap key_heads (sym (added_source n s m e).2) ∙ sym (append-nil (key_heads n))
 
   lists_listed : (n : Naming) (w : Declaration) (m : Naming) → declare text n w ≡ Ok m → m.lists ≡ n.lists ++ lists_in w
   unfolding declare
@@ -353,6 +365,7 @@ module _ (text : List ℕ) where
   lists_listed n (d.Depends a b relation) m e = ap (λ (k : Naming). k.lists) (sym (added_depend n m e).1) ∙ sym (append-nil n.lists)
   lists_listed n (d.On kind actions) m e = let same : n ≡ m = cc in ap (λ (k : Naming). k.lists) (sym same) ∙ sym (append-nil n.lists)
   lists_listed n (d.Source s file rate slack tags) m e = ap (λ (k : Naming). k.lists) (sym (added_source n s m e).2) ∙ sym (append-nil n.lists)
+  lists_listed n (d.Clock at s every rate tag) m e = ap (λ (k : Naming). k.lists) (sym (added_source n s m e).2) ∙ sym (append-nil n.lists)
 
   pub naming_counts : (ds : List Declaration) (n : Naming) → naming_of text ds ≡ Ok n → n.depends ≡ total depends_in ds
   naming_counts ds n e =
@@ -444,6 +457,22 @@ module _ (text : List ℕ) where
         )
     stays n (d.On kind actions) m keep words e = let same : n ≡ m = cc in subst NamesKeep same keep
     stays n (d.Source s file rate slack tags) m keep words e =
+        let a = added_source n s m e in
+        let p = source_put n (name_of text s) keep a.0 (read.names s words.0) in
+        subst NamesKeep a.2 (
+        record {
+          few_families = keep.few_families;
+          few_kinds = keep.few_kinds;
+          few_sources = omega (arith, a.1, length-append n.sources (name_of text s ∷ []));
+          few_lists = keep.few_lists;
+          few_depends = keep.few_depends;
+          are_names = p.0;
+          distinct = p.1;
+          families = keep.families;
+          kinds = keep.kinds;
+        }
+        )
+    stays n (d.Clock at s every rate tag) m keep words e =
         let a = added_source n s m e in
         let p = source_put n (name_of text s) keep a.0 (read.names s words.0) in
         subst NamesKeep a.2 (

@@ -1,6 +1,6 @@
 -- The rules of the language on plain data, where no expression has boxes.
 use Rattle.std.proofs.Common.{◌≡◌, ℕ, ◌+◌, Bool, true, false, List, map, length, Option, Some, None, refl, sym, ap, ◌∙◌}
-use Rattle.std.specs.Prelude.{◌&&◌, ◌||◌, not, nat_lt, nat_le, max, slice_get, option_map}
+use Rattle.std.specs.Prelude.{◌&&◌, ◌||◌, ◌==◌, ◌^◌, not, nat_lt, nat_le, max, slice_get, option_map}
 use Rattle.std.specs.List.{list_all}
 use Rattle.std.proofs.lemmas.List.{length-map}
 use Rattle.std.proofs.lemmas.List.Folds.{list_all-map}
@@ -21,7 +21,7 @@ use Rattle.flu_model.specs.declared.jobs.Sort.TheVariants.{Sum, Max, Last}
 use Rattle.flu_names.specs.Names.{is_name}
 use Rattle.flu_model.specs.Rules.{is_literal, ref_fits, ref_has_sort, expr_fits, height, is_good_expr, emit_template_fits, flush_template_fits, is_keyed}
 use Rattle.flu_model.specs.Rules.{act_fits, guard_fits, action_fits, kind_fits, kind_is_keyed, depend_fits, keys_fit, listed_kind_fits, tag_ref_fits}
-use Rattle.flu_model.specs.Rules.{is_file_text, is_same_tag, are_distinct, source_fits}
+use Rattle.flu_model.specs.Rules.{is_file_text, is_same_tag, are_distinct, source_fits, is_tick_kind, is_tick_tag, has_origin}
 use Rattle.flu_model.specs.Listing.{tags_of_source}
 use Rattle.flu_model.specs.Erasure.{Term, Literal, EventValue, EventKey, EventItem, EventTime, CellRead, CellHeld, Negative, Negation, Operation, PlainAct}
 use Rattle.flu_model.specs.Erasure.{Adding, Raising, Setting, Clearing, ClearingFamily, Emitting, Flushing, PlainAction, PlainKind, term_of, plain_act}
@@ -151,13 +151,28 @@ keys_fit_at (Some keyed) keys = keys_fit keyed keys
 abbrev pub lists_kind : List Bool → TagRef → Bool
 lists_kind keyed r = keys_fit_at (slice_get keyed r.kind) r.keys
 
-abbrev pub is_source : List Bool → Source → Bool
-is_source keyed s =
-    is_name s.name && is_file_text s.file && nat_le s.rate 1000000000 && nat_le s.slack 60000 && nat_lt 0 (length s.tags)
+-- and which of them may tick
+abbrev pub ticks_kind : List Bool → TagRef → Bool
+ticks_kind ticking r = keyed_at (slice_get ticking r.kind)
+
+abbrev pub has_source_origin : List Bool → Source → Option ℕ → Bool
+has_source_origin ticking s None = is_file_text s.file
+has_source_origin ticking s (Some every) =
+    nat_le 1 every && nat_le every (2 ^ 62) && (length s.file == 0) && (s.slack == 0) && (length s.tags == 1) && list_all (ticks_kind ticking) s.tags
+
+abbrev pub is_source : List Bool → List Bool → Source → Bool
+is_source keyed ticking s =
+    is_name s.name && has_source_origin ticking s s.every && nat_le s.rate 1000000000 && nat_le s.slack 60000 && nat_lt 0 (length s.tags)
     && list_all (lists_kind keyed) s.tags && are_distinct is_same_tag (tags_of_source s)
 
 abbrev pub keyed_kinds : List Kind → List Bool
 keyed_kinds kinds = map (λ (k : Kind). k.keyed) kinds
+
+abbrev pub ticks : Kind → Bool
+ticks k = not k.keyed && not k.has_item && not k.has_value
+
+abbrev pub ticking_kinds : List Kind → List Bool
+ticking_kinds kinds = map ticks kinds
 
 at_kind : (o : Option Kind) → kind_is_keyed o ≡ keyed_at (option_map (λ (k : Kind). k.keyed) o)
 at_kind None = refl
@@ -183,11 +198,27 @@ depends-plain kinds depends = list_all_same (depend_fits kinds) (ties_kinds (key
 tag-plain : (kinds : List Kind) (r : TagRef) → tag_ref_fits kinds r ≡ lists_kind (keyed_kinds kinds) r
 tag-plain kinds r = listed_at (slice_get kinds r.kind) r.keys ∙ ap (λ o. keys_fit_at o r.keys) (sym (slice_get-map (λ (k : Kind). k.keyed) kinds r.kind))
 
-source-plain : (kinds : List Kind) (s : Source) → source_fits kinds s ≡ is_source (keyed_kinds kinds) s
+ticks_at : (o : Option Kind) → is_tick_kind o ≡ keyed_at (option_map ticks o)
+ticks_at None = refl
+ticks_at (Some k) = refl
+
+tick-plain : (kinds : List Kind) (r : TagRef) → is_tick_tag kinds r ≡ ticks_kind (ticking_kinds kinds) r
+tick-plain kinds r = ticks_at (slice_get kinds r.kind) ∙ ap keyed_at (sym (slice_get-map ticks kinds r.kind))
+
+origin-plain : (kinds : List Kind) (s : Source) (every : Option ℕ) → has_origin kinds s every ≡ has_source_origin (ticking_kinds kinds) s every
+origin-plain kinds s None = refl
+origin-plain kinds s (Some every) =
+    ap (λ b. nat_le 1 every && nat_le every (2 ^ 62) && (length s.file == 0) && (s.slack == 0) && (length s.tags == 1) && b)
+    (list_all_same (is_tick_tag kinds) (ticks_kind (ticking_kinds kinds)) s.tags (tick-plain kinds))
+
+source-plain : (kinds : List Kind) (s : Source) → source_fits kinds s ≡ is_source (keyed_kinds kinds) (ticking_kinds kinds) s
 source-plain kinds s =
-    ap (λ b. is_name s.name && is_file_text s.file && nat_le s.rate 1000000000 && nat_le s.slack 60000 && nat_lt 0
+    ap (λ b. is_name s.name && has_origin kinds s s.every && nat_le s.rate 1000000000 && nat_le s.slack 60000 && nat_lt 0
     (length s.tags) && b && are_distinct is_same_tag (tags_of_source s))
     (list_all_same (tag_ref_fits kinds) (lists_kind (keyed_kinds kinds)) s.tags (tag-plain kinds))
+    ∙ ap (λ b. is_name s.name && b && nat_le s.rate 1000000000 && nat_le s.slack 60000 && nat_lt 0
+    (length s.tags) && list_all (lists_kind (keyed_kinds kinds)) s.tags && are_distinct is_same_tag (tags_of_source s)) (origin-plain kinds s s.every)
 
-pub sources-plain : (kinds : List Kind) (sources : List Source) → list_all (source_fits kinds) sources ≡ list_all (is_source (keyed_kinds kinds)) sources
-sources-plain kinds sources = list_all_same (source_fits kinds) (is_source (keyed_kinds kinds)) sources (source-plain kinds)
+pub sources-plain : (kinds : List Kind) (sources : List Source)
+    → list_all (source_fits kinds) sources ≡ list_all (is_source (keyed_kinds kinds) (ticking_kinds kinds)) sources
+sources-plain kinds sources = list_all_same (source_fits kinds) (is_source (keyed_kinds kinds) (ticking_kinds kinds)) sources (source-plain kinds)

@@ -2,11 +2,12 @@
 use Rattle.std.proofs.Common.{◌≡◌, ◌<◌, ◌≤◌, ◌+◌, ℕ, zero, suc, pos, Bool, true, false, ◌||◌, List, [], ◌∷◌, ◌++◌, map, length, Option, Some, None, Ok, refl}
 use Rattle.std.proofs.Common.{sym, ap}
 use Rattle.std.proofs.Common.{subst, ◌∙◌, append_assoc, length-append, arith}
-use Rattle.std.specs.Prelude.{nat_lt, nat_le, not, ◌==◌, ◌&&◌, is_some, codes, slice_get, position, option_map, cond}
-use Rattle.std.specs.List.{list_all, list_any}
+use Rattle.std.specs.Prelude.{nat_lt, nat_le, not, ◌==◌, ◌&&◌, is_some, codes, slice_get, position, option_map, cond, if◌then◌else◌}
+use Rattle.std.specs.List.{list_all, list_any, filter_map, cons_option}
+use Rattle.std.proofs.lemmas.List.Elements.{filter_map-append}
 use Rattle.std.specs.Str.{IsUtf8, bytes_eq}
 use Rattle.std.proofs.lemmas.Grind.{common_steps}
-use Rattle.std.proofs.lemmas.List.{append-nil, length-map, map-append}
+use Rattle.std.proofs.lemmas.List.{append-nil, length-map}
 use Rattle.std.proofs.lemmas.List.Folds.{list_any-append}
 use Rattle.flu_lemmas.proofs.Tests.{and_left, and_right, lt_true, true_lt, true_le, not_true}
 use Rattle.flu_lemmas.proofs.Places.{slice_get-behind, position-cons}
@@ -23,31 +24,34 @@ use Rattle.flu_model.specs.Erasure.{PlainAction, PlainKind}
 use Rattle.flu_model.specs.Numberings.{Numbering}
 use Rattle.flu_model.specs.ListRules.{is_listed_text, is_list, is_declared_list, family_list_fits}
 use Rattle.flu_model.specs.Listing.{tags_of_source, itags_of_sources}
-use Rattle.flu_model.specs.Rules.{is_same_text, are_distinct}
+use Rattle.flu_model.specs.Rules.{is_same_text, are_distinct, is_file_text, file_of_source, is_clock}
 use Rattle.flu_model.specs.Versions.{is_named_item}
 use Rattle.flu_rules.specs.Keys.{TagsMeet, TagsDiffer}
 use Rattle.flu_text.specs.declared.written.WrittenSpan.{WrittenSpan}
 use Rattle.flu_syntax.specs.declared.tree.WrittenBy.{WrittenBy}
+use Rattle.flu_syntax.specs.declared.tree.WrittenTag.{WrittenTag}
+use Rattle.flu_model.specs.declared.jobs.TagRef.{TagRef}
 use Rattle.flu_syntax.specs.declared.tree.WrittenItem.{WrittenItem}
-use Rattle.flu_syntax.specs.Tree.{Declaration, Cell, Tag, Names, Depends, Source as SourceLine}
+use Rattle.flu_syntax.specs.Tree.{Declaration, Cell, Tag, Names, Depends, Source as SourceLine, Clock as ClockLine}
 use Rattle.flu_syntax.specs.Tree.{Action as WrittenDo}
 use Rattle.flu_names.specs.Names.{is_name}
-use Rattle.flu_layout.specs.Spelling.{name_of}
+use Rattle.flu_layout.specs.Spelling.{name_of, inside}
 use Rattle.flu_parse.specs.declared.faults.JobFault.TheVariants as f
 use Rattle.flu_parse.specs.declared.names.KindHead.{KindHead}
 use Rattle.flu_parse.specs.Faults.{Found, ◌>>=◌, ◌>>◌, unless, room, each}
 use Rattle.flu_parse.specs.Naming.{Naming, is_version_3, look_up, known, kind_of, keys_by, items_by}
 use Rattle.flu_parse.specs.Lists.{with_text, texts_of, list_of}
 use Rattle.flu_parse.specs.Printing.{name_of_list}
-use Rattle.flu_parse.specs.Listings.{Listed, tags_of, rate_of, slack_of, file_of}
-use Rattle.flu_parse.specs.Resolving.{Drafted, same_of, with_depend, with_actions, with_on, with_source, item_word_fits, with_cell, with_tag, with_names}
+use Rattle.flu_parse.specs.Listings.{Listed, tags_of, rate_of, slack_of, file_of, period_of, is_tick_head, alone, tick_of}
+use Rattle.flu_parse.specs.Resolving.{Drafted, same_of, with_depend, with_actions, with_on, with_source, with_clock, item_word_fits, with_cell, with_tag}
+use Rattle.flu_parse.specs.Resolving.{with_names}
 use Rattle.flu_parse.specs.Resolving.{with_declaration}
-use Rattle.flu_parse.proofs.Printed.Rules.{plain_source_fits}
-use Rattle.flu_parse.proofs.Printed.LaidLines.{source_facts}
+use Rattle.flu_parse.proofs.Printed.Rules.{plain_source_fits, plain_origin, plain_is_tick, plain_tick_tag}
+use Rattle.flu_parse.proofs.Printed.LaidLines.{SourceFacts, source_facts, file_facts, ClockFacts, clock_facts}
 use Rattle.flu_parse.proofs.Printed.ReadTerms.{FamiliesKnown}
 use Rattle.flu_parse.proofs.Printed.ReadActions.{do_all}
-use Rattle.flu_parse.proofs.Printed.ReadTags.{kind_head, KindsKnown, all_tags, list_all_tags}
-use Rattle.flu_parse.proofs.Printed.ReadLines.{Lines, TextIs, ByIs, CellIs, TagIs, NamesIs, DependsIs, SourceIs, ActionsAre, Ons}
+use Rattle.flu_parse.proofs.Printed.ReadTags.{kind_head, KindsKnown, Lists, all_tags, list_all_tags}
+use Rattle.flu_parse.proofs.Printed.ReadLines.{Lines, TextIs, ByIs, CellIs, TagIs, NamesIs, DependsIs, SourceIs, ActionsAre, Ons, FileIs, ClockIs, OriginIs}
 use Rattle.flu_parse.proofs.Printed.Names.{same_itself, differs_too}
 use Rattle.flu_parse.proofs.Printed.ListFits.{plain_kind_list_fits, list_facts, list_at_number}
 use Rattle.flu_parse.specs.Actions.{resolved_actions}
@@ -298,64 +302,194 @@ module _ (whole : List ℕ) (utf8 : IsUtf8 whole) (n : Naming) where
         ∙ add_depends deps next lines.1 more lines.4
         ∙ ap (λ l. each (with_declaration whole n) (with_all_depends d l) more) (append_assoc d.depends (e ∷ []) deps)
 
-    pub add_sources : TagsMeet → TagsDiffer → (done ss : List Source) (d : Drafted) (ds more : List Declaration)
-        → Lines (SourceIs whole utf8 kinds named_kinds n known_kinds) ss ds → d.sources ≡ done
-        → list_all (plain_source_fits kinds) ss ≡ true → are_distinct is_same_text
-        (map (λ (s : Source). s.file) (done ++ ss)) ≡ true → d.itags + total_itags ss ≤ 256
-        → each (with_declaration whole n) d (ds ++ more) ≡ each (with_declaration whole n) (with_all_sources d (done ++ ss) (d.itags + total_itags ss)) more
-    unfolding with_declaration with_source
-    add_sources meet differ done [] d ds more lines so_far fits apart few =
-        nothing d ds more lines
-        ∙ ap (λ l. each (with_declaration whole n) (with_all_sources d l d.itags) more) (so_far ∙ sym (append-nil done))
-        ∙ ap (λ k. each (with_declaration whole n) (with_all_sources d (done ++ []) k) more) (let same : d.itags ≡ d.itags + 0 = omega arith in same)
-    add_sources meet differ done (s ∷ ss) d ds more lines so_far fits apart few =
-        let line = lines.3 in
-        let facts = source_facts kinds s (and_left (plain_source_fits kinds s) (list_all (plain_source_fits kinds) ss) fits) in
-        let file = line.file in
-        let names : List (List ℕ) = map (λ (s : Source). s.file) done in
-        let unread : not (list_any (λ (t : Source). is_same_text s.file t.file) done) ≡ true =
-        ap not (sym (list_any-map (is_same_text s.file) (λ (t : Source). t.file) done)
-        ∙ not_before names s.file (map (λ (s : Source). s.file) ss) (ap (are_distinct is_same_text) (sym (map-append (λ (s : Source). s.file) done (s ∷ ss)))
-        ∙ apart)) in
-        let file_found : file_of whole d.sources file ≡ Ok s.file =
-        ap (λ b. unless (nat_lt 0 (length b)) (f.WrongShape file.from) >>
-        (unless (not (list_any (λ (t : Source). is_same_text b t.file) d.sources)) (f.TwiceNamed file.from) >> Ok b)) line.file_is
-        ∙ ap (λ t. unless t (f.WrongShape file.from) >> (unless (not (list_any (λ (t : Source). is_same_text s.file t.file) d.sources))
-        (f.TwiceNamed file.from) >> Ok s.file)) facts.file_some
-        ∙ ap (λ l. unless (not (list_any (λ (t : Source). is_same_text s.file t.file) l)) (f.TwiceNamed file.from) >> Ok s.file) so_far
-        ∙ ap (λ t. unless t (f.TwiceNamed file.from) >> Ok s.file) unread in
-        let rate_found : rate_of (Some (record { value = pos s.rate; at = line.rate_at })) ≡ Ok s.rate =
-        ap (λ t. unless t (f.OverLimit Rate s.rate) >> Ok s.rate) facts.rate in
-        let tags_found : tags_of whole n d.itags line.tags ≡ Ok (record { tags = s.tags; itags = d.itags + all_tags s.tags }) =
-        list_all_tags whole utf8 kinds named_kinds n known_kinds meet [] s.tags line.tags d.itags (omega (arith, few))
-        (sym (differ s.tags) ∙ facts.apart) line.are in
-        let next : Drafted = with_all_sources d (done ++ s ∷ []) (d.itags + all_tags s.tags) in
+    -- a file that is read once
+    file_read : (d : Drafted) (s : Source) (file : WrittenSpan) → is_file_text s.file ≡ true → inside whole file ≡ s.file
+        → list_any (is_same_text s.file) (filter_map file_of_source d.sources) ≡ false → file_of whole d.sources file ≡ Ok s.file
+    file_read d s file fits is fresh =
+        let read : List ℕ → Bool = λ bytes. list_any (is_same_text bytes) (filter_map file_of_source d.sources) in
+        ap (λ b. unless (nat_lt 0 (length b)) (f.WrongShape file.from) >> (unless (not (read b)) (f.TwiceNamed file.from) >> Ok b)) is
+        ∙ ap (λ t. unless t (f.WrongShape file.from) >> (unless (not (read s.file)) (f.TwiceNamed file.from) >> Ok s.file)) (file_facts s fits).some
+        ∙ ap (λ t. unless (not t) (f.TwiceNamed file.from) >> Ok s.file) fresh
+
+    rate_read : (s : Source) (at : ℕ) → nat_le s.rate 1000000000 ≡ true → rate_of (Some (record { value = pos s.rate; at = at })) ≡ Ok s.rate
+    rate_read s at fits = ap (λ t. unless t (f.OverLimit Rate s.rate) >> Ok s.rate) fits
+
+    tags_read : TagsMeet → TagsDiffer → (d : Drafted) (s : Source) (tags : List WrittenTag) → SourceFacts kinds s → d.itags + all_tags s.tags ≤ 256
+        → Pairs (Lists whole utf8 kinds named_kinds n known_kinds) s.tags tags
+        → tags_of whole n d.itags tags ≡ Ok (record { tags = s.tags; itags = d.itags + all_tags s.tags })
+    tags_read meet differ d s tags facts few are =
+        list_all_tags whole utf8 kinds named_kinds n known_kinds meet [] s.tags tags d.itags few (sym (differ s.tags) ∙ facts.apart) are
+
+    abbrev added : Drafted → Source → Drafted
+    added d s = with_all_sources d (d.sources ++ s ∷ []) (d.itags + all_tags s.tags)
+
+    add_file : TagsMeet → TagsDiffer → (d : Drafted) (s : Source) (ds : List Declaration) (line : FileIs whole utf8 kinds named_kinds n known_kinds s ds)
+        → SourceFacts kinds s → s.every ≡ None → is_file_text s.file ≡ true
+        → list_any (is_same_text s.file) (filter_map file_of_source d.sources) ≡ false → d.itags + all_tags s.tags ≤ 256
+        → with_source whole n d line.named line.file (Some (record { value = pos s.rate; at = line.rate_at })) line.slack line.tags ≡ Ok (added d s)
+    unfolding with_source
+    add_file meet differ d s ds line facts every fits fresh few =
         let end : List ℕ → List ℕ → ℕ → ℕ → Listed → Found Drafted =
         λ name bytes rate slack listed. Ok (with_all_sources d (d.sources ++ record {
           name = name;
           file = bytes;
+          every = None;
           rate = rate;
           slack = slack;
           tags =
               listed.tags;
         } ∷ []) listed.itags) in
-        let found : with_source whole n d line.named file (Some (record { value = pos s.rate; at = line.rate_at })) line.slack line.tags ≡ Ok next =
         ap (λ (r : Found (List ℕ)). r >>= λ bytes. rate_of (Some (record { value = pos s.rate; at = line.rate_at })) >>= λ rate. slack_of line.slack >>=
-        λ slack. tags_of whole n d.itags line.tags >>= λ listed. end (name_of whole line.named) bytes rate slack listed) file_found
+        λ slack. tags_of whole n d.itags line.tags >>= λ listed. end (name_of whole line.named) bytes rate slack listed)
+        (file_read d s line.file fits line.file_is fresh)
         ∙ ap (λ (r : Found ℕ). r >>= λ rate. slack_of line.slack >>= λ slack. tags_of whole n d.itags line.tags >>=
-        λ listed. end (name_of whole line.named) s.file rate slack listed) rate_found
+        λ listed. end (name_of whole line.named) s.file rate slack listed) (rate_read s line.rate_at facts.rate)
         ∙ ap (λ (r : Found ℕ). r >>= λ slack. tags_of whole n d.itags line.tags >>=
         λ listed. end (name_of whole line.named) s.file s.rate slack listed) line.slack_is
-        ∙ ap (λ (r : Found Listed). r >>= λ listed. end (name_of whole line.named) s.file s.rate s.slack listed) tags_found
-        ∙ ap (λ name. Ok (with_all_sources d (d.sources ++ record { name = name; file = s.file; rate = s.rate; slack = s.slack; tags = s.tags } ∷ [])
-        (d.itags + all_tags s.tags))) line.name_is
+        ∙ ap (λ (r : Found Listed). r >>= λ listed. end (name_of whole line.named) s.file s.rate s.slack listed)
+        (tags_read meet differ d s line.tags facts few line.are)
+        ∙ (λ i. Ok (with_all_sources d (d.sources ++ record {
+          name = line.name_is i;
+          file = s.file;
+          every = sym every i;
+          rate = s.rate;
+          slack = s.slack;
+          tags =
+              s.tags;
+        } ∷ []) (d.itags + all_tags s.tags)))
+
+    -- the kind of a clock's tag
+    one_of : (tags : List TagRef) (tag : WrittenSpan) → Pairs (Lists whole utf8 kinds named_kinds n known_kinds) tags (alone tag ∷ [])
+        → list_all (plain_tick_tag kinds) tags ≡ true
+        → (head : KindHead) × (kind_of whole n tag ≡ Ok head) × (is_tick_head head ≡ true)
+    one_of [] tag are ticks = absurd are
+    one_of (t ∷ tags) tag are ticks =
+        let l = are.0 in (
+          kind_head t.kind l.kind,
+          l.looked,
+          ap plain_is_tick (sym l.found) ∙ and_left (plain_tick_tag kinds t) (list_all (plain_tick_tag kinds) tags) ticks,
+        )
+
+    tick_read : TagsMeet → TagsDiffer → (d : Drafted) (s : Source) (every : ℕ) (tag : WrittenSpan) → SourceFacts kinds s → ClockFacts kinds s every
+        → d.itags + all_tags s.tags ≤ 256 → Pairs (Lists whole utf8 kinds named_kinds n known_kinds) s.tags (alone tag ∷ [])
+        → tick_of whole n d.itags tag ≡ Ok (record { tags = s.tags; itags = d.itags + all_tags s.tags })
+    tick_read meet differ d s every tag facts clock few are =
+        let l = one_of s.tags tag are clock.ticks in
+        ap (λ (r : Found KindHead). r >>= λ kind. unless (is_tick_head kind) (f.WrongShape tag.from) >> tags_of whole n d.itags (alone tag ∷ [])) l.1
+        ∙ ap (λ b. unless b (f.WrongShape tag.from) >> tags_of whole n d.itags (alone tag ∷ [])) l.2
+        ∙ tags_read meet differ d s (alone tag ∷ []) facts few are
+
+    add_clock : TagsMeet → TagsDiffer → is_version_3 n ≡ true → (d : Drafted) (s : Source) (every : ℕ) (ds : List Declaration)
+        (line : ClockIs whole utf8 kinds named_kinds n known_kinds s every ds)
+        → SourceFacts kinds s → s.every ≡ Some every → ClockFacts kinds s every → d.itags + all_tags s.tags ≤ 256
+        → with_clock whole n d line.at line.named (record { value = pos every; at = line.every_at }) (Some (record { value = pos s.rate; at = line.rate_at }))
+        line.tag ≡ Ok (added d s)
+    unfolding with_clock
+    add_clock meet differ newer d s every ds line facts is clock few =
+        let found : Listed = record { tags = s.tags; itags = d.itags + all_tags s.tags } in
+        let ticked : tick_of whole n d.itags line.tag ≡ Ok found = tick_read meet differ d s every line.tag facts clock few line.are in
+        let end : ℕ → ℕ → Listed → Found Drafted =
+        λ period rate listed. Ok (with_all_sources d (d.sources ++ record {
+          name = name_of whole line.named;
+          file = [];
+          every = Some period;
+          rate = rate;
+          slack = 0;
+          tags =
+              listed.tags;
+        } ∷ []) listed.itags) in
+        let rates : Found ℕ = rate_of (Some (record { value = pos s.rate; at = line.rate_at })) in
+        ap (λ b. unless b (f.WrongShape line.at) >> (period_of (record { value = pos every; at = line.every_at }) >>= λ period. rates >>=
+        λ rate. tick_of whole n d.itags line.tag >>= λ listed. end period rate listed)) newer
+        ∙ ap (λ b. (unless b (f.WrongShape line.every_at) >> Ok every) >>= λ period. rates >>= λ rate. tick_of whole n d.itags line.tag >>=
+        λ listed. end period rate listed) clock.within
+        ∙ ap (λ (r : Found ℕ). r >>= λ rate. tick_of whole n d.itags line.tag >>= λ listed. end every rate listed) (rate_read s line.rate_at facts.rate)
+        ∙ ap (λ (r : Found Listed). r >>= λ listed. end every s.rate listed) ticked
+        ∙ (λ i. Ok (with_all_sources d (d.sources ++ record {
+          name = line.name_is i;
+          file = sym clock.no_file i;
+          every = sym is i;
+          rate = s.rate;
+          slack = sym clock.prompt i;
+          tags =
+              s.tags;
+        } ∷ []) (d.itags + all_tags s.tags)))
+
+    -- a source with a file is read once
+    not_again : (done ss : List Source) (s : Source) (every : Option ℕ) → s.every ≡ every
+        → are_distinct is_same_text (filter_map file_of_source (done ++ s ∷ ss)) ≡ true → every ≡ None
+        → list_any (is_same_text s.file) (filter_map file_of_source done) ≡ false
+    not_again done ss s every is apart none =
+        let files : List (List ℕ) = filter_map file_of_source done in
+        let has : file_of_source s ≡ Some s.file = ap (λ o. if is_some o then None else Some s.file) (is ∙ none) in
+        let split : filter_map file_of_source (done ++ s ∷ ss) ≡ files ++ s.file ∷ filter_map file_of_source ss =
+        filter_map-append file_of_source done (s ∷ ss)
+        ∙ ap (λ (o : Option (List ℕ)). files ++ cons_option o (filter_map file_of_source ss)) has in
+        not_before files s.file (filter_map file_of_source ss) (ap (are_distinct is_same_text) (sym split) ∙ apart)
+
+    -- one source is added
+    abbrev Newer : List Source → Type 0
+    Newer ss = (is_version_3 n || not (list_any is_clock ss)) ≡ true
+
+    newer_here : (new : Bool) (s : Source) (ss : List Source) (every : ℕ) → s.every ≡ Some every → (new || not (list_any is_clock (s ∷ ss))) ≡ true
+        → new ≡ true
+    newer_here true s ss every is newer = refl
+    newer_here false s ss every is newer =
+        absurd (let both : false ≡ true = ap (λ o. not (is_some o || list_any is_clock ss)) (sym is) ∙ newer in cc)
+
+    newer_behind : (new here behind : Bool) → (new || not (here || behind)) ≡ true → (new || not behind) ≡ true
+    newer_behind true here behind h = refl
+    newer_behind false true behind h = absurd cc
+    newer_behind false false behind h = h
+
+    record OneAdded (d : Drafted) (s : Source) (ds : List Declaration) : Type 0 where
+      line : Declaration
+      is : ds ≡ line ∷ []
+      adds : with_declaration whole n d line ≡ Ok (added d s)
+
+    one_added : TagsMeet → TagsDiffer → (done ss : List Source) (s : Source) (every : Option ℕ) (d : Drafted) (ds : List Declaration)
+        → OriginIs whole utf8 kinds named_kinds n known_kinds s every ds → s.every ≡ every → d.sources ≡ done → SourceFacts kinds s
+        → are_distinct is_same_text (filter_map file_of_source (done ++ s ∷ ss)) ≡ true → Newer (s ∷ ss)
+        → d.itags + all_tags s.tags ≤ 256 → OneAdded d s ds
+    unfolding with_declaration
+    one_added meet differ done ss s None d ds line is so_far facts apart newer few =
+        let fits : is_file_text s.file ≡ true = subst (λ o. plain_origin kinds s o ≡ true) is facts.origin in
+        let fresh = ap (λ l. list_any (is_same_text s.file) (filter_map file_of_source l)) so_far ∙ not_again done ss s None is apart refl in
+        record {
+          line = SourceLine line.named line.file (Some (record { value = pos s.rate; at = line.rate_at })) line.slack line.tags;
+          is = line.is;
+          adds = add_file meet differ d s ds line facts is fits fresh few;
+        }
+    one_added meet differ done ss s (Some every) d ds line is so_far facts apart newer few =
+        let clock = clock_facts kinds s every (subst (λ o. plain_origin kinds s o ≡ true) is facts.origin) in
+        record {
+          line = ClockLine line.at line.named (record { value = pos every; at = line.every_at }) (Some (record { value = pos s.rate; at = line.rate_at }))
+              line.tag;
+          is = line.is;
+          adds = add_clock meet differ (newer_here (is_version_3 n) s ss every is newer) d s every ds line facts is clock few;
+        }
+
+    pub add_sources : TagsMeet → TagsDiffer → (done ss : List Source) (d : Drafted) (ds more : List Declaration)
+        → Lines (SourceIs whole utf8 kinds named_kinds n known_kinds) ss ds → d.sources ≡ done
+        → list_all (plain_source_fits kinds) ss ≡ true → Newer ss → are_distinct is_same_text
+        (filter_map file_of_source (done ++ ss)) ≡ true → d.itags + total_itags ss ≤ 256
+        → each (with_declaration whole n) d (ds ++ more) ≡ each (with_declaration whole n) (with_all_sources d (done ++ ss) (d.itags + total_itags ss)) more
+    add_sources meet differ done [] d ds more lines so_far fits newer apart few =
+        nothing d ds more lines
+        ∙ ap (λ l. each (with_declaration whole n) (with_all_sources d l d.itags) more) (so_far ∙ sym (append-nil done))
+        ∙ ap (λ k. each (with_declaration whole n) (with_all_sources d (done ++ []) k) more) (let same : d.itags ≡ d.itags + 0 = omega arith in same)
+    add_sources meet differ done (s ∷ ss) d ds more lines so_far fits newer apart few =
+        let facts = source_facts kinds s (and_left (plain_source_fits kinds s) (list_all (plain_source_fits kinds) ss) fits) in
+        let here = one_added meet differ done ss s s.every d lines.0 lines.3 refl so_far facts apart newer (omega (arith, few)) in
+        let next : Drafted = with_all_sources d (done ++ s ∷ []) (d.itags + all_tags s.tags) in
+        let found : with_declaration whole n d here.line ≡ Ok next = here.adds
         ∙ ap (λ l. Ok (with_all_sources d (l ++ s ∷ []) (d.itags + all_tags s.tags))) so_far in
         let regrouped : (done ++ s ∷ []) ++ ss ≡ done ++ s ∷ ss = append_assoc done (s ∷ []) ss in
-        one d next ds lines.0 lines.1 more (SourceLine line.named file (Some
-        (record { value = pos s.rate; at = line.rate_at })) line.slack line.tags) lines.2 line.is found
+        one d next ds lines.0 lines.1 more here.line lines.2 here.is found
         ∙ add_sources meet differ (done ++ s ∷ []) ss next lines.1 more lines.4 refl
         (and_right (plain_source_fits kinds s) (list_all (plain_source_fits kinds) ss) fits)
-        (ap (λ l. are_distinct is_same_text (map (λ (s : Source). s.file) l)) regrouped ∙ apart) (omega (arith, few))
+        (newer_behind (is_version_3 n) (is_clock s) (list_any is_clock ss) newer)
+        (ap (λ l. are_distinct is_same_text (filter_map file_of_source l)) regrouped ∙ apart) (omega (arith, few))
         ∙ ap (λ l. each (with_declaration whole n) (with_all_sources d l (d.itags + all_tags s.tags + total_itags ss)) more) regrouped
         ∙ ap (λ k. each (with_declaration whole n) (with_all_sources d (done ++ s ∷ ss) k) more)
         (let same : d.itags + all_tags s.tags + total_itags ss ≡ d.itags + (all_tags s.tags + total_itags ss) = omega arith in same)

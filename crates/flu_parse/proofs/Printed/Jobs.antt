@@ -566,7 +566,7 @@ module _ (begun : BegunAreSigns) (meet : TagsMeet) (differ : TagsDiffer) (job : 
             ∙ add_depends whole utf8 n job.kinds named_kinds known_kinds job.depends with_tags p.deps (p.ons ++ (p.sources ++ [])) p.are_deps
             ∙ ons.leads
             ∙ add_sources whole utf8 n job.kinds named_kinds known_kinds meet differ [] job.sources with_ons p.sources []
-            p.are_sources refl fits.sources fits.own_files few,
+            p.are_sources refl fits.sources fits.clocks fits.own_files few,
       )
 
   resolved_is : (p : Parts) (head : Option WrittenHead) → version_of head ≡ Ok job.version → ties_of job.version head ≡ Ok job.ties

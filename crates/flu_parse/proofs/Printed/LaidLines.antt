@@ -6,7 +6,7 @@ use Rattle.std.specs.List.{list_all}
 use Rattle.flu_lemmas.proofs.Booleans.{three_left, three_middle, three_right}
 use Rattle.flu_lemmas.proofs.Elements.{list_all_weaker, list_all_both, passes_at}
 use Rattle.flu_lemmas.proofs.Items.{items_hold, lines_hold}
-use Rattle.flu_lemmas.proofs.Tests.{and_left, and_right, both, true_le, true_lt, lt_true}
+use Rattle.flu_lemmas.proofs.Tests.{and_left, and_right, both, true_le, true_lt, lt_true, true_eq}
 use Rattle.flu_names.specs.declared.reserved.Reserved.{Reserved}
 use Rattle.flu_names.specs.declared.reserved.Reserved.TheVariants as r
 use Rattle.flu_names.specs.Names.{is_name, is_text_byte}
@@ -33,13 +33,14 @@ use Rattle.flu_layout.specs.Lists.{between, behind_kind, keys_words}
 use Rattle.flu_layout.specs.Laws.{KeysAreLaid}
 use Rattle.flu_parse.specs.Printing.{list_name, kind_name, unit_name}
 use Rattle.flu_parse.proofs.Kept.Plain.{plain_action_fits, plain_kind_fits}
-use Rattle.flu_parse.proofs.Printed.Rules.{plain_kind_is_keyed, plain_depend_fits, plain_listed_fits, plain_tag_fits, plain_source_fits, JobFits}
+use Rattle.flu_parse.proofs.Printed.Rules.{plain_kind_is_keyed, plain_depend_fits, plain_listed_fits, plain_tag_fits, plain_tick_tag, plain_origin}
+use Rattle.flu_parse.proofs.Printed.Rules.{plain_source_fits, JobFits}
 use Rattle.flu_parse.proofs.Printed.ListFits.{plain_kind_list_fits, families_listed, plain_kinds_listed, list_facts, list_named, listed_bytes, listed_short}
 use Rattle.flu_parse.proofs.Printed.Words.{action_words, behind_count, unit_words, third_words, version_words, text_words, texts_words, names_line_words}
 use Rattle.flu_parse.proofs.Printed.Words.{by_words}
 use Rattle.flu_parse.proofs.Printed.Words.{keyed_words, sort_reserved, cell_line_words, item_words, value_reserved}
 use Rattle.flu_parse.proofs.Printed.Words.{tag_line_words, behind_depends, same_words, depends_line_words, actions_words, on_line_words, tag_words}
-use Rattle.flu_parse.proofs.Printed.Words.{listed_words, behind_rate, slack_words, source_line_words, job_words}
+use Rattle.flu_parse.proofs.Printed.Words.{listed_words, behind_rate, slack_words, file_words, clock_words, origin_words, source_line_words, job_words}
 use Rattle.flu_parse.proofs.Printed.LaidActions.{laid_action}
 
 laid_keyed : (keyed : Bool) (rest : List Laid) → AreLaid rest → AreLaid (keyed_words keyed rest)
@@ -166,9 +167,7 @@ low_small low high rises small =
 -- what a source keeps
 pub record SourceFacts (kinds : List PlainKind) (s : Source) : Type 0 where
   pub name : is_name s.name ≡ true
-  pub file_some : nat_lt 0 (length s.file) ≡ true
-  pub file_short : length s.file ≤ 256
-  pub file_bytes : list_all is_text_byte s.file ≡ true
+  pub origin : plain_origin kinds s s.every ≡ true
   pub rate : nat_le s.rate 1000000000 ≡ true
   pub slack : nat_le s.slack 60000 ≡ true
   pub some : nat_lt 0 (length s.tags) ≡ true
@@ -178,28 +177,73 @@ pub record SourceFacts (kinds : List PlainKind) (s : Source) : Type 0 where
 pub source_facts : (kinds : List PlainKind) (s : Source) → plain_source_fits kinds s ≡ true → SourceFacts kinds s
 source_facts kinds s h =
     let name : Bool = is_name s.name in
-    let file : Bool = is_file_text s.file in
+    let origin : Bool = plain_origin kinds s s.every in
     let rate : Bool = nat_le s.rate 1000000000 in
     let slack : Bool = nat_le s.slack 60000 in
     let some : Bool = nat_lt 0 (length s.tags) in
     let tags : Bool = list_all (plain_tag_fits kinds) s.tags in
     let apart : Bool = are_distinct is_same_tag (tags_of_source s) in
-    let short : Bool = nat_le (length s.file) 256 in
-    let six : (name && file && rate && slack && some && tags) ≡ true = and_left (name && file && rate && slack && some && tags) apart h in
-    let five : (name && file && rate && slack && some) ≡ true = and_left (name && file && rate && slack && some) tags six in
-    let four : (name && file && rate && slack) ≡ true = and_left (name && file && rate && slack) some five in
-    let three : (name && file && rate) ≡ true = and_left (name && file && rate) slack four in
-    let file_ok : file ≡ true = three_middle name file rate three in
+    let six : (name && origin && rate && slack && some && tags) ≡ true = and_left (name && origin && rate && slack && some && tags) apart h in
+    let five : (name && origin && rate && slack && some) ≡ true = and_left (name && origin && rate && slack && some) tags six in
+    let four : (name && origin && rate && slack) ≡ true = and_left (name && origin && rate && slack) some five in
+    let three : (name && origin && rate) ≡ true = and_left (name && origin && rate) slack four in
     record {
-      name = three_left name file rate three;
-      file_some = three_left (nat_lt 0 (length s.file)) short (list_all is_text_byte s.file) file_ok;
-      file_short = true_le (length s.file) 256 (three_middle (nat_lt 0 (length s.file)) short (list_all is_text_byte s.file) file_ok);
-      file_bytes = three_right (nat_lt 0 (length s.file)) short (list_all is_text_byte s.file) file_ok;
-      rate = three_right name file rate three;
-      slack = and_right (name && file && rate) slack four;
-      some = and_right (name && file && rate && slack) some five;
-      tags = and_right (name && file && rate && slack && some) tags six;
-      apart = and_right (name && file && rate && slack && some && tags) apart h;
+      name = three_left name origin rate three;
+      origin = three_middle name origin rate three;
+      rate = three_right name origin rate three;
+      slack = and_right (name && origin && rate) slack four;
+      some = and_right (name && origin && rate && slack) some five;
+      tags = and_right (name && origin && rate && slack && some) tags six;
+      apart = and_right (name && origin && rate && slack && some && tags) apart h;
+    }
+
+-- what the file of a source keeps
+pub record FileFacts (s : Source) : Type 0 where
+  pub some : nat_lt 0 (length s.file) ≡ true
+  pub short : length s.file ≤ 256
+  pub bytes : list_all is_text_byte s.file ≡ true
+
+pub file_facts : (s : Source) → is_file_text s.file ≡ true → FileFacts s
+file_facts s h =
+    let some : Bool = nat_lt 0 (length s.file) in
+    let short : Bool = nat_le (length s.file) 256 in
+    let bytes : Bool = list_all is_text_byte s.file in
+    record {
+      some = three_left some short bytes h;
+      short = true_le (length s.file) 256 (three_middle some short bytes h);
+      bytes = three_right some short bytes h;
+    }
+
+no_bytes : (bytes : List ℕ) → length bytes ≡ 0 → bytes ≡ []
+no_bytes [] e = refl
+no_bytes (b ∷ bytes) e = absurd (omega arith)
+
+-- what a clock keeps
+pub record ClockFacts (kinds : List PlainKind) (s : Source) (every : ℕ) : Type 0 where
+  pub within : (nat_le 1 every && nat_le every (2 ^ 62)) ≡ true
+  pub few : every ≤ 2 ^ 62
+  pub no_file : s.file ≡ []
+  pub prompt : s.slack ≡ 0
+  pub one : length s.tags ≡ 1
+  pub ticks : list_all (plain_tick_tag kinds) s.tags ≡ true
+
+pub clock_facts : (kinds : List PlainKind) (s : Source) (every : ℕ) → plain_origin kinds s (Some every) ≡ true → ClockFacts kinds s every
+clock_facts kinds s every h =
+    let within : Bool = nat_le 1 every && nat_le every (2 ^ 62) in
+    let file : Bool = length s.file == 0 in
+    let slack : Bool = s.slack == 0 in
+    let one : Bool = length s.tags == 1 in
+    let ticks : Bool = list_all (plain_tick_tag kinds) s.tags in
+    let four = and_left (within && file && slack && one) ticks h in
+    let three = and_left (within && file && slack) one four in
+    let two = and_left (within && file) slack three in
+    record {
+      within = and_left within file two;
+      few = true_le every (2 ^ 62) (and_right (nat_le 1 every) (nat_le every (2 ^ 62)) (and_left within file two));
+      no_file = no_bytes s.file (true_eq (length s.file) 0 (and_right within file two));
+      prompt = true_eq s.slack 0 (and_right (within && file) slack three);
+      one = true_eq (length s.tags) 1 (and_right (within && file && slack) one four);
+      ticks = and_right (within && file && slack && one) ticks h;
     }
 
 module _ (kinds : List PlainKind) (named_kinds : list_all (λ (k : PlainKind). is_name k.name) kinds ≡ true) where
@@ -262,15 +306,32 @@ module _ (laid_keys : KeysAreLaid) (kinds : List PlainKind) (named_kinds : list_
       by true laid = record { blank = refl; ends = refl; laid = laid }
       by false laid = record { blank = refl; ends = listed_ends ts rest; laid = listed }
 
-  laid_source_line : (s : Source) (rest : List Laid) → plain_source_fits kinds s ≡ true → AreLaid rest → AreLaid (source_line_words kinds s rest)
-  laid_source_line s rest fits laid =
-      let facts = source_facts kinds s fits in
+  laid_file : (s : Source) (rest : List Laid) → SourceFacts kinds s → is_file_text s.file ≡ true → AreLaid rest → AreLaid (file_words kinds s rest)
+  laid_file s rest facts fits laid =
+      let filed = file_facts s fits in
       let slack = laid_slack s.slack s.tags rest facts.slack (laid_listed s.tags rest facts.tags laid) in
       let rate : s.rate ≤ 1000000000 = true_le s.rate 1000000000 facts.rate in
       let amount = laid_number (pos s.rate) (behind_rate s.slack) (slack_words s.slack (listed_words kinds s.tags rest)) (lt_true s.rate (2 ^ 63) (omega arith))
       slack.blank slack.ends slack.laid in
-      let file = laid_text s.file blank _ facts.file_bytes facts.file_short refl (laid_reserved r.Rate blank _ refl refl amount) in
+      let file = laid_text s.file blank _ filed.bytes filed.short refl (laid_reserved r.Rate blank _ refl refl amount) in
       laid_reserved r.Source blank _ refl refl (laid_name s.name blank _ facts.name refl refl file)
+
+  laid_clock : (s : Source) (every : ℕ) (rest : List Laid) → SourceFacts kinds s → every ≤ 2 ^ 62 → AreLaid rest → AreLaid (clock_words kinds s every rest)
+  laid_clock s every rest facts few laid =
+      let rate : s.rate ≤ 1000000000 = true_le s.rate 1000000000 facts.rate in
+      let amount = laid_number (pos s.rate) [] (listed_words kinds s.tags rest) (lt_true s.rate (2 ^ 63) (omega arith)) refl (listed_ends s.tags rest)
+      (laid_listed s.tags rest facts.tags laid) in
+      let period = laid_number (pos every) blank _ (lt_true every (2 ^ 63) (omega arith)) refl refl (laid_reserved r.Rate blank _ refl refl amount) in
+      let word = laid_name (codes "every") blank _ refl refl refl period in
+      laid_name (codes "clock") blank _ refl refl refl (laid_name s.name blank _ facts.name refl refl word)
+
+  laid_origin : (s : Source) (every : Option ℕ) (rest : List Laid) → SourceFacts kinds s → plain_origin kinds s every ≡ true → AreLaid rest
+      → AreLaid (origin_words kinds s every rest)
+  laid_origin s None rest facts fits laid = laid_file s rest facts fits laid
+  laid_origin s (Some every) rest facts fits laid = laid_clock s every rest facts (clock_facts kinds s every fits).few laid
+
+  laid_source_line : (s : Source) (rest : List Laid) → plain_source_fits kinds s ≡ true → AreLaid rest → AreLaid (source_line_words kinds s rest)
+  laid_source_line s rest fits laid = let facts = source_facts kinds s fits in laid_origin s s.every rest facts facts.origin laid
 
 -- all kinds have names
 pub names_of_kinds : (families : List Family) (kinds : List PlainKind) → list_all (plain_kind_fits families) kinds ≡ true

@@ -17,7 +17,7 @@ use Rattle.flu_model.specs.declared.jobs.Source.{Source}
 use Rattle.flu_model.specs.Erasure.{PlainAction, PlainKind, Job}
 use Rattle.flu_model.specs.Numberings.{Numbering}
 use Rattle.flu_model.specs.Rules.{is_same_text, are_distinct}
-use Rattle.flu_syntax.specs.Tree.{Declaration, Cell, Tag, Names, Depends, Source as SourceLine}
+use Rattle.flu_syntax.specs.Tree.{Declaration, Cell, Tag, Names, Depends, Source as SourceLine, Clock as ClockLine}
 use Rattle.flu_text.specs.declared.written.WrittenSpan.{WrittenSpan}
 use Rattle.flu_names.specs.Names.{is_name}
 use Rattle.flu_layout.specs.Spelling.{name_of}
@@ -28,7 +28,7 @@ use Rattle.flu_parse.specs.Faults.{Found, ◌>>=◌, ◌>>◌, unless, room, eac
 use Rattle.flu_parse.specs.Naming.{Naming, look_up, is_declared, fresh_name, with_family, with_kind, with_source, with_list, declare, no_names}
 use Rattle.flu_parse.proofs.Printed.ReadTerms.{family_head, FamiliesKnown}
 use Rattle.flu_parse.proofs.Printed.ReadTags.{kind_head, KindsKnown}
-use Rattle.flu_parse.proofs.Printed.ReadLines.{Lines, CellIs, TagIs, NamesIs, DependsIs, SourceIs, ActionsAre, Ons}
+use Rattle.flu_parse.proofs.Printed.ReadLines.{Lines, CellIs, TagIs, NamesIs, DependsIs, OriginIs, SourceIs, ActionsAre, Ons}
 
 -- ---- the heads of declarations, numbered
 
@@ -352,18 +352,43 @@ module _ (whole : List ℕ) (utf8 : IsUtf8 whole) where
         ∙ declare_depends deps next lines.1 more lines.4 (omega (arith, few))
         ∙ ap (λ k. each (declare whole) (with_count m k) more) (let same : m.depends + 1 + length deps ≡ m.depends + suc (length deps) = omega arith in same)
 
+    -- the line of one source
+    record LineDeclares (s : Source) (ds : List Declaration) : Type 0 where
+      line : Declaration
+      named : WrittenSpan
+      is : ds ≡ line ∷ []
+      name_is : name_of whole named ≡ s.name
+      declares : (m : Naming) → declare whole m line ≡ with_source whole m named
+
+    line_declares : (s : Source) (every : Option ℕ) (ds : List Declaration) → OriginIs whole utf8 kinds named_kinds n known_kinds s every ds
+        → LineDeclares s ds
+    unfolding declare
+    line_declares s None ds line = record {
+      line = SourceLine line.named line.file (Some (record { value = pos s.rate; at = line.rate_at })) line.slack line.tags;
+      named = line.named;
+      is = line.is;
+      name_is = line.name_is;
+      declares = λ m. refl;
+    }
+    line_declares s (Some every) ds line = record {
+      line = ClockLine line.at line.named (record { value = pos every; at = line.every_at }) (Some (record { value = pos s.rate; at = line.rate_at }))
+          line.tag;
+      named = line.named;
+      is = line.is;
+      name_is = line.name_is;
+      declares = λ m. refl;
+    }
+
     pub declare_sources : (ss : List Source) (m : Naming) (ds more : List Declaration) → Lines (SourceIs whole utf8 kinds named_kinds n known_kinds) ss ds
         → Left m (map (λ (s : Source). s.name) ss) → length m.sources + length ss ≤ 64
         → each (declare whole) m (ds ++ more) ≡ each (declare whole) (with_sources m (m.sources ++ map (λ (s : Source). s.name) ss)) more
-    unfolding declare
     declare_sources [] m ds more lines left few = nothing m ds more lines ∙ ap (λ l. each (declare whole) (with_sources m l) more) (sym (append-nil m.sources))
     declare_sources (s ∷ ss) m ds more lines left few =
-        let line = lines.3 in
+        let line = line_declares s s.every lines.0 lines.3 in
         let next : Naming = with_sources m (m.sources ++ s.name ∷ []) in
         let size = length-append m.sources (s.name ∷ []) in
-        one m next ds lines.0 lines.1 more (SourceLine line.named line.file
-        (Some (record { value = pos s.rate; at = line.rate_at })) line.slack line.tags) lines.2 line.is
-        (one_source m line.named s.name line.name_is left.fresh.0 (omega (arith, few)))
+        one m next ds lines.0 lines.1 more line.line lines.2 line.is
+        (line.declares m ∙ one_source m line.named s.name line.name_is left.fresh.0 (omega (arith, few)))
         ∙ declare_sources ss next lines.1 more lines.4 (left_after m next s.name (map (λ (s : Source). s.name) ss) (source_fresh m s.name) left)
         (omega (arith, few, size))
         ∙ ap (λ l. each (declare whole) (with_sources m l) more) (append_assoc m.sources (s.name ∷ []) (map (λ (s : Source). s.name) ss))

@@ -1,10 +1,11 @@
 -- The declarations of the normal form are read as what was printed.
-use Rattle.std.proofs.Common.{◌≡◌, ◌+◌, ℕ, pos, Bool, true, false, ◌&&◌, ◌||◌, List, [], ◌∷◌, ◌++◌, length, Option, Some, None, Ok, refl, sym, ap, subst, ◌∙◌}
+use Rattle.std.proofs.Common.{◌≡◌, ◌+◌, ℕ, pos, Bool, true, false, ◌&&◌, ◌||◌, List, [], ◌∷◌, ◌++◌, length, Option, Some, None, Ok, refl, sym, ap, subst}
+use Rattle.std.proofs.Common.{◌∙◌, arith}
 use Rattle.std.specs.Prelude.{nat_lt, nat_le, not, is_some, if◌then◌else◌, slice_get, codes}
 use Rattle.std.specs.List.{list_all}
 use Rattle.std.specs.Str.{IsUtf8}
 use Rattle.std.proofs.lemmas.List.Concat.{flat_map-append}
-use Rattle.flu_lemmas.proofs.Tests.{and_left, and_right}
+use Rattle.flu_lemmas.proofs.Tests.{and_left, and_right, not_true}
 use Rattle.flu_lemmas.proofs.Numbers.{none_left}
 use Rattle.flu_lemmas.proofs.Booleans.{three_left, three_middle, three_right}
 use Rattle.flu_lemmas.specs.Items.{lines_before, Begins, Pairs}
@@ -23,11 +24,13 @@ use Rattle.flu_model.specs.declared.jobs.Source.{Source}
 use Rattle.flu_model.specs.Erasure.{PlainAction, PlainKind}
 use Rattle.flu_text.specs.declared.written.WrittenSpan.{WrittenSpan}
 use Rattle.flu_text.specs.declared.written.WrittenNumber.{WrittenNumber}
+use Rattle.flu_text.specs.declared.written.WrittenKeys.{WrittenKeys}
+use Rattle.flu_text.specs.declared.written.WrittenKeys.TheVariants as keys
 use Rattle.flu_syntax.specs.declared.tree.WrittenTag.{WrittenTag}
 use Rattle.flu_syntax.specs.declared.tree.WrittenRelation.{WrittenRelation}
 use Rattle.flu_syntax.specs.declared.tree.WrittenRelation.TheVariants as relation
 use Rattle.flu_text.specs.Signs.{is_name_word, span_of}
-use Rattle.flu_syntax.specs.Tree.{Declaration, Cell, Tag, Names, Depends, On, Source as SourceLine}
+use Rattle.flu_syntax.specs.Tree.{Declaration, Cell, Tag, Names, Depends, On, Source as SourceLine, Clock as ClockLine}
 use Rattle.flu_syntax.specs.Tree.{Action as WrittenDo}
 use Rattle.flu_text.specs.Signs.{IsSign, Any}
 use Rattle.flu_text.specs.Signs.{separated, text as text_signs}
@@ -52,18 +55,19 @@ use Rattle.flu_model.specs.Numberings.{Numbering}
 use Rattle.flu_model.specs.ListRules.{is_listed_text, is_list, is_declared_list, family_list_fits}
 use Rattle.flu_parse.proofs.Printed.ListFits.{plain_kind_list_fits, list_facts}
 use Rattle.flu_model.specs.declared.limits.What.TheVariants.{Slack}
-use Rattle.flu_parse.specs.Listings.{slack_of}
+use Rattle.flu_parse.specs.Listings.{slack_of, are_bracketed, alone}
 use Rattle.flu_parse.specs.Resolving.{same_of}
 use Rattle.flu_parse.specs.declared.faults.JobFault.TheVariants as f
 use Rattle.flu_parse.specs.Faults.{◌>>◌, unless}
 use Rattle.flu_parse.specs.Printing.{kind_name, list_name}
-use Rattle.flu_parse.proofs.Printed.Rules.{plain_kind_is_keyed, plain_depend_fits, plain_tag_fits, plain_source_fits}
+use Rattle.flu_parse.proofs.Printed.Rules.{plain_kind_is_keyed, plain_depend_fits, plain_tag_fits, plain_is_tick, plain_tick_tag, plain_origin}
+use Rattle.flu_parse.proofs.Printed.Rules.{plain_source_fits}
 use Rattle.flu_parse.proofs.Printed.Words.{action_words, text_words, texts_words, names_line_words, by_words, keyed_words, sort_reserved, cell_line_words}
 use Rattle.flu_parse.proofs.Printed.Words.{item_words, value_reserved, tag_line_words}
 use Rattle.flu_parse.proofs.Printed.Words.{behind_depends, same_words, depends_line_words, actions_words, on_line_words, tag_words, listed_words, slack_words}
-use Rattle.flu_parse.proofs.Printed.Words.{source_line_words}
+use Rattle.flu_parse.proofs.Printed.Words.{file_words, clock_words, origin_words, source_line_words}
 use Rattle.flu_parse.proofs.Printed.Quotes.{text_stands, inside_stands}
-use Rattle.flu_parse.proofs.Printed.LaidLines.{kind_at, source_facts}
+use Rattle.flu_parse.proofs.Printed.LaidLines.{kind_at, SourceFacts, source_facts, ClockFacts, clock_facts}
 use Rattle.flu_parse.proofs.Printed.ReadTerms.{FamiliesKnown, ItemsKnown}
 use Rattle.flu_parse.proofs.Printed.ReadActions.{Does, action_ok, read_action, are_actions}
 use Rattle.flu_parse.proofs.Printed.ReadTags.{kind_head, KindsKnown, Lists, read_tag}
@@ -448,8 +452,8 @@ module _ (whole : List ℕ) (utf8 : IsUtf8 whole) where
           same = same.is;
         })
 
-    -- a source
-    pub record SourceIs (s : Source) (ds : List Declaration) : Type 0 where
+    -- a source with a file
+    pub record FileIs (s : Source) (ds : List Declaration) : Type 0 where
       pub named : WrittenSpan
       pub file : WrittenSpan
       pub rate_at : ℕ
@@ -460,6 +464,24 @@ module _ (whole : List ℕ) (utf8 : IsUtf8 whole) where
       pub name_is : name_of whole named ≡ s.name
       pub file_is : inside whole file ≡ s.file
       pub are : Pairs (Lists whole utf8 kinds named_kinds n known_kinds) s.tags tags
+
+    -- a clock
+    pub record ClockIs (s : Source) (every : ℕ) (ds : List Declaration) : Type 0 where
+      pub at : ℕ
+      pub named : WrittenSpan
+      pub every_at : ℕ
+      pub rate_at : ℕ
+      pub tag : WrittenSpan
+      pub is : ds ≡ ClockLine at named (record { value = pos every; at = every_at }) (Some (record { value = pos s.rate; at = rate_at })) tag ∷ []
+      pub name_is : name_of whole named ≡ s.name
+      pub are : Pairs (Lists whole utf8 kinds named_kinds n known_kinds) s.tags (alone tag ∷ [])
+
+    abbrev pub OriginIs : Source → Option ℕ → List Declaration → Type 0
+    OriginIs s None ds = FileIs s ds
+    OriginIs s (Some every) ds = ClockIs s every ds
+
+    abbrev pub SourceIs : Source → List Declaration → Type 0
+    SourceIs s ds = OriginIs s s.every ds
 
     -- the tags of a source, of which there are some
     record ListedAre (tags : List TagRef) (rest : List Laid) (ts : List Token) : Type 0 where
@@ -506,11 +528,9 @@ module _ (whole : List ℕ) (utf8 : IsUtf8 whole) where
         }
         by false e h = record { written = None; took = took_none IsSign (Stand whole) rest ts h; is = ap Ok (none_left slack e) }
 
-    pub read_source_line : (s : Source) (rest : List Laid) (ts : List Token) → plain_source_fits kinds s ≡ true
-        → Stand whole (source_line_words kinds s rest) ts
-        → LinesAre whole (SourceIs s) rest ts
-    read_source_line s rest ts fits h =
-        let facts = source_facts kinds s fits in
+    read_file : (s : Source) (rest : List Laid) (ts : List Token) → SourceFacts kinds s → Stand whole (file_words kinds s rest) ts
+        → LinesAre whole (FileIs s) rest ts
+    read_file s rest ts facts h =
         let a = h.4 in
         let b = a.4 in
         let c = b.4 in
@@ -520,7 +540,7 @@ module _ (whole : List ℕ) (utf8 : IsUtf8 whole) where
         let tags : List WrittenTag = listed.first ∷ listed.others in
         let behind = begins_append IsSign (slack_signs slack.written) (Any (w.Mark m.Colon) ∷ separated (w.Mark m.Comma) tag_signs tags) d.1 slack.took.rest
         listed.took.rest slack.took.begins listed.took.begins in
-        one_line whole (SourceIs s) rest ts (SourceLine (span_of a.0) (span_of b.0) (Some (record { value = pos s.rate; at = d.0.from })) slack.written tags)
+        one_line whole (FileIs s) rest ts (SourceLine (span_of a.0) (span_of b.0) (Some (record { value = pos s.rate; at = d.0.from })) slack.written tags)
         (record {
           rest = listed.took.rest;
           begins = (
@@ -557,6 +577,95 @@ module _ (whole : List ℕ) (utf8 : IsUtf8 whole) where
           file_is = inside_stands whole s.file (span_of b.0) (text_stands whole s.file blank b.0 utf8 b.3);
           are = listed.are;
         })
+
+    clock_spelled : w.Name (contextual_of (codes "clock")) ≡ w.Name contextual.Clock
+    unfolding contextual_of
+    clock_spelled = refl
+
+    every_spelled : w.Name (contextual_of (codes "every")) ≡ w.Name contextual.Every
+    unfolding contextual_of
+    every_spelled = refl
+
+    -- a kind without key has no brackets
+    no_brackets : (keyed : Bool) (ks : WrittenKeys) → keyed ≡ false → are_bracketed keyed ks ≡ true → ks ≡ keys.Alone
+    no_brackets keyed keys.Alone no_key fits = refl
+    no_brackets keyed (keys.One k) no_key fits = absurd (let both : true ≡ false = sym fits ∙ no_key in cc)
+    no_brackets keyed (keys.Range low high) no_key fits = absurd (let both : true ≡ false = sym fits ∙ no_key in cc)
+
+    unkeyed : (k : PlainKind) → plain_is_tick (Some k) ≡ true → k.keyed ≡ false
+    unkeyed k ticks = not_true k.keyed (and_left (not k.keyed) (not k.has_item) (and_left (not k.keyed && not k.has_item) (not k.has_value) ticks))
+
+    -- the one tag of a clock
+    one_listed : (tags : List TagRef) (first : WrittenTag) (others : List WrittenTag) → length tags ≡ 1 → list_all (plain_tick_tag kinds) tags ≡ true
+        → Pairs (Lists whole utf8 kinds named_kinds n known_kinds) tags (first ∷ others) → first ∷ others ≡ alone first.kind ∷ []
+    one_listed [] first others one ticks are = absurd are
+    one_listed (t ∷ []) first (other ∷ others) one ticks are = absurd are.1
+    one_listed (t ∷ u ∷ tags) first others one ticks are = absurd (omega arith)
+    one_listed (t ∷ []) first [] one ticks are =
+        let l = are.0 in
+        let tick : plain_is_tick (Some l.kind) ≡ true = ap plain_is_tick (sym l.found) ∙ and_left (plain_tick_tag kinds t) true ticks in
+        let ks = no_brackets l.kind.keyed first.keys (unkeyed l.kind tick) l.bracketed in
+        (λ i. record { kind = first.kind; keys = ks i } ∷ [])
+
+    read_clock : (s : Source) (every : ℕ) (rest : List Laid) (ts : List Token) → SourceFacts kinds s → ClockFacts kinds s every
+        → Stand whole (clock_words kinds s every rest) ts → LinesAre whole (ClockIs s every) rest ts
+    read_clock s every rest ts facts clock h =
+        let a = h.4 in
+        let b = a.4 in
+        let c = b.4 in
+        let d = c.4 in
+        let e = d.4 in
+        let listed = read_listed s.tags rest e.1 facts.some facts.tags e.4 in
+        let same = one_listed s.tags listed.first listed.others clock.one clock.ticks listed.are in
+        let tag : WrittenSpan = listed.first.kind in
+        let behind : Begins IsSign (Any (w.Mark m.Colon) ∷ separated (w.Mark m.Comma) tag_signs (alone tag ∷ [])) e.1 listed.took.rest =
+        subst (λ l. Begins IsSign (Any (w.Mark m.Colon) ∷ separated (w.Mark m.Comma) tag_signs l) e.1 listed.took.rest) same listed.took.begins in
+        one_line whole (ClockIs s every) rest ts (ClockLine h.0.from (span_of a.0) (record { value = pos every; at = c.0.from })
+        (Some (record { value = pos s.rate; at = e.0.from })) tag)
+        (record {
+          rest = listed.took.rest;
+          begins = (
+            h.0,
+            h.1,
+            h.2,
+            (h.3.word ∙ clock_spelled, refl),
+            (
+              a.0,
+              a.1,
+              a.2,
+              (ap is_name_word a.3.word, refl, refl),
+              (
+                b.0,
+                b.1,
+                b.2,
+                b.3.word ∙ every_spelled,
+                (c.0, c.1, c.2, (c.3.word, refl), (d.0, d.1, d.2, d.3.word, (e.0, e.1, e.2, (e.3.word, refl), behind))),
+              ),
+            ),
+          );
+          stand = listed.took.stand;
+        })
+        tt
+        (record {
+          at = h.0.from;
+          named = span_of a.0;
+          every_at = c.0.from;
+          rate_at = e.0.from;
+          tag = tag;
+          is = refl;
+          name_is = a.3.named refl;
+          are = subst (λ l. Pairs (Lists whole utf8 kinds named_kinds n known_kinds) s.tags l) same listed.are;
+        })
+
+    read_origin : (s : Source) (every : Option ℕ) (rest : List Laid) (ts : List Token) → SourceFacts kinds s → plain_origin kinds s every ≡ true
+        → Stand whole (origin_words kinds s every rest) ts → LinesAre whole (OriginIs s every) rest ts
+    read_origin s None rest ts facts fits h = read_file s rest ts facts h
+    read_origin s (Some every) rest ts facts fits h = read_clock s every rest ts facts (clock_facts kinds s every fits) h
+
+    pub read_source_line : (s : Source) (rest : List Laid) (ts : List Token) → plain_source_fits kinds s ≡ true
+        → Stand whole (source_line_words kinds s rest) ts
+        → LinesAre whole (SourceIs s) rest ts
+    read_source_line s rest ts fits h = let facts = source_facts kinds s fits in read_origin s s.every rest ts facts facts.origin h
 
   module _ (families : List Family) (names : list_all (λ (f : Family). is_name f.name) families ≡ true) (n : Naming)
       (known_families : FamiliesKnown families n) where

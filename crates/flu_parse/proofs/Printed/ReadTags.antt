@@ -152,6 +152,7 @@ module _ (whole : List ℕ) (utf8 : IsUtf8 whole) (kinds : List PlainKind) (name
   -- a tag reference that was written means this one
   pub record Lists (t : TagRef) (v : WrittenTag) : Type 0 where
     pub kind : PlainKind
+    pub found : slice_get kinds t.kind ≡ Some kind
     pub looked : kind_of whole n v.kind ≡ Ok (kind_head t.kind kind)
     pub bracketed : are_bracketed kind.keyed v.keys ≡ true
     pub same : written_keys v.keys ≡ t.keys
@@ -168,6 +169,7 @@ module _ (whole : List ℕ) (utf8 : IsUtf8 whole) (kinds : List PlainKind) (name
         took = record { rest = k.took.rest; begins = (h.0, h.1, h.2, (ap is_name_word h.3.word, refl, refl), k.took.begins); stand = k.took.stand };
         is = record {
           kind = at_kind.kind;
+          found = at_kind.found;
           looked =
               ap (λ name. known span.from (look_up name n.kinds)) (h.3.named refl ∙ ap kind_name at_kind.found)
               ∙ ap (known span.from) (known_kinds t.kind at_kind.kind at_kind.found);

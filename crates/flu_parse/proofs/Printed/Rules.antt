@@ -1,8 +1,8 @@
 -- The rules of a job as plain data.
 use Rattle.std.proofs.Common.{◌≡◌, ◌≤◌, ℕ, zero, suc, Bool, true, false, ◌&&◌, ◌||◌, List, [], ◌∷◌, ◌++◌, map, length, Option, Some, None, refl, sym, ap, ◌∙◌}
 use Rattle.std.proofs.lemmas.List.{length-map}
-use Rattle.std.specs.Prelude.{nat_le, nat_lt, not, slice_get}
-use Rattle.std.specs.List.{list_all}
+use Rattle.std.specs.Prelude.{nat_le, nat_lt, ◌==◌, ◌^◌, not, slice_get}
+use Rattle.std.specs.List.{list_all, filter_map}
 use Rattle.flu_model.specs.declared.jobs.Family.{Family}
 use Rattle.flu_model.specs.declared.jobs.Kind.{Kind}
 use Rattle.flu_model.specs.declared.jobs.Depend.{Depend}
@@ -13,10 +13,10 @@ use Rattle.flu_model.specs.Erasure.{PlainKind, plain_kind, Job}
 use Rattle.flu_model.specs.Numberings.{Numbering}
 use Rattle.flu_model.specs.ListRules.{are_lists}
 use Rattle.flu_model.specs.Rules.{is_version, is_same_text, are_distinct, kind_is_keyed, depend_fits, keys_fit, listed_kind_fits, tag_ref_fits, is_file_text}
-use Rattle.flu_model.specs.Rules.{is_same_tag, source_fits}
+use Rattle.flu_model.specs.Rules.{is_same_tag, source_fits, file_of_source, is_tick_kind, is_tick_tag, has_origin}
 use Rattle.flu_model.specs.Listing.{tags_of_source, itags_of_sources}
 use Rattle.flu_model.specs.Texts.{Unit}
-use Rattle.flu_model.specs.Versions.{ties_fit, iso_fits}
+use Rattle.flu_model.specs.Versions.{ties_fit, iso_fits, clocks_fit}
 use Rattle.flu_rules.specs.Kept.{KeepsRules}
 use Rattle.flu_parse.specs.Laws.{job_with}
 use Rattle.flu_names.specs.Names.{is_name}
@@ -41,9 +41,22 @@ plain_listed_fits (Some k) keys = keys_fit k.keyed keys
 abbrev pub plain_tag_fits : List PlainKind → TagRef → Bool
 plain_tag_fits kinds r = plain_listed_fits (slice_get kinds r.kind) r.keys
 
+-- the kinds whose events may be ticks
+abbrev pub plain_is_tick : Option PlainKind → Bool
+plain_is_tick None = false
+plain_is_tick (Some k) = not k.keyed && not k.has_item && not k.has_value
+
+abbrev pub plain_tick_tag : List PlainKind → TagRef → Bool
+plain_tick_tag kinds r = plain_is_tick (slice_get kinds r.kind)
+
+abbrev pub plain_origin : List PlainKind → Source → Option ℕ → Bool
+plain_origin kinds s None = is_file_text s.file
+plain_origin kinds s (Some every) =
+    nat_le 1 every && nat_le every (2 ^ 62) && (length s.file == 0) && (s.slack == 0) && (length s.tags == 1) && list_all (plain_tick_tag kinds) s.tags
+
 abbrev pub plain_source_fits : List PlainKind → Source → Bool
 plain_source_fits kinds s =
-    is_name s.name && is_file_text s.file && nat_le s.rate 1000000000 && nat_le s.slack 60000 && nat_lt 0 (length s.tags)
+    is_name s.name && plain_origin kinds s s.every && nat_le s.rate 1000000000 && nat_le s.slack 60000 && nat_lt 0 (length s.tags)
     && list_all (plain_tag_fits kinds) s.tags && are_distinct is_same_tag (tags_of_source s)
 
 abbrev pub names_of_job : Job → List (List ℕ)
@@ -69,8 +82,9 @@ pub record JobFits (job : Job) : Type 0 where
   pub lists_fit : plain_fit_lists job.version job.lists job.families job.kinds ≡ true
   pub depends : list_all (plain_depend_fits job.kinds) job.depends ≡ true
   pub sources : list_all (plain_source_fits job.kinds) job.sources ≡ true
+  pub clocks : clocks_fit job.version job.sources ≡ true
   pub own_names : are_distinct is_same_text (names_of_job job) ≡ true
-  pub own_files : are_distinct is_same_text (map (λ (s : Source). s.file) job.sources) ≡ true
+  pub own_files : are_distinct is_same_text (filter_map file_of_source job.sources) ≡ true
 
 same_keyed : (kinds : List Kind) (i : ℕ) → plain_kind_is_keyed (slice_get (map plain_kind kinds) i) ≡ kind_is_keyed (slice_get kinds i)
 same_keyed [] i = refl
@@ -91,9 +105,22 @@ same_listed [] i keys = refl
 same_listed (k ∷ kinds) zero keys = refl
 same_listed (k ∷ kinds) (suc i) keys = same_listed kinds i keys
 
+same_tick : (kinds : List Kind) (i : ℕ) → plain_is_tick (slice_get (map plain_kind kinds) i) ≡ is_tick_kind (slice_get kinds i)
+same_tick [] i = refl
+same_tick (k ∷ kinds) zero = refl
+same_tick (k ∷ kinds) (suc i) = same_tick kinds i
+
+same_origin : (kinds : List Kind) (s : Source) (every : Option ℕ) → plain_origin (map plain_kind kinds) s every ≡ has_origin kinds s every
+same_origin kinds s None = refl
+same_origin kinds s (Some every) =
+    ap (λ x. nat_le 1 every && nat_le every (2 ^ 62) && (length s.file == 0) && (s.slack == 0) && (length s.tags == 1) && x)
+    (list_all_same (plain_tick_tag (map plain_kind kinds)) (is_tick_tag kinds) s.tags (λ (r : TagRef). same_tick kinds r.kind))
+
 same_source : (kinds : List Kind) (s : Source) → plain_source_fits (map plain_kind kinds) s ≡ source_fits kinds s
 same_source kinds s =
-    ap (λ x. is_name s.name && is_file_text s.file && nat_le s.rate 1000000000 && nat_le s.slack 60000 && nat_lt 0
+    ap (λ x. is_name s.name && x && nat_le s.rate 1000000000 && nat_le s.slack 60000 && nat_lt 0
+    (length s.tags) && list_all (plain_tag_fits (map plain_kind kinds)) s.tags && are_distinct is_same_tag (tags_of_source s)) (same_origin kinds s s.every)
+    ∙ ap (λ x. is_name s.name && has_origin kinds s s.every && nat_le s.rate 1000000000 && nat_le s.slack 60000 && nat_lt 0
     (length s.tags) && x && are_distinct is_same_tag (tags_of_source s))
     (list_all_same (plain_tag_fits (map plain_kind kinds)) (tag_ref_fits kinds) s.tags (λ (r : TagRef). same_listed kinds r.kind r.keys))
 
@@ -122,6 +149,7 @@ job_fits version ties iso lists families kinds depends sources kept = record {
   lists_fit = sym (lists-plain version lists families kinds) ∙ kept.lists_fit;
   depends = list_all_same (plain_depend_fits (map plain_kind kinds)) (depend_fits kinds) depends (same_depend kinds) ∙ kept.depends_fit;
   sources = list_all_same (plain_source_fits (map plain_kind kinds)) (source_fits kinds) sources (same_source kinds) ∙ kept.sources_fit;
+  clocks = kept.clocks_fit;
   own_names = ap (λ ns. are_distinct is_same_text (map (λ (f : Family). f.name) families ++ ns ++ map (λ (s : Source). s.name) sources
       ++ map (λ (l : Numbering). l.name) lists)) (same_names kinds) ∙ kept.own_names;
   own_files = kept.own_files;

@@ -32,7 +32,8 @@ use Rattle.flu_layout.specs.Lists.{separated, between, items_words, keys_text, b
 use Rattle.flu_layout.specs.Laws.{KeysAreSpelled}
 use Rattle.flu_parse.specs.Printing.{op_text, term_text, act_text, guard_text, action_text, unit_name, ties_text, iso_text, version_line, names_line}
 use Rattle.flu_parse.specs.Printing.{list_name, by_text, keyed_text, sort_text, cell_line, item_text}
-use Rattle.flu_parse.specs.Printing.{value_text, tag_line, kind_name, same_text, depends_line, actions_line, on_line, tag_text, slack_text, source_line}
+use Rattle.flu_parse.specs.Printing.{value_text, tag_line, kind_name, same_text, depends_line, actions_line, on_line, tag_text, slack_text, head_of}
+use Rattle.flu_parse.specs.Printing.{source_line}
 use Rattle.flu_parse.specs.Printing.{normal_form}
 
 -- ---- lists in a row, grouped otherwise
@@ -42,6 +43,10 @@ regroup_four a b c d e = simp append_assoc
 
 regroup_five : (a b c d e f : List ℕ) → a ++ (b ++ (c ++ (d ++ (e ++ f)))) ≡ ((((a ++ b) ++ c) ++ d) ++ e) ++ f
 regroup_five a b c d e f = simp append_assoc
+
+regroup_nine : (a b c d e f g h i j : List ℕ) → a ++ (b ++ (c ++ (d ++ (e ++ (f ++ (g ++ (h ++ (i ++ j))))))))
+    ≡ ((((((((a ++ b) ++ c) ++ d) ++ e) ++ f) ++ g) ++ h) ++ i) ++ j
+regroup_nine a b c d e f g h i j = simp append_assoc
 
 regroup_ten : (a b c d e f g h i j k : List ℕ) → a ++ (b ++ (c ++ (d ++ (e ++ (f ++ (g ++ (h ++ (i ++ (j ++ k)))))))))
     ≡ (((((((((a ++ b) ++ c) ++ d) ++ e) ++ f) ++ g) ++ h) ++ i) ++ j) ++ k
@@ -394,18 +399,43 @@ slack_layout slack rest = by (nat_lt 0 slack)
     by true = refl
     by false = refl
 
-abbrev pub source_line_words : List PlainKind → Source → List Laid → List Laid
-source_line_words kinds s rest =
+abbrev pub file_words : List PlainKind → Source → List Laid → List Laid
+file_words kinds s rest =
     reserved r.Source blank ∷ name s.name blank ∷ text s.file blank ∷ reserved r.Rate blank ∷ number (pos s.rate) (behind_rate s.slack)
     ∷ slack_words s.slack (listed_words kinds s.tags rest)
 
-source_line_layout : KeysAreSpelled → (kinds : List PlainKind) (s : Source) (rest : List Laid)
-    → layout (source_line_words kinds s rest) ≡ source_line kinds s ++ layout rest
-source_line_layout spelled kinds s rest =
+abbrev pub clock_words : List PlainKind → Source → ℕ → List Laid → List Laid
+clock_words kinds s every rest =
+    name (codes "clock") blank ∷ name s.name blank ∷ name (codes "every") blank ∷ number (pos every) blank ∷ reserved r.Rate blank ∷ number (pos s.rate) []
+    ∷ listed_words kinds s.tags rest
+
+abbrev pub origin_words : List PlainKind → Source → Option ℕ → List Laid → List Laid
+origin_words kinds s None rest = file_words kinds s rest
+origin_words kinds s (Some every) rest = clock_words kinds s every rest
+
+abbrev pub source_line_words : List PlainKind → Source → List Laid → List Laid
+source_line_words kinds s rest = origin_words kinds s s.every rest
+
+-- the line of a source with a file, or of a clock
+abbrev origin_line : List PlainKind → Source → Option ℕ → List ℕ
+origin_line kinds s every = head_of s every ++ separated (codes ", ") (tag_text kinds) s.tags ++ line_end
+
+origin_layout : KeysAreSpelled → (kinds : List PlainKind) (s : Source) (every : Option ℕ) (rest : List Laid)
+    → layout (origin_words kinds s every rest) ≡ origin_line kinds s every ++ layout rest
+origin_layout spelled kinds s None rest =
     ap (λ l. codes "source " ++ (s.name ++ (blank ++ (quoted s.file ++ (codes " rate " ++ (decimal s.rate ++ l))))))
     (slack_layout s.slack (listed_words kinds s.tags rest) ∙ ap (λ l. slack_text s.slack ++ l) (listed_layout spelled kinds s.tags rest))
     ∙ regroup_ten (codes "source ") s.name blank (quoted s.file) (codes " rate ") (decimal s.rate) (slack_text s.slack) (codes ": ")
     (separated (codes ", ") (tag_text kinds) s.tags) line_end (layout rest)
+origin_layout spelled kinds s (Some every) rest =
+    ap (λ l. codes "clock " ++ (s.name ++ (codes " every " ++ (decimal every ++ (codes " rate " ++ (decimal s.rate ++ l))))))
+    (listed_layout spelled kinds s.tags rest)
+    ∙ regroup_nine (codes "clock ") s.name (codes " every ") (decimal every) (codes " rate ") (decimal s.rate) (codes ": ")
+    (separated (codes ", ") (tag_text kinds) s.tags) line_end (layout rest)
+
+source_line_layout : KeysAreSpelled → (kinds : List PlainKind) (s : Source) (rest : List Laid)
+    → layout (source_line_words kinds s rest) ≡ source_line kinds s ++ layout rest
+source_line_layout spelled kinds s rest = origin_layout spelled kinds s s.every rest
 
 abbrev pub job_words : Job → List Laid
 job_words job =

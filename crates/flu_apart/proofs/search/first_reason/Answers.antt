@@ -1,29 +1,35 @@
-use Rattle.std.specs.Prelude.{IfSome, IfNone}
+use Rattle.std.proofs.Common.{◌∙◌}
+use Rattle.flu_model.specs.Rules.{is_clock}
 use Rattle.flu_deps.specs.Checking.{program_of}
 use Rattle.flu_deps.specs.Validated.{plan_of}
-use Rattle.flu_apart.specs.Apart.{MayBeApart, IsFirstReason}
-use Rattle.flu_apart.specs.Subtrees.{job, nodes, node}
-use Rattle.flu_apart.proofs.SearchLemmas.{moved, some_reason}
+use Rattle.flu_apart.proofs.ClockLemmas.{first_in, none_passes, one_passes}
+use Rattle.flu_apart.proofs.SearchLemmas.{no_use}
 use Rattle.flu_apart.proofs.search.first_reason.Goals as goal
 
-pub returns-clause-first : goal.returns-clause-first
-returns-clause-first c =
-    let s = c.of-subtree.result in
-    let is = c.of-subtree.ensures in
-    moved (λ p ns w. IfSome c.first_of.result (λ r. IsFirstReason p ns w r.tag r.cell)) (job s) (program_of c.args.c.now) (nodes s)
-    (plan_of c.args.v.now).nodes (node s) c.args.w is.job is.nodes is.node c.first_of.ensures.first
+pub returns-in-Some-clause-some : goal.returns-in-Some-clause-some
+returns-in-Some-clause-some c = λ may.
+    let p = program_of c.args.c.now in
+    one_passes is_clock p.sources c.in-Some.number
+    (first_in p c.program.result.now c.first_clock.result c.program.ensures c.first_clock.ensures.first ∙ c.in-Some.is) may.no_clock
 
-pub returns-clause-some : goal.returns-clause-some
-returns-clause-some c =
-    let s = c.of-subtree.result in
-    let is = c.of-subtree.ensures in
-    moved (λ p ns w. IfSome c.first_of.result (λ r. MayBeApart p ns w → ⊥)) (job s) (program_of c.args.c.now) (nodes s)
-    (plan_of c.args.v.now).nodes (node s) c.args.w is.job is.nodes is.node
-    (some_reason c.first_of.result (job s) (nodes s) (node s) c.first_of.ensures.first)
+pub returns-in-Some-first_use-clause-first : goal.returns-in-Some-first_use-clause-first
+returns-in-Some-first_use-clause-first c =
+    let p = program_of c.args.c.now in (
+      none_passes is_clock p.sources (first_in p c.program.result.now c.first_clock.result c.program.ensures c.first_clock.ensures.first ∙ c.in-None.is),
+      c.in-Some-first_use.ensures.first,
+    )
 
-pub returns-clause-none : goal.returns-clause-none
-returns-clause-none c =
-    let s = c.of-subtree.result in
-    let is = c.of-subtree.ensures in
-    moved (λ p ns w. IfNone c.first_of.result (MayBeApart p ns w)) (job s) (program_of c.args.c.now) (nodes s)
-    (plan_of c.args.v.now).nodes (node s) c.args.w is.job is.nodes is.node c.first_of.ensures.none
+pub returns-in-Some-first_use-clause-some : goal.returns-in-Some-first_use-clause-some
+returns-in-Some-first_use-clause-some c = λ may.
+    no_use (program_of c.args.c.now) (plan_of c.args.v.now).nodes c.args.w c.in-Some-first_use.shared.tag c.in-Some-first_use.shared.cell
+    c.in-Some-first_use.ensures.first.shared may.shares_none
+
+pub returns-in-None-first_use-clause-none : goal.returns-in-None-first_use-clause-none
+returns-in-None-first_use-clause-none c =
+    let p = program_of c.args.c.now in
+    record {
+      no_clock =
+          none_passes is_clock p.sources
+          (first_in p c.program.result.now c.first_clock.result c.program.ensures c.first_clock.ensures.first ∙ c.in-None.is);
+      shares_none = c.in-None-first_use.ensures.none;
+    }

@@ -9,7 +9,13 @@ use Rattle.flu_contribution.specs.Laws.{AreNodesApart}
 use Rattle.flu_joining.specs.Parts.{waiting_in_each}
 use Rattle.flu_combine.specs.Reading.{AreRead}
 use Rattle.flu_combine.proofs.Combinings.{combined_told, unread_told, cause_told, both_told, hides_behind}
+use Rattle.flu_combine.proofs.NoClocks.{no_clock_of}
 use Rattle.flu_combine.proofs.combining.combined_text.Goals as goal
+
+pub rest_text-requires-clause-no_clocks : goal.rest_text-requires-clause-no_clocks
+rest_text-requires-clause-no_clocks g c =
+    no_clock_of (program_of c.args.c.now) (plan_of c.args.v.now).nodes c.args.names.now c.in-Ok.field-0.nodes.items c.requires.some
+    c.in-Ok.ensures.as_many_nodes c.in-Ok.ensures.apart
 
 pub returns-in-Ok-clause-combined : goal.returns-in-Ok-clause-combined
 returns-in-Ok-clause-combined g c =
@@ -24,7 +30,7 @@ returns-in-Ok-clause-combined g c =
     let apart = subst (AreNodesApart p nodes) (sym c.as_slice.ensures.value) c.in-Ok.ensures.apart in
     let read = subst (λ (ws : List ℕ). WhereTold old mid (AreRead p nodes names ws queues)) (sym c.as_slice.ensures.value) c.in-Ok.ensures.read in
     IfOk-weaker c.rest_text.result _ _
-    (λ text rest. combined_told p nodes names c.as_slice.result.now queues text old mid new apart read rest c.rest_text.ensures.others)
+    (λ text rest. combined_told p nodes names c.as_slice.result.now queues text old mid new c.requires.some apart read rest c.rest_text.ensures.others)
     c.rest_text.ensures.rest
 
 pub returns-in-Ok-clause-cause : goal.returns-in-Ok-clause-cause

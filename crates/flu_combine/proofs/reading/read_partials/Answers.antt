@@ -112,6 +112,9 @@ partials-preserved g c =
       read = read_step p nodes names place name ws c.add.new.self.nodes.items w (waiting_in_each c.partials.partials.queues.items)
           (waiting_in_each c.add.new.self.queues.items) (waiting_in c.in-Ok.accepted.queue) (left old) (left mid) (left new) c.partials-test.true at
           c.in_ok-add-in-Ok.ensures.nodes c.in_ok-add-in-Ok.ensures.queues c.partials.invariant.read c.in-Ok.ensures.read;
+      many_nodes = ap length c.in_ok-add-in-Ok.ensures.nodes
+          ∙ length-append ws (w ∷ [])
+          ∙ ap (λ (n : ℕ). n + 1) c.partials.invariant.many_nodes;
       many = ap length c.in_ok-add-in-Ok.ensures.queues
           ∙ length-append (waiting_in_each c.partials.partials.queues.items) (waiting_in c.in-Ok.accepted.queue ∷ [])
           ∙ ap (λ (n : ℕ). n + 1) c.partials.invariant.many;

@@ -16,6 +16,7 @@ invariant-partials g l =
     record {
       read : WhereTold (left l.fn.files) (left l.files)
           (AreRead (program_of l.c) (plan_of l.v).nodes (take l.place l.names) l.partials.nodes.items (waiting_in_each l.partials.queues.items));
+      many_nodes : length l.partials.nodes.items ≡ l.place;
       many : length (waiting_in_each l.partials.queues.items) ≡ l.place;
       apart : AreNodesApart (program_of l.c) (plan_of l.v).nodes l.partials.nodes.items;
       others : WhereTold (left l.fn.files) (left l.files) (LeavesOthers l.names);

@@ -1,4 +1,4 @@
-use Rattle.flu_moments.proofs.NearLemmas.{ticks_are_near}
+use Rattle.flu_moments.proofs.NearLemmas.{ticks_are_within, spans_tell_ticks}
 use Rattle.flu_moments.proofs.ComputedLemmas.{ticks_are_computed}
 use Rattle.flu_moments.proofs.FollowLemmas.{some_ticks, ticks_follow}
 use Rattle.flu_moments.proofs.NextLemmas.{next_tick_exists}
@@ -19,5 +19,8 @@ returns-clause-follow c = λ sources ties every clock rows ticks any at some. ti
 pub returns-clause-computed : goal.returns-clause-computed
 returns-clause-computed c = ticks_are_computed
 
-pub returns-clause-near : goal.returns-clause-near
-returns-clause-near c = ticks_are_near
+pub returns-clause-within : goal.returns-clause-within
+returns-clause-within c = ticks_are_within
+
+pub returns-clause-spans : goal.returns-clause-spans
+returns-clause-spans c = spans_tell_ticks

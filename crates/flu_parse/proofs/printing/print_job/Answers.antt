@@ -27,6 +27,7 @@ rules_of p = record {
   lists_fit = p.lists_fit;
   depends_fit = p.depends_fit;
   sources_fit = p.sources_fit;
+  clocks_fit = p.clocks_fit;
   own_names = p.own_names;
   own_files = p.own_files;
 }

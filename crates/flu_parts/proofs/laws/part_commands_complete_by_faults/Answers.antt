@@ -7,6 +7,7 @@ returns c = completes_of (record {
   job_fault = c.what_ends_a_command_is_called_for.ensures.job_fault;
   conflict = c.what_ends_a_command_is_called_for.ensures.conflict;
   plan_defect = c.what_ends_a_command_is_called_for.ensures.plan_defect;
+  reasons = c.reasons_are_one.ensures;
   no_partial = c.one_of_three_happens.ensures.partials;
   no_source = c.one_of_three_happens.ensures.sources;
   apart = c.one_of_three_happens.ensures.apart;

@@ -1,8 +1,7 @@
 use Rattle.std.proofs.Common.{sym, ap, ◌∙◌, List, ℕ, map, string_bytes}
 use Rattle.std.specs.Prelude.{position}
-use Rattle.std.specs.Str.{bytes_eq}
 use Rattle.flu_lemmas.proofs.Places.{position-map}
-use Rattle.flu_parts.specs.Causes.{is_file_of}
+use Rattle.flu_parts.specs.Causes.{has_file, is_file_of}
 use Rattle.flu_parts.proofs.Names.{bytes_at, no_sources, source_found}
 use Rattle.flu_parts.proofs.naming.same_name.Goals as goal
 
@@ -18,7 +17,7 @@ returns-in-Some-source_with-clause-same c =
     let name = bytes_at c.args.names.now c.in-Some.place c.index-names-place.result c.in-Some.ensures.there c.index-names-place.is in
     record {
       first = position-map (is_file_of sources) string_bytes c.args.names.now ∙ sym c.in-Some.ensures.value;
-      source = ap (λ (n : List ℕ). position (λ s. bytes_eq n s.file) sources) (name ∙ sym c.as_str.ensures.value) ∙ sym c.in-Some-source_with.ensures;
+      source = ap (λ (n : List ℕ). position (has_file n) sources) (name ∙ sym c.as_str.ensures.value) ∙ sym c.in-Some-source_with.ensures;
     }
 
 pub returns-in-None-clause-none : goal.returns-in-None-clause-none

@@ -7,8 +7,13 @@ use Rattle.flu_combine.specs.Combined.{IsCombined, LeavesUnread}
 use Rattle.flu_combine.specs.Faults.{IsCause, HidesNoPartialDefect}
 use Rattle.flu_parts.specs.Written.{AreNoSources}
 use Rattle.flu_parts.proofs.BehindTexts.{left_of_parts, text_of_parts, fault_of_parts, defect_of_part}
-use Rattle.flu_parts.proofs.Names.{bytes_at}
+use Rattle.flu_parts.proofs.Names.{bytes_at, none_as_texts}
 use Rattle.flu_parts.proofs.working.combine_parts.Goals as goal
+
+pub combine-requires-clause-some : goal.combine-requires-clause-some
+combine-requires-clause-some g c =
+    let same : c.as_slice.result.now ≡ map string_bytes c.args.partials.now = c.as_slice.ensures.value ∙ c.in-Ok.ensures in
+    λ none. c.requires.some (none_as_texts c.args.partials.now (sym same ∙ none))
 
 pub returns-in-Ok-combine-clause-others : goal.returns-in-Ok-combine-clause-others
 returns-in-Ok-combine-clause-others g c job plan =

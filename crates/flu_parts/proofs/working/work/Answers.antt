@@ -1,10 +1,16 @@
-use Rattle.std.proofs.Common.{sym, subst}
+use Rattle.std.proofs.Common.{sym, ap, subst, map, string_bytes}
 use Rattle.flu_deps.specs.Checking.{program_of}
 use Rattle.flu_deps.specs.Validated.{plan_of}
 use Rattle.flu_words.specs.Parts.{plain_part}
 use Rattle.flu_top.specs.Ending.{call}
 use Rattle.flu_parts.specs.Ending.{IsEndBehind}
+use Rattle.flu_parts.specs.Planned.{NamesSome}
 use Rattle.flu_parts.proofs.working.work.Goals as goal
+
+pub combine_parts-requires-clause-some : goal.combine_parts-requires-clause-some
+combine_parts-requires-clause-some g c =
+    let some = subst (λ d. NamesSome (plain_part d)) c.in-Combine.is c.requires.some in
+    λ none. some (ap (map string_bytes) none)
 
 pub returns-in-Partial-clause-ends : goal.returns-in-Partial-clause-ends
 returns-in-Partial-clause-ends g c =

@@ -7,13 +7,13 @@ use Rattle.flu_readers.proofs.laws.selected_parts_give_the_report.Goals as goal
 
 pub returns : goal.returns
 returns c =
-    let parts : SelectedPartsGiveTheReport = λ p nodes ws opening left setting apart good rest.
+    let parts : SelectedPartsGiveTheReport = λ p nodes ws opening left no_clock setting apart good rest.
     c.parts_give_the_report.ensures p nodes ws opening (lists_of p left) (map (part_read p nodes left) ws) (rest_read p nodes ws left) setting apart
-    (c.selected_sources_are_read.ensures.length p left) (c.good_parts_give_streams.ensures p nodes ws left good rest)
-    (each_reads c.a_node_reads_its_part.ensures p nodes left ws good) (c.the_rest_is_read.ensures p nodes ws left rest) in
+    (c.selected_sources_are_read.ensures.length p left) (c.good_parts_give_streams.ensures p nodes ws left no_clock good rest)
+    (each_reads c.a_node_reads_its_part.ensures p nodes left ws no_clock good) (c.the_rest_is_read.ensures p nodes ws left no_clock rest) in
     record {
       parts = parts;
-      good = λ p nodes ws opening left setting apart good.
-          parts p nodes ws opening left setting apart (each_good c.good_sources_give_streams.ensures.read p nodes left good ws)
-          (c.good_sources_give_streams.ensures.read p (reads_rest p nodes ws) left good);
+      good = λ p nodes ws opening left no_clock setting apart good.
+          parts p nodes ws opening left no_clock setting apart (each_good c.good_sources_give_streams.ensures.read p nodes left no_clock good ws)
+          (c.good_sources_give_streams.ensures.read p (reads_rest p nodes ws) left no_clock good);
     }

@@ -48,7 +48,8 @@ stay g c = λ n closed.
 -- ---- the clauses
 pub returns-clause-good : goal.returns-clause-good
 returns-clause-good g c =
-    on_ok c.gather.result (good_read c.args.p.now (reads c.args.is_read.now) _ _ _ _ _ (start_is g c) (final_is g c) (closed_now g c) (stay g c))
+    on_ok c.gather.result (good_read c.args.p.now (reads c.args.is_read.now) _ _ _ _ _ (start_is g c) (final_is g c) (closed_now g c) (stay g c)
+    c.requires.no_clocks)
     c.gather.ensures.good
 
 pub returns-clause-lists : goal.returns-clause-lists
@@ -76,7 +77,7 @@ returns-clause-fault g c =
     let start = left_beside (g.F.Files.left c.new-selected.result.files.now) (lines_in c.new-selected.result.closed) in
     let final = left_beside (g.F.Files.left c.gather.new.files.files.now) (lines_in c.gather.new.files.closed) in
     if_err (IsFirstFault p start final) (IsFirstReadFault p is_read g.K.Origin.left (g.F.Files.left c.into_lent.result.files.now))
-    c.gather.result (fault_read p is_read _ _ _ _ _ (start_is g c) (final_is g c) (closed_now g c) (stay g c)) c.gather.ensures.fault
+    c.gather.result (fault_read p is_read _ _ _ _ _ (start_is g c) (final_is g c) (closed_now g c) (stay g c) c.requires.no_clocks) c.gather.ensures.fault
 
 pub returns-clause-fronts : goal.returns-clause-fronts
 returns-clause-fronts g c =

@@ -1,4 +1,4 @@
-use Rattle.std.proofs.Common.{◌≡◌, ℕ, List, Option, true, take, vec_len}
+use Rattle.std.proofs.Common.{◌≡◌, ℕ, List, true, take, vec_len}
 use Rattle.std.specs.Prelude.{sum_by}
 use Rattle.flu_model.specs.Streaming.{are_streams}
 use Rattle.flu_rows.specs.declared.rows.Next.{Next}
@@ -15,6 +15,6 @@ invariant-loop-source l = record {
   len : vec_len l.lists ≡ sum_by width (take l.source-index l.p.sources);
   few : HaveAtMost (most_held l.p) (lists_in l.lists);
   streams : are_streams 0 (lists_in l.lists) ≡ true;
-  lists : (border : Option ℕ) (lines : ℕ → List Next) → AreBehind l.p border lines l.inlets
-      → lists_in l.lists ≡ lists_first l.p border l.fn.end lines (take l.source-index l.p.sources);
+  lists : (lines : ℕ → List Next) → AreBehind l.p l.above lines l.inlets
+      → lists_in l.lists ≡ lists_first l.p l.above l.fn.end lines (take l.source-index l.p.sources);
 }

@@ -1,4 +1,5 @@
-use Rattle.flu_streams.proofs.RoundLaws.{law_of_rounds, law_of_no_rows}
+use Rattle.flu_streams.proofs.InTurn.{law_of_rounds}
+use Rattle.flu_streams.proofs.RoundLaws.{law_of_no_rows}
 use Rattle.flu_streams.proofs.laws.rounds_are_folded_in_turn.Goals as goal
 
 pub returns : goal.returns

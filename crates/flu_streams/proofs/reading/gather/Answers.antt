@@ -1,188 +1,157 @@
-use Rattle.std.proofs.Common.{◌≡◌, ◌+◌, ◌++◌, ◌∷◌, [], length, take, drop, Err, refl, ap, ◌∙◌, rules, arith}
-use Rattle.std.specs.Prelude.{sum_by}
-use Rattle.std.proofs.lemmas.List.{take_all, length-map}
-use Rattle.std.proofs.lemmas.List.Sums.{sum_by-append}
+use Rattle.std.proofs.Common.{◌≡◌, [], List, Option, Some, true, Ok, Err, sym, subst, ap, ◌∙◌}
+use Rattle.std.specs.Prelude.{Result, IfOk, IfErr, OnOk, if◌then◌else◌}
+use Rattle.std.specs.List.{list_any}
+use Rattle.flu_lemmas.proofs.Told.{told_both, told_weaker}
+use Rattle.flu_model.specs.declared.jobs.Program.{Program}
+use Rattle.flu_model.specs.declared.streams.Streams.{Streams}
 use Rattle.flu_model.specs.Erasure.{job_of}
 use Rattle.flu_model.specs.Listed.{listed}
 use Rattle.flu_model.specs.Moments.{timing_of}
-use Rattle.flu_lemmas.proofs.Named.{rose_behind, fronts_at, fronts_then}
-use Rattle.flu_lemmas.proofs.Told.{told_weaker}
-use Rattle.flu_streams.specs.declared.faults.GatherFault.TheVariants.{ReadFault}
+use Rattle.flu_model.specs.Rules.{is_clock}
+use Rattle.flu_outside.specs.Outside.{Contents, WhereTold}
+use Rattle.flu_outside.specs.Taking.{bytes_left}
+use Rattle.flu_rows.specs.declared.row.Row.{Row}
+use Rattle.flu_rows.specs.Reading.{read_file}
 use Rattle.flu_rows.specs.Row.{form_of}
-use Rattle.flu_streams.specs.Files.{files_of, LeavesOthers}
-use Rattle.flu_streams.specs.LoopGathering.{IsGathered}
-use Rattle.flu_streams.specs.Good.{AreGood, lists_of}
-use Rattle.flu_streams.specs.Lists.{lists_in}
-use Rattle.flu_streams.specs.Tags.{width}
-use Rattle.flu_streams.proofs.Gatherings.{err_same, total_width, gathered_more, gathered_fault, streams_more, others_at, counts_at, there_more, counts_more}
-use Rattle.flu_streams.proofs.Gatherings.{out_more, files_more, among_sources, hides_behind}
-use Rattle.flu_streams.proofs.Bounds.{slack_of}
-use Rattle.flu_streams.proofs.Rounding.{source_at}
-use Rattle.flu_streams.proofs.Turns.{turn}
+use Rattle.flu_streams.specs.declared.faults.GatherFault.{GatherFault}
+use Rattle.flu_streams.specs.declared.faults.GatherFault.TheVariants.{Source as SourceFaulty, ReadFault, NoMemory}
+use Rattle.flu_streams.specs.declared.gathered.Gathered.{Gathered}
+use Rattle.flu_streams.specs.Before.{or_else}
+use Rattle.flu_streams.specs.Clocks.{Declared, ranks_among, fault_among}
+use Rattle.flu_streams.specs.Faults.{IsFirstFault}
+use Rattle.flu_streams.specs.Files.{files_of, AreReadOut}
+use Rattle.flu_streams.specs.Good.{AreGood, rows_in, lists_of, fault_of_rows, fault_of_clocks, first_fault, ticks_in}
+use Rattle.flu_streams.specs.LoopClocks.{HasSpan}
+use Rattle.flu_streams.specs.LoopGathering.{HasRows, HasTicks, IsGathered, IsRowFault, IsTickFault}
+use Rattle.flu_streams.specs.Tests.{rows_of}
 use Rattle.flu_streams.proofs.reading.gather.Goals as goal
 
-pub add_source-requires-clause-numbered : goal.add_source-requires-clause-numbered
-add_source-requires-clause-numbered g c =
-    let p = c.args.p.now in
-    let s = c.source-item.result in
-    let t = turn p c.items-source-items.result.now c.loop-source.source-index s c.items-source-items.ensures c.loop-source-test.true c.source-item.is in
-    omega (arith, t.narrow, c.loop-source.invariant.len)
+-- ---- answers
+weaken_ok : {T E : Type 0} (r : Result T E) (P Q : T → Type 0) → ((x : T) → P x → Q x) → IfOk r P → IfOk r Q
+weaken_ok (Ok x) P Q f p = f x p
+weaken_ok (Err e) P Q f p = tt
 
-pub add_source-requires-clause-slack : goal.add_source-requires-clause-slack
-add_source-requires-clause-slack g c =
-    let p = c.args.p.now in
-    let i = c.loop-source.source-index in
-    let s = c.source-item.result in
-    slack_of p i s (source_at p c.items-source-items.result.now i s c.items-source-items.ensures c.loop-source-test.true c.source-item.is)
+always_ok : {T E : Type 0} (r : Result T E) (P : Type 0) → P → OnOk r P
+always_ok (Ok x) P p = p
+always_ok (Err e) P p = tt
 
-pub returns-in-Err-clause-fault : goal.returns-in-Err-clause-fault
-returns-in-Err-clause-fault g c =
-    let left = g.F.Files.left in
-    let p = c.args.p.now in
-    let i = c.loop-source.source-index in
-    let s = c.source-item.result in
-    let t = turn p c.items-source-items.result.now i s c.items-source-items.ensures c.loop-source-test.true c.source-item.is in
-    let numbered : c.timing_of.result ≡ timing_of p (length (take i p.sources)) =
-    c.timing_of.ensures.value ∙ ap (timing_of p) (c.loop-source.invariant.number ∙ t.size) in
-    gathered_fault p (take i p.sources) (drop (i + 1) p.sources) s c.loop-source.gathered c.loop-source.gathered.number c.in-Err.fault (left c.args.files.now)
-    (left c.loop-source.files) (left c.add_source.new.files)
-    t.split (c.loop-source.invariant.number ∙ t.size) t.apart c.loop-source.invariant.told
-    (rw (numbered, c.loop-source.invariant.form, c.items.ensures) at c.in-Err.ensures.fault)
+weaken_err : {T E : Type 0} (r : Result T E) (P Q : E → Type 0) → ((x : E) → P x → Q x) → IfErr r P → IfErr r Q
+weaken_err (Ok x) P Q f p = tt
+weaken_err (Err e) P Q f p = f e p
 
-pub returns-in-Err-clause-fronts : goal.returns-in-Err-clause-fronts
-returns-in-Err-clause-fronts g c =
-    let left = g.F.Files.left in
-    fronts_then (left c.args.files.now) (left c.loop-source.files) (left c.add_source.new.files) c.loop-source.invariant.fronts
-    (fronts_at c.source-item.result.file (left c.loop-source.files) (left c.add_source.new.files) c.in-Err.ensures.taken)
+module _ (p : Program) (gathered : Gathered) (a b : Option Contents) where
+  abbrev rows : Contents → Declared → List Row
+  rows x e = rows_in (form_of (job_of p)) x e.1
 
-pub returns-in-Err-clause-others : goal.returns-in-Err-clause-others
-returns-in-Err-clause-others g c =
-    let left = g.F.Files.left in
-    let p = c.args.p.now in
-    let i = c.loop-source.source-index in
-    let s = c.source-item.result in
-    let t = turn p c.items-source-items.result.now i s c.items-source-items.ensures c.loop-source-test.true c.source-item.is in
-    let k = others_at (timing_of p) (form_of (job_of p)) p.kinds (take i p.sources) (drop (i + 1) p.sources) s c.loop-source.gathered (left c.args.files.now)
-    (left c.loop-source.files) (left c.add_source.new.files) c.loop-source.invariant.told c.in-Err.ensures.taken in
-    rw (← t.split) at k
+  abbrev IsRead : Contents → Contents → Type 0
+  IsRead x y = IsGathered (timing_of p) (form_of (job_of p)) p.kinds p.sources gathered x y
+      × (list_any is_clock p.sources ≡ true → HasSpan gathered.span (ranks_among p (rows x)))
 
-pub returns-in-Err-clause-counts : goal.returns-in-Err-clause-counts
-returns-in-Err-clause-counts g c =
-    let left = g.F.Files.left in
-    let faults = g.F.Files.faults in
-    let p = c.args.p.now in
-    let i = c.loop-source.source-index in
-    let s = c.source-item.result in
-    let t = turn p c.items-source-items.result.now i s c.items-source-items.ensures c.loop-source-test.true c.source-item.is in
-    let k = counts_at (take i p.sources) (drop (i + 1) p.sources) s (left c.args.files.now) (left c.loop-source.files) (faults c.args.files.now)
-    (faults c.loop-source.files) (faults c.add_source.new.files) c.loop-source.invariant.there c.loop-source.invariant.counts c.in-Err.ensures.counts in
-    rw (← t.split) at k
+  told_read : WhereTold a b (IsGathered (timing_of p) (form_of (job_of p)) p.kinds p.sources gathered)
+      → WhereTold a b (λ was now. list_any is_clock p.sources ≡ true → HasSpan gathered.span (ranks_among p (λ e. rows_in (form_of (job_of p)) was e.1)))
+      → WhereTold a b IsRead
+  told_read was span =
+      told_both (IsGathered (timing_of p) (form_of (job_of p)) p.kinds p.sources gathered)
+      (λ was now. list_any is_clock p.sources ≡ true → HasSpan gathered.span (ranks_among p (λ e. rows_in (form_of (job_of p)) was e.1))) a b was span
 
-pub returns-in-Err-clause-cause : goal.returns-in-Err-clause-cause
-returns-in-Err-clause-cause g c = λ is_fault.
-    let faults = g.F.Files.faults in
-    let p = c.args.p.now in
-    let i = c.loop-source.source-index in
-    let s = c.source-item.result in
-    let t = turn p c.items-source-items.result.now i s c.items-source-items.ensures c.loop-source-test.true c.source-item.is in
-    let among = rw (← t.split) at (among_sources (take i p.sources) (drop (i + 1) p.sources) s) in (
-      s.file,
-      among,
-      rose_behind (faults c.args.files.now s.file) (faults c.loop-source.files s.file) (faults c.add_source.new.files s.file)
-          (c.loop-source.invariant.counts.rise s.file) (c.add_source.ensures.cause
-          (rw (c.in-Err.is, err_same (Err c.in-Err.fault) c.in-Err.fault ReadFault refl is_fault) refl)),
-    )
+  no_rows : (x : Contents) (e : Declared) → is_clock e.1 ≡ true → rows x e ≡ []
+  no_rows x e clock = ap (λ k. rows_of (if k then [] else read_file (form_of (job_of p)) (bytes_left x e.1.file))) clock
 
-pub returns-in-Err-clause-hides : goal.returns-in-Err-clause-hides
-returns-in-Err-clause-hides g c = λ is_fault.
-    let left = g.F.Files.left in
-    let p = c.args.p.now in
-    let i = c.loop-source.source-index in
-    let s = c.source-item.result in
-    let t = turn p c.items-source-items.result.now i s c.items-source-items.ensures c.loop-source-test.true c.source-item.is in
-    let faults = g.F.Files.faults in
-    let is : c.add_source.result ≡ Err ReadFault = c.in-Err.is ∙ ap Err (err_same (Err c.in-Err.fault) c.in-Err.fault ReadFault refl is_fault) in
-    let hides = c.add_source.ensures.hides is in
-    let rose = rose_behind (faults c.args.files.now s.file) (faults c.loop-source.files s.file) (faults c.add_source.new.files s.file)
-    (c.loop-source.invariant.counts.rise s.file) (c.add_source.ensures.cause is) in
-    let numbered : c.timing_of.result ≡ timing_of p (length (take i p.sources)) =
-    c.timing_of.ensures.value ∙ ap (timing_of p) (c.loop-source.invariant.number ∙ t.size) in
-    hides_behind p (take i p.sources) (drop (i + 1) p.sources) s c.loop-source.gathered (left c.args.files.now) (left c.loop-source.files)
-    (left c.add_source.new.files) (faults c.args.files.now) (faults c.add_source.new.files)
-    t.split t.apart c.loop-source.invariant.told rose (rw (numbered, c.loop-source.invariant.form, c.items.ensures) at hides)
+  has_rows : (x y : Contents) → IsRead x y → HasRows p gathered (rows x)
+  has_rows x y k = record { lists = k.0.lists; clocks = no_rows x; span = k.1 }
 
-pub loop-source-preserved : goal.loop-source-preserved
-loop-source-preserved g c =
-    let left = g.F.Files.left in
-    let faults = g.F.Files.faults in
-    let old = c.args.files.now in
-    let mid = c.loop-source.files in
-    let new = c.add_source.new.files in
-    let p = c.args.p.now in
-    let i = c.loop-source.source-index in
-    let s = c.source-item.result in
-    let earlier = take i p.sources in
-    let t = turn p c.items-source-items.result.now i s c.items-source-items.ensures c.loop-source-test.true c.source-item.is in
-    let numbered : c.timing_of.result ≡ timing_of p (length (take i p.sources)) =
-    c.timing_of.ensures.value ∙ ap (timing_of p) (c.loop-source.invariant.number ∙ t.size) in
-    let adds = rw (numbered, c.loop-source.invariant.form, c.items.ensures) at c.in_default-add_source.ensures.added in
-    let taken = c.in_default-add_source.ensures.taken in
-    let one : sum_by width (take (i + 1) p.sources) ≡ sum_by width earlier + width s = rw t.more (sum_by-append width earlier (s ∷ []) ∙ omega arith) in
-    let names : files_of (take (i + 1) p.sources) ≡ files_of earlier ++ (s.file ∷ []) = rw t.more (files_more earlier s) in
-    record {
-      form = c.loop-source.invariant.form;
-      number = omega (arith, adds.number, c.loop-source.invariant.number);
-      len = omega (arith, adds.len, one, c.loop-source.invariant.len);
-      streams = streams_more (timing_of p (length earlier)) (form_of (job_of p)) p.kinds s (left mid) (left new) c.loop-source.gathered c.add_source.new.gathered adds
-          c.loop-source.invariant.streams;
-      told = rw t.more (gathered_more (timing_of p) (form_of (job_of p)) p.kinds earlier s c.loop-source.gathered c.add_source.new.gathered (left old) (left mid)
-          (left new) c.loop-source.invariant.told adds taken c.loop-source.invariant.len t.apart);
-      fronts = fronts_then (left old) (left mid) (left new) c.loop-source.invariant.fronts (fronts_at s.file (left mid) (left new) taken);
-      out = rw names (out_more (files_of earlier) s.file (left mid) (left new) taken t.apart c.loop-source.invariant.out
-          c.in_default-add_source.ensures.read_out);
-      counts = rw names (counts_more (left old) (left mid) (files_of earlier) s.file (faults old) (faults mid)
-          (faults new) c.loop-source.invariant.there c.loop-source.invariant.counts c.in_default-add_source.ensures.counts);
-      quiet = search rules;
-      puts = search rules;
-      there = there_more s.file (left old) (left mid) (left new) taken c.loop-source.invariant.there;
-    }
+  -- streams are those of good sources
+  good_by : (streams : Streams) → HasTicks p gathered streams → (x y : Contents) → IsRead x y → AreGood p x
+  good_by streams ticks x y k =
+      ap (λ o. or_else o (fault_of_clocks p x)) k.0.good ∙ ap (λ n. fault_among p.sources n (ticks_in p x)) (sym k.0.held)
+      ∙ (ticks (rows x) (has_rows x y k)).1
+
+  lists_by : (streams : Streams) → HasTicks p gathered streams → (x y : Contents) → IsRead x y → listed streams ≡ lists_of p x
+  lists_by streams ticks x y k = (ticks (rows x) (has_rows x y k)).0
+
+  -- a fault of ticks is the first, since rows have none
+  tick_fault : WhereTold a b IsRead → (fault : GatherFault) → IsTickFault p gathered fault → IsFirstFault p a b fault
+  tick_fault told (SourceFaulty f) is = (
+    is.0,
+    told_weaker IsRead (λ was now. first_fault p was ≡ Some f) a b (λ x y k.
+        ap (λ o. or_else o (fault_of_clocks p x)) k.0.good ∙ ap (λ n. fault_among p.sources n (ticks_in p x)) (sym k.0.held)
+        ∙ is.1 (rows x) (has_rows x y k)) told,
+  )
+  tick_fault told ReadFault is = tt
+  tick_fault told NoMemory is = tt
+
+  never_read : (r : Result Streams GatherFault) → IfErr r (IsTickFault p gathered) → r ≡ Err ReadFault → ⊥
+  never_read r f e = subst (λ q. IfErr q (IsTickFault p gathered)) e f
+
+-- a fault of rows comes before those of ticks
+row_fault : (p : Program) (a b : Option Contents) (fault : GatherFault) → IsRowFault p a b fault → IsFirstFault p a b fault
+row_fault p a b (SourceFaulty f) is = (
+  is.0,
+  told_weaker (λ was now. fault_of_rows p was ≡ Some f) (λ was now. first_fault p was ≡ Some f) a b
+      (λ x y e. ap (λ o. or_else o (fault_of_clocks p x)) e) is.1,
+)
+row_fault p a b ReadFault is = tt
+row_fault p a b NoMemory is = tt
+
+pub with_ticks-requires-clause-len : goal.with_ticks-requires-clause-len
+with_ticks-requires-clause-len g c = c.in-Ok.ensures.len
+
+pub with_ticks-requires-clause-streams : goal.with_ticks-requires-clause-streams
+with_ticks-requires-clause-streams g c = c.in-Ok.ensures.streams
+
+pub with_ticks-requires-clause-early : goal.with_ticks-requires-clause-early
+with_ticks-requires-clause-early g c = c.in-Ok.ensures.early
 
 pub returns-clause-good : goal.returns-clause-good
 returns-clause-good g c =
     let left = g.F.Files.left in
     let p = c.args.p.now in
-    let all : take c.loop-source.source-index p.sources ≡ p.sources =
-    take_all c.loop-source.source-index p.sources (omega (arith, ap length c.items-source-items.ensures)) in
-    let told = rw all at c.loop-source.invariant.told in
-    told_weaker (IsGathered (timing_of p) (form_of (job_of p)) p.kinds p.sources c.loop-source.gathered) (λ old new. AreGood p old) (left c.args.files.now)
-    (left c.loop-source.files) (λ x y k. k.good) told
+    let a = left c.args.files.now in
+    let b = left c.read_all.new.files in
+    let own = c.in-Ok.gathered in
+    let told = told_read p own a b c.in-Ok.ensures.read c.in-Ok.ensures.span in
+    weaken_ok c.with_ticks.result (HasTicks p own) (λ streams. WhereTold a b (λ old new. AreGood p old))
+    (λ streams ticks. told_weaker (IsRead p own a b) (λ old new. AreGood p old) a b (good_by p own a b streams ticks) told) c.with_ticks.ensures.ticks
 
 pub returns-clause-lists : goal.returns-clause-lists
 returns-clause-lists g c =
     let left = g.F.Files.left in
     let p = c.args.p.now in
-    let all : take c.loop-source.source-index p.sources ≡ p.sources =
-    take_all c.loop-source.source-index p.sources (omega (arith, ap length c.items-source-items.ensures)) in
-    let told = rw all at c.loop-source.invariant.told in
-    let same : listed c.new-2.result ≡ lists_in c.loop-source.gathered.lists = c.new-2.ensures in
-    told_weaker (IsGathered (timing_of p) (form_of (job_of p)) p.kinds p.sources c.loop-source.gathered) (λ old new. listed c.new-2.result ≡ lists_of p old)
-    (left c.args.files.now) (left c.loop-source.files) (λ x y k. same ∙ k.lists) told
+    let a = left c.args.files.now in
+    let b = left c.read_all.new.files in
+    let own = c.in-Ok.gathered in
+    let told = told_read p own a b c.in-Ok.ensures.read c.in-Ok.ensures.span in
+    weaken_ok c.with_ticks.result (HasTicks p own) (λ streams. WhereTold a b (λ old new. listed streams ≡ lists_of p old))
+    (λ streams ticks. told_weaker (IsRead p own a b) (λ old new. listed streams ≡ lists_of p old) a b (lists_by p own a b streams ticks) told)
+    c.with_ticks.ensures.ticks
 
 pub returns-clause-itags : goal.returns-clause-itags
-returns-clause-itags g c =
-    let p = c.args.p.now in
-    let all : take c.loop-source.source-index p.sources ≡ p.sources =
-    take_all c.loop-source.source-index p.sources (omega (arith, ap length c.items-source-items.ensures)) in
-    let same : listed c.new-2.result ≡ lists_in c.loop-source.gathered.lists = c.new-2.ensures in
-    let len = rw all at c.loop-source.invariant.len in
-    rw same (simp length-map (omega (arith, len, c.loop-source.gathered.lists.ok.0, total_width 0 p.sources)))
+returns-clause-itags g c = c.with_ticks.ensures.itags
 
-pub returns-clause-others : goal.returns-clause-others
-returns-clause-others g c =
+pub returns-clause-read_out : goal.returns-clause-read_out
+returns-clause-read_out g c = always_ok c.with_ticks.result
+    (AreReadOut (files_of c.args.p.now.sources) (g.F.Files.left c.read_all.new.files)) c.in-Ok.ensures.read_out
+
+pub returns-clause-fault : goal.returns-clause-fault
+returns-clause-fault g c =
     let left = g.F.Files.left in
     let p = c.args.p.now in
-    let all : take c.loop-source.source-index p.sources ≡ p.sources =
-    take_all c.loop-source.source-index p.sources (omega (arith, ap length c.items-source-items.ensures)) in
-    let told = rw all at c.loop-source.invariant.told in
-    told_weaker (IsGathered (timing_of p) (form_of (job_of p)) p.kinds p.sources c.loop-source.gathered) (LeavesOthers (files_of p.sources)) (left c.args.files.now)
-    (left c.loop-source.files) (λ x y k. k.others) told
+    let a = left c.args.files.now in
+    let b = left c.read_all.new.files in
+    let own = c.in-Ok.gathered in
+    let told = told_read p own a b c.in-Ok.ensures.read c.in-Ok.ensures.span in
+    weaken_err c.with_ticks.result (IsTickFault p own) (IsFirstFault p a b) (tick_fault p own a b told) c.with_ticks.ensures.fault
+
+pub returns-clause-hides : goal.returns-clause-hides
+returns-clause-hides g c = λ e.
+    absurd (never_read c.args.p.now c.in-Ok.gathered (g.F.Files.left c.args.files.now) (g.F.Files.left c.read_all.new.files) c.with_ticks.result
+    c.with_ticks.ensures.fault e)
+
+pub returns-clause-cause : goal.returns-clause-cause
+returns-clause-cause g c = λ e.
+    absurd (never_read c.args.p.now c.in-Ok.gathered (g.F.Files.left c.args.files.now) (g.F.Files.left c.read_all.new.files) c.with_ticks.result
+    c.with_ticks.ensures.fault e)
+
+pub returns-in-Err-clause-fault : goal.returns-in-Err-clause-fault
+returns-in-Err-clause-fault g c =
+    row_fault c.args.p.now (g.F.Files.left c.args.files.now) (g.F.Files.left c.read_all.new.files) c.in-Err.fault c.in-Err.ensures.fault

@@ -2,7 +2,7 @@ use Rattle.std.proofs.Common.{◌∙◌, length, refl, sym, ap, arith}
 use Rattle.flu_text.specs.declared.words.Token.{Token}
 use Rattle.flu_syntax.specs.declared.tokens.Heading.TheVariants as heading
 use Rattle.flu_syntax.specs.Tree.{declaration_of}
-use Rattle.flu_syntax.specs.Machine.{CellName, TagName, NamesName, DependsFirst, OnKind, SourceName}
+use Rattle.flu_syntax.specs.Machine.{CellName, TagName, NamesName, DependsFirst, OnKind, SourceName, ClockName}
 use Rattle.flu_syntax.proofs.Parts.{through_heading, no_heading}
 use Rattle.flu_syntax.proofs.declarations.declaration.Goals as goal
 
@@ -38,6 +38,11 @@ pub returns-in-Source-clause-run : goal.returns-in-Source-clause-run
 returns-in-Source-clause-run c =
     through_heading c.args.end c.args.tokens.now c.in-Some.rest.now c.in-Some.token SourceName heading.Source (λ x. declaration_of x.0) (λ x. x.1.now)
     c.source_line.result c.in-Some.ensures (sym c.in-Source.is ∙ c.heading_of.ensures) refl c.source_line.ensures.run
+
+pub returns-in-Clock-clause-run : goal.returns-in-Clock-clause-run
+returns-in-Clock-clause-run c =
+    through_heading c.args.end c.args.tokens.now c.in-Some.rest.now c.in-Some.token (ClockName c.in-Some.token.from) heading.Clock
+    (λ x. declaration_of x.0) (λ x. x.1.now) c.clock_line.result c.in-Some.ensures (sym c.in-Clock.is ∙ c.heading_of.ensures) refl c.clock_line.ensures.run
 
 pub returns-in-Other-clause-run : goal.returns-in-Other-clause-run
 returns-in-Other-clause-run c = λ job. rw c.unexpected-in-Other.ensures

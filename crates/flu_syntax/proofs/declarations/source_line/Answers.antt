@@ -30,7 +30,7 @@ returns-in_err-rate-clause-run c =
     Tells-through _ _ _ (
     run-named c.args.end job c.args.tokens.now c.in_ok-name.rest.now c.in_ok-name.name source_name c.in_ok-name.ensures.front
     ∙ run-expected c.args.end job c.in_ok-name.rest.now c.in_ok-text.rest.now c.in_ok-text.text (source_file name) c.in_ok-text.ensures.front)
-    (c.in_err-rate.ensures.run (job, name, file)))
+    (c.in_err-rate.ensures.sources (job, name, file)))
 
 pub returns-in_err-slack-clause-run : goal.returns-in_err-slack-clause-run
 returns-in_err-slack-clause-run c =
@@ -41,7 +41,7 @@ returns-in_err-slack-clause-run c =
     Tells-through _ _ _ (
     run-named c.args.end job c.args.tokens.now c.in_ok-name.rest.now c.in_ok-name.name source_name c.in_ok-name.ensures.front
     ∙ run-expected c.args.end job c.in_ok-name.rest.now c.in_ok-text.rest.now c.in_ok-text.text (source_file name) c.in_ok-text.ensures.front
-    ∙ c.in_ok-rate.ensures.run (job, name, file)) (c.in_err-slack.ensures.run (job, name, file, c.in_ok-rate.rate)))
+    ∙ c.in_ok-rate.ensures.sources (job, name, file)) (c.in_err-slack.ensures.run (job, name, file, c.in_ok-rate.rate)))
 
 pub returns-in_err-rest-clause-run : goal.returns-in_err-rest-clause-run
 returns-in_err-rest-clause-run c =
@@ -53,7 +53,7 @@ returns-in_err-rest-clause-run c =
     tells _ _ _ c.in_err-rest.ensures.front.0 (
     run-named c.args.end job c.args.tokens.now c.in_ok-name.rest.now c.in_ok-name.name source_name c.in_ok-name.ensures.front
     ∙ run-expected c.args.end job c.in_ok-name.rest.now c.in_ok-text.rest.now c.in_ok-text.text (source_file name) c.in_ok-text.ensures.front
-    ∙ c.in_ok-rate.ensures.run (job, name, file)
+    ∙ c.in_ok-rate.ensures.sources (job, name, file)
     ∙ c.in_ok-slack.ensures.run (job, name, file, c.in_ok-rate.rate)
     ∙ run-unexpected c.args.end job c.in_ok-slack.rest.now colon c.in_err-rest.ensures.front.1))
 
@@ -68,7 +68,7 @@ returns-in_err-tags-clause-run c =
     Tells-through _ _ _ (
     run-named c.args.end job c.args.tokens.now c.in_ok-name.rest.now c.in_ok-name.name source_name c.in_ok-name.ensures.front
     ∙ run-expected c.args.end job c.in_ok-name.rest.now c.in_ok-text.rest.now c.in_ok-text.text (source_file name) c.in_ok-text.ensures.front
-    ∙ c.in_ok-rate.ensures.run (job, name, file)
+    ∙ c.in_ok-rate.ensures.sources (job, name, file)
     ∙ c.in_ok-slack.ensures.run (job, name, file, c.in_ok-rate.rate)
     ∙ run-expected c.args.end job c.in_ok-slack.rest.now c.in_ok-rest.rest.now c.in_ok-rest.field-0-0 colon c.in_ok-rest.ensures.front)
     (c.in_err-tags.ensures.run head))
@@ -83,7 +83,7 @@ returns-clause-run c =
     rw c.span_of-file.ensures (
     run-named c.args.end job c.args.tokens.now c.in_ok-name.rest.now c.in_ok-name.name source_name c.in_ok-name.ensures.front
     ∙ run-expected c.args.end job c.in_ok-name.rest.now c.in_ok-text.rest.now c.in_ok-text.text (source_file name) c.in_ok-text.ensures.front
-    ∙ c.in_ok-rate.ensures.run (job, name, file)
+    ∙ c.in_ok-rate.ensures.sources (job, name, file)
     ∙ c.in_ok-slack.ensures.run (job, name, file, c.in_ok-rate.rate)
     ∙ run-expected c.args.end job c.in_ok-slack.rest.now c.in_ok-rest.rest.now c.in_ok-rest.field-0-0 colon c.in_ok-rest.ensures.front
     ∙ c.in_ok-tags.ensures.run head)

@@ -20,4 +20,4 @@ returns-clause-found c =
     let sources = c.args.program.now.sources in
     let place = position_from_yields_List (has_file one) _ _ _ c.position.ensures.ran (YieldsList-from_slice sources cc) (λ x b q k. search (rules, tests)) in
     let found = found_file sources one c.in_ok-number.number (sym place ∙ c.in_ok-number.was) in
-    (found.0, found.1, ap (option_map (λ n. n.now)) c.in_ok-name.was ∙ ap Some found.2)
+    (found.0, found.1, found.2, ap (option_map (λ n. n.now)) c.in_ok-name.was ∙ ap Some found.3)

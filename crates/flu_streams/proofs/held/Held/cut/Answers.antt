@@ -3,10 +3,12 @@ use Rattle.flu_streams.specs.declared.border.Border.TheVariants.{At, Closed}
 use Rattle.flu_streams.specs.declared.held.Stage.TheVariants.{Filling, Filled, Over}
 use Rattle.flu_streams.specs.Holding.{Holding, Cuts, HoldsAtMost, most_held}
 use Rattle.flu_streams.specs.Lists.{lists_in}
+use Rattle.flu_streams.specs.LoopClocks.{FewTicks, span_of}
 use Rattle.flu_streams.specs.LoopHeld.{AreTimed}
 use Rattle.flu_streams.proofs.Bounds.{holds_few, holds_most, well_timed, still_caught_up, still_uncounted}
 use Rattle.flu_streams.proofs.Cuts.{well_filled, cuts_at, cuts_closed, dropped_well, cut_lists, closed_if_not}
 use Rattle.flu_streams.proofs.RoundOf.{holding}
+use Rattle.flu_streams.proofs.Ticking.{fewer_ticks}
 use Rattle.flu_streams.proofs.held.Held.cut.Goals as goal
 
 pub returns-in_default-clause-lists : goal.returns-in_default-clause-lists
@@ -70,6 +72,15 @@ lists_to-requires-clause-timed c =
     let program_is : h.program.value ≡ c.args.p.now = ap (λ (v : Holding). v.program) c.self.view_is ∙ c.requires.program in
     let well = well_filled h.program.value h.rows h.border h.stage c.args.b h.sources.items c.self.invariant stage_is in
     rw c.deref.ensures.value (subst (λ p. AreTimed p h.sources.items) program_is (well_timed h.program.value h.rows h.border h.sources.items well.0))
+
+pub lists_to-requires-clause-few : goal.lists_to-requires-clause-few
+lists_to-requires-clause-few c =
+    let h = c.self.inside in
+    let stage_is : h.stage ≡ Filled c.args.b = ap (λ (v : Holding). v.stage) c.self.view_is ∙ c.requires.stage in
+    let program_is : h.program.value ≡ c.args.p.now = ap (λ (v : Holding). v.program) c.self.view_is ∙ c.requires.program in
+    let well = well_filled h.program.value h.rows h.border h.stage c.args.b h.sources.items c.self.invariant stage_is in
+    rw c.deref.ensures.value (subst (λ p. FewTicks p 4096 h.border (span_of p h.sources.items) c.args.b) program_is
+    (fewer_ticks h.program.value h.rows 4096 h.border (span_of h.program.value h.sources.items) c.args.b well.0.most well.3))
 
 pub lists_to-requires-clause-uncounted : goal.lists_to-requires-clause-uncounted
 lists_to-requires-clause-uncounted c = rw c.deref.ensures.value c.self.invariant.1

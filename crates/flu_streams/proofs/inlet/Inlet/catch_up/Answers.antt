@@ -35,6 +35,7 @@ returns-then-self c =
     record {
       timing = d.timing;
       rows = d.rows;
+      first = d.first;
       last = d.last;
       ended = d.ended;
       closed = d.closed;
@@ -58,6 +59,7 @@ returns-then-settled-goal c =
     record {
       timing = d.timing;
       rows = d.rows;
+      first = d.first;
       last = d.last;
       ended = d.ended;
       closed = d.closed;
@@ -83,6 +85,7 @@ returns-then-len-most_items c =
     record {
       timing = d.timing;
       rows = d.rows;
+      first = d.first;
       last = d.last;
       ended = d.ended;
       closed = d.closed;
@@ -108,6 +111,7 @@ returns-then-last-behind c =
     record {
       timing = refl;
       rows = refl;
+      first = refl;
       last = refl;
       ended = refl;
       closed = refl;

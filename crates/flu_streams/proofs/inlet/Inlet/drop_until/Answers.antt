@@ -23,6 +23,8 @@ invariant_of-self c =
       none = λ e. now ∙ ap (filter (λ (item : Item). nat_lt t (item_time item))) (h.none e);
       fits = h.fits;
       range = h.range;
+      early = h.early;
+      ordered = h.ordered;
       within = rw times (all_later (λ time. nat_le time (unwrap_or h.last 0)) (nat_lt t) (λ m. m / h.timing.scale) (times_in items) h.within);
       in_a_row = rw times (row_behind h.timing h.fits c.args.time 0 None (times_in items) (rises_times items h.rising) (λ b e. absurd cc) h.in_a_row);
       few = λ free. rw now (let less = fewer (λ (item : Item). nat_lt t (item_time item)) items in omega (arith, less, h.few free));
@@ -37,6 +39,7 @@ returns c =
       items = c.drop_until.ensures ∙ later_alike h c.last_moment.result (last_moment h.timing c.args.time) c.last_moment.ensures;
       timing = refl;
       rows = refl;
+      first = refl;
       last = refl;
       ended = refl;
       closed = refl;

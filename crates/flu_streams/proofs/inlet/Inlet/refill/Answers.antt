@@ -1,6 +1,6 @@
 use Rattle.std.proofs.Common.{◌≡◌, ◌∙◌, refl, sym, ap, rules}
 use Rattle.flu_lemmas.proofs.Named.{taken_then, counts_then, none_taken, no_counts}
-use Rattle.flu_lemmas.proofs.Tests.{not_both}
+use Rattle.flu_lemmas.proofs.Tests.{not_both, false_if_not}
 use Rattle.std.specs.Prelude.{is_some}
 use Rattle.flu_outside.specs.Taking.{IsReadOut}
 use Rattle.flu_outside.specs.declared.files.TakeFault.{TakeFault}
@@ -30,6 +30,7 @@ loop-time-init g c =
       room = c.catch_up.ensures.room;
       before_goal = c.catch_up.ensures.before;
       shut = c.catch_up.ensures.shut;
+      idle = λ closed. (c.catch_up.ensures.closed ∙ closed, refl);
       counted = ap is_some c.catch_up.ensures.held;
       taken = none_taken file left;
       counts = no_counts file left (g.F.Files.faults c.args.files.now);
@@ -51,6 +52,26 @@ returns-then-self-clause-filled g c =
     refilled_shut c.args.kinds.now c.args.source.now c.args.first c.args.rows c.args.self.now c.loop-time.self (left c.args.files.now) (left c.loop-time.files)
     c.requires.some c.loop-time.invariant.timing c.loop-time.invariant.so_far c.loop-time.invariant.well c.loop-time.invariant.out c.loop-time.invariant.few
     c.loop-time.invariant.form (sym c.in_default.ensures, c.loop-time.invariant.before_goal) c.if-self.true (c.loop-time.invariant.shut c.if-self.true)
+
+pub returns-in-Some-clause-shut : goal.returns-in-Some-clause-shut
+returns-in-Some-clause-shut g c closed = (c.loop-time.invariant.idle closed).1
+
+pub returns-then-self-clause-shut : goal.returns-then-self-clause-shut
+returns-then-self-clause-shut g c closed = (c.loop-time.invariant.idle closed).1
+
+pub returns-in-Err-clause-shut : goal.returns-in-Err-clause-shut
+returns-in-Err-clause-shut g c closed = absurd (not_both c.loop-time.self.closed (c.loop-time.invariant.idle closed).0 c.if-self.false)
+
+pub returns-in-Err-clause-read : goal.returns-in-Err-clause-read
+returns-in-Err-clause-read g c =
+    false_if_not c.args.self.now.closed (λ closed. not_both c.loop-time.self.closed (c.loop-time.invariant.idle closed).0 c.if-self.false)
+
+pub returns-in-Err-take-clause-read : goal.returns-in-Err-take-clause-read
+returns-in-Err-take-clause-read g c =
+    false_if_not c.args.self.now.closed (λ closed. not_both c.loop-time.self.closed (c.loop-time.invariant.idle closed).0 c.if-self.false)
+
+pub returns-in-Err-take-clause-shut : goal.returns-in-Err-take-clause-shut
+returns-in-Err-take-clause-shut g c closed = absurd (not_both c.loop-time.self.closed (c.loop-time.invariant.idle closed).0 c.if-self.false)
 
 pub returns-in-Err-clause-stop : goal.returns-in-Err-clause-stop
 returns-in-Err-clause-stop g c =
@@ -122,7 +143,7 @@ loop-time-preserved g c =
           (refilling_row c.args.kinds.now c.args.source.now c.args.first c.args.rows c.args.self.now c.loop-time.self _ c.take.new.self (left old)
           (left mid) (left new) c.in-Row.line c.in-Row.row
           c.requires.some c.loop-time.invariant.timing c.loop-time.invariant.so_far c.if-self.false
-          (sym c.in_default.ensures, c.loop-time.invariant.before_goal) refl refl refl refl refl refl refl here told puts above before is);
+          (sym c.in_default.ensures, c.loop-time.invariant.before_goal) refl refl refl refl refl refl refl refl here told puts above before is);
       well = λ border was. well_caught c.args.self.now.timing c.args.source.now border c.take.new.self caught catches
           (well_row c.args.self.now.timing c.args.self.now.fits c.args.kinds.now c.args.source.now c.args.first border c.loop-time.self _ c.take.new.self
           c.in-Row.row (c.loop-time.invariant.well border was) refl c.if-self.false refl refl refl here puts);
@@ -133,6 +154,7 @@ loop-time-preserved g c =
       room = catches.room;
       before_goal = catches.before;
       shut = catches.shut;
+      idle = λ closed. absurd (not_both c.loop-time.self.closed (c.loop-time.invariant.idle closed).0 c.if-self.false);
       counted = ap is_some catches.held ∙ c.take.ensures.counted ∙ c.loop-time.invariant.counted;
       taken = taken_then file (left old) (left mid) (left new) c.loop-time.invariant.taken (rw c.loop-time.invariant.file at c.in-Ok.ensures.taken);
       counts = counts_then file (left old) (left mid) (faults old) (faults mid) (faults new) c.loop-time.invariant.taken c.loop-time.invariant.counts
@@ -163,6 +185,8 @@ returns-in-Some-defect_behind g c =
       quiet = search rules;
       puts = search rules;
       cause = search rules;
+      shut = λ closed. absurd (not_both c.loop-time.self.closed (c.loop-time.invariant.idle closed).0 c.if-self.false);
+      read = false_if_not c.args.self.now.closed (λ closed. not_both c.loop-time.self.closed (c.loop-time.invariant.idle closed).0 c.if-self.false);
     }
 
 pub returns-in_default-next : goal.returns-in_default-next
@@ -183,7 +207,7 @@ returns-in_default-next g c =
           (left old) (left mid) (left new) c.in-Ok.next
           c.requires.some c.loop-time.invariant.timing c.loop-time.invariant.so_far c.loop-time.invariant.well c.loop-time.invariant.few c.if-self.false
           (sym c.in_default.ensures, c.loop-time.invariant.before_goal) c.in-Ok.ensures.told c.in_default-next.not-Row none out
-          refl refl refl refl refl refl refl form_here here c.catch_up-in_default-next.ensures;
+          refl refl refl refl refl refl refl refl form_here here c.catch_up-in_default-next.ensures;
       stop = tt;
       counted = ap is_some c.catch_up-in_default-next.ensures.held ∙ c.loop-time.invariant.counted;
       timing = c.catch_up-in_default-next.ensures.timing ∙ c.loop-time.invariant.timing;
@@ -193,4 +217,6 @@ returns-in_default-next g c =
       quiet = search rules;
       puts = search rules;
       cause = search rules;
+      shut = λ closed. absurd (not_both c.loop-time.self.closed (c.loop-time.invariant.idle closed).0 c.if-self.false);
+      read = tt;
     }

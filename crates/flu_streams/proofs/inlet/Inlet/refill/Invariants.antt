@@ -25,6 +25,7 @@ invariant-loop-time g l =
       room : HasRoom l.self;
       before_goal : IsBefore (margin l.self.timing l.source.slack) (source_of l.self);
       shut : l.self.closed ≡ true → l.self.goal ≡ None;
+      idle : l.fn.self.closed ≡ true → (l.self.closed ≡ true) × (l.files ≡ l.fn.files);
       counted : is_some l.self.held ≡ is_some l.fn.self.held;
       taken : WhereTold (left l.fn.files) (left l.files) (TakesFrom l.source.file);
       counts : CountsOf (left l.fn.files) l.source.file (faults l.fn.files) (faults l.files);

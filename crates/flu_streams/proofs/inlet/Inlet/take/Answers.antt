@@ -16,7 +16,7 @@ use Rattle.flu_streams.specs.Before.{first_some}
 use Rattle.flu_streams.specs.Good.{event_of}
 use Rattle.flu_streams.specs.Holding.{item_of}
 use Rattle.flu_streams.specs.Lists.{item_time}
-use Rattle.flu_streams.specs.LoopHeld.{fault_at, held_with, later_of, put_timed, PutsIn, PutsItem, test_held, test_late}
+use Rattle.flu_streams.specs.LoopHeld.{fault_at, held_with, later_of, sooner_of, put_timed, PutsIn, PutsItem, test_held, test_late}
 use Rattle.flu_streams.specs.LoopMoments.{at_moment, item_at_moment, own_times}
 use Rattle.flu_streams.specs.Tags.{given_to, is_known, place_named, width}
 use Rattle.flu_streams.specs.Tests.{has_moments, is_end, items_in, test_fields, test_item, test_tag, time_in, where_true}
@@ -41,6 +41,7 @@ puts_row kinds s first row item count old new at not_end counts same goes moment
       ∙ ap (λ o. put_timed o (item_of kinds s first (at_moment old.timing (own_times old.timing old.items) row)) old.items) (sym at);
   timing = puts.timing;
   rows = puts.rows;
+  earliest = puts.first ∙ ap (sooner_of old.first) (sym at);
   last = puts.last ∙ ap (later_of old.last) (sym at);
   ended = puts.ended ∙ goes ∙ sym (λ i. goes i || not_end i);
   closed = puts.closed;

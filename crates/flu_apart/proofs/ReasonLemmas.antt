@@ -1,6 +1,5 @@
--- A node has one first reason why it may not be apart.
-use Rattle.std.proofs.Common.{◌≡◌, ℕ, Bool, true, false, List, refl, sym, ap, subst, ◌∙◌}
-use Rattle.std.specs.Prelude.{◌||◌}
+-- A node has one first reason why it may not be apart, and none if it may.
+use Rattle.std.proofs.Common.{◌≡◌, ℕ, Bool, true, false, List, Some, refl, sym, ap, subst, ◌∙◌}
 use Rattle.std.specs.Ordering.{nat_cmp, ordering_reverse, ordering_then, is_lt}
 use Rattle.std.specs.declared.cmp.Ordering.{Ordering}
 use Rattle.std.specs.declared.cmp.Ordering.TheVariants.{Less, Equal, Greater}
@@ -11,10 +10,13 @@ use Rattle.flu_model.specs.declared.events.Cell.{Cell}
 use Rattle.flu_model.specs.declared.events.Tag.{Tag}
 use Rattle.flu_model.specs.declared.jobs.Program.{Program}
 use Rattle.flu_model.specs.declared.plans.Node.{Node}
-use Rattle.flu_model.specs.Modes.{mode_of, uses}
+use Rattle.flu_model.specs.Rules.{is_clock}
 use Rattle.flu_apart.specs.declared.reason.Reason.{Reason}
-use Rattle.flu_apart.specs.Apart.{MayBeApart, IsFirstReason}
-use Rattle.flu_apart.specs.Classes.{is_contributed, is_kept}
+use Rattle.flu_apart.specs.declared.reason.Reason.TheVariants.{Clock, Shared}
+use Rattle.flu_apart.specs.declared.reason.SharedUse.{SharedUse}
+use Rattle.flu_apart.specs.Apart.{MayBeApart, IsFirstUse, IsFirstReason}
+use Rattle.flu_apart.proofs.ClockLemmas.{one_passes}
+use Rattle.flu_apart.proofs.SearchLemmas.{no_use}
 
 -- two numbers of which neither is the lesser
 neither : (m n : ℕ) (x y : Ordering) → is_lt (ordering_then (nat_cmp m n) x) ≡ false → is_lt (ordering_then (nat_cmp n m) y) ≡ false
@@ -43,17 +45,16 @@ same_tag t u kind key = λ i. record { kind = kind i; key = key i }
 same_cell : (c d : Cell) → c.family ≡ d.family → c.key ≡ d.key → c ≡ d
 same_cell c d family key = λ i. record { family = family i; key = key i }
 
-pub one_reason : (p : Program) (nodes : List Node) (w : ℕ) (r s : Reason) → IsFirstReason p nodes w r.tag r.cell → IsFirstReason p nodes w s.tag s.cell
-    → r ≡ s
-one_reason p nodes w r s one other =
+one_use : (p : Program) (nodes : List Node) (w : ℕ) (r s : SharedUse) → IsFirstUse p nodes w r.tag r.cell → IsFirstUse p nodes w s.tag s.cell → r ≡ s
+one_use p nodes w r s one other =
     let t = r.tag in
     let u = s.tag in
     let c = r.cell in
     let d = s.cell in
     let first : is_lt (ordering_then (ordering_then (nat_cmp t.kind u.kind) (nat_cmp t.key u.key))
-    (ordering_then (nat_cmp c.family d.family) (nat_cmp c.key d.key))) ≡ false = other.first t c one.reason in
+    (ordering_then (nat_cmp c.family d.family) (nat_cmp c.key d.key))) ≡ false = other.first t c one.shared in
     let second : is_lt (ordering_then (ordering_then (nat_cmp u.kind t.kind) (nat_cmp u.key t.key))
-    (ordering_then (nat_cmp d.family c.family) (nat_cmp d.key c.key))) ≡ false = one.first u d other.reason in
+    (ordering_then (nat_cmp d.family c.family) (nat_cmp d.key c.key))) ≡ false = one.first u d other.shared in
     let kinds = neither t.kind u.kind (ordering_then (nat_cmp t.key u.key) (ordering_then (nat_cmp c.family d.family) (nat_cmp c.key d.key)))
     (ordering_then (nat_cmp u.key t.key) (ordering_then (nat_cmp d.family c.family) (nat_cmp d.key c.key)))
     (ap is_lt (sym (then_assoc (nat_cmp t.kind u.kind) (nat_cmp t.key u.key) (ordering_then (nat_cmp c.family d.family) (nat_cmp c.key d.key)))) ∙ first)
@@ -67,12 +68,16 @@ one_reason p nodes w r s one other =
     let cells = same_cell c d families.0 cell_keys.0 in
     λ i. record { tag = tags i; cell = cells i }
 
--- a node that may be apart has none
-pub no_reason : (p : Program) (nodes : List Node) (w : ℕ) (r : Reason) → MayBeApart p nodes w → IsFirstReason p nodes w r.tag r.cell → ⊥
-no_reason p nodes w r may is =
-    let why = is.reason in
-    let used = subst (λ (t : Tag). uses (mode_of p t r.cell) ≡ true) (sym why.tag) why.used in
-    let may_be : (is_contributed p nodes w r.cell || is_kept p nodes w r.cell) ≡ true = may why.itag r.cell why.in_range why.of_subtree used in
-    let not_so : (is_contributed p nodes w r.cell || is_kept p nodes w r.cell) ≡ false =
-    ap (λ (b : Bool). b || is_kept p nodes w r.cell) why.not_contributed ∙ why.not_kept in
-    false≢true (sym not_so ∙ may_be)
+pub one_reason : (p : Program) (nodes : List Node) (w : ℕ) (r s : Reason) → IsFirstReason p nodes w r → IsFirstReason p nodes w s → r ≡ s
+one_reason p nodes w (Clock m) (Clock n) one other =
+    let found : Some m ≡ Some n = sym one ∙ other in
+    let same : m ≡ n = cc in
+    ap (λ (k : ℕ). let r : Reason = Clock k in r) same
+one_reason p nodes w (Clock m) (Shared s) one other = absurd (one_passes is_clock p.sources m one other.0)
+one_reason p nodes w (Shared r) (Clock n) one other = absurd (one_passes is_clock p.sources n other one.0)
+one_reason p nodes w (Shared r) (Shared s) one other =
+    ap (λ (u : SharedUse). let reason : Reason = Shared u in reason) (one_use p nodes w r s one.1 other.1)
+
+pub no_reason : (p : Program) (nodes : List Node) (w : ℕ) (r : Reason) → MayBeApart p nodes w → IsFirstReason p nodes w r → ⊥
+no_reason p nodes w (Clock number) may is = one_passes is_clock p.sources number is may.no_clock
+no_reason p nodes w (Shared u) may is = no_use p nodes w u.tag u.cell is.1.shared may.shares_none
