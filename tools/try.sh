@@ -1,5 +1,5 @@
 #!/usr/bin/env bash
-# Runs a command of flumina without building it first: tools/try.sh COMMAND WORD.., as in tools/try.sh fold examples/rides/rides.job
+# Runs a command of flumina without building it first: tools/try.sh COMMAND WORD.., as in tools/try.sh fold examples/views/views.job
 # The kit's `rt try` compiles the program with checks at run time and proves nothing; that takes one to four minutes on a machine with several
 # processors, for each call. Report, refusals and exit status are the program's; 125 means that it did not run, and rt's own lines then say why.
 # It needs `rt` on the path, bash and awk. `rt try` runs the program in a folder of its own: it gets the files that the words and the sources of
@@ -7,7 +7,7 @@
 # contain a `=`; `valid`, `run` and `replay` get a plan or a trace, but a checkpoint only to read. A run has 60 seconds and at most 1 MiB of output.
 set -u
 stop() { echo "tools/try.sh: $1" >&2; exit 125; }
-[ $# -gt 0 ] || stop "give it a command and its words, as in: tools/try.sh fold examples/rides/rides.job"
+[ $# -gt 0 ] || stop "give it a command and its words, as in: tools/try.sh fold examples/views/views.job"
 command -v rt > /dev/null || stop "rt of the Rattle kit is not on the path (README.md, Start)"
 crate=$(cd "$(dirname "$0")/../crates/flumina" && pwd) || stop "there is no crates/flumina beside tools"
 

@@ -6,8 +6,8 @@ write with what the pages show.
 
 Each page is read block by block, a block being an indented paragraph. The steps below say of each block, in the page's order, what
 it is: a file, a command, or what a command writes. Commands and files within a sentence are looked up there too, so a page
-that changes without its step is a failure. Each page has a fresh folder. It needs bash, mawk or gawk as `awk`, and Miller
-(`mlr`). It ends with status 1 at the first difference, and else prints how many commands it ran.
+that changes without its step is a failure. Each page has a fresh folder. It needs bash, and mawk or gawk as `awk`.
+It ends with status 1 at the first difference, and else prints how many commands it ran.
 
 Left out, and why:
 - README.md: `rt ci` and `rt run`, which prove for hours, and `tools/try.sh` itself, which needs the kit: PROGRAM stands in for it.
@@ -18,6 +18,7 @@ Left out, and why:
 import os
 import pty
 import re
+import shutil
 import subprocess
 import sys
 import tempfile
@@ -144,83 +145,93 @@ class Folder:
             same(self.call(command, status=status, terminal=True, **how)[1], shown, f"what a terminal shows, of: {command}")
 
 
-def session(folder, block):
+def session(folder, block, **how):
     """Runs a block with prompts: a line that begins with `$ ` is a command, and those after it are what it writes."""
     for part in re.split(r"^\$ ", block, flags=re.M)[1:]:
         command, _, shown = part.partition("\n")
         refused = shown.startswith("flumina: ")
-        out, err = folder.call(command, status=4 if refused else 0)
+        out, err = folder.call(command, status=4 if refused else 0, **how)
         same(err if refused else out, shown, f"what is written by: {command}")
 
 
 def readme(program):
     page, folder = Page("README.md"), Folder(program)
-    os.symlink(f"{TOP}/examples", f"{folder.at}/examples")
-    os.mkdir(f"{folder.at}/tools")
+    os.makedirs(f"{folder.at}/tools")
     os.symlink(program, f"{folder.at}/tools/try.sh")
-    same(folder.read(page.code("examples/rides/north.csv")), page.block("485,"), "the rows of north")
-    job = re.sub(r"^#.*\n", "", folder.read("examples/rides/rides.job"), flags=re.M)
-    same(job, page.block("cell rides"), "the job, without its comment")
-    report = page.block("1440,")
-    same(folder.quiet(page.code("tools/try.sh fold examples/rides/rides.job")), report, "the report")
-    session(folder, page.block("$ grep"))
-    session(folder, page.block("$ sed"))
-    same(folder.quiet(page.code("tools/try.sh run rated.job")), report, "the report of the run")
+    page.code("examples/rides")
+    shutil.copytree(f"{TOP}/examples/rides", f"{folder.at}/examples/rides")
+    same(folder.read(f"examples/rides/{page.code('north.csv')}"), page.block("2026-03-02 08:05:00"), "the rows of north")
+    same(folder.read(f"examples/rides/{page.code('rides.job')}"), page.block("version 3"), "the job")
+    into, fold = page.block("cd examples/rides").splitlines()
+    report = page.block("2026-03-03T00:00:00Z,day,harbour")
+    same(folder.quiet(f"{into}\n{fold}"), report, "the report")
+    same(folder.read("examples/rides/report.csv"), report, "the report of the example")
+    session(folder, page.block("$ grep"), below="examples/rides")
+    session(folder, page.block("$ ../../tools/try.sh plan"), below="examples/rides")
+    same(folder.quiet(page.code("../../tools/try.sh run rides.job"), below="examples/rides"), report, "the report of the run")
     page.says("prints the four lines above")
+    page.says("`(cd examples/rides && ../../tools/try.sh fold rides.job)`")
     page.end()
 
 
 def log_to_report(page, folder):
-    """From the log to the report and back, and in other ways of reading."""
+    """From the log to the report."""
     folder.write(page.code("rides.log"), page.block("when,office"))
-    folder.quiet(page.block("awk -F, 'NR > 1 { print $1"))
-    row = page.code("2026-03-02 08:05:00,ride,harbour,12")
-    need(folder.read(page.code("north-text.csv")).startswith(f"{row}\n"), "the first row of north-text.csv")
-    folder.write(page.code("text.job"), page.block("version 3 ties 1000 iso seconds"))
-    report = folder.quiet(page.block("flumina fold text.job"))
-    same(report, page.block("2026-03-03T00:00:00Z,day,harbour"), "the report with times as text and names")
-    for start in "mlr --icsv", "TZ=UTC awk":
-        folder.quiet(page.block(start))
-        rows = folder.read("seconds.csv")
-        if start.startswith("mlr"):
-            by_miller = rows
-    same(rows, by_miller, "seconds.csv by Miller, and by awk")
-    need(rows.startswith(page.block("1772438700,north")), f"the first rows of seconds.csv\n{rows}")
-    folder.quiet(page.block("awk -F, -v OFS=, '!($3"))
-    same(folder.read("stations.csv"), "".join(page.code(it) + "\n" for it in ("1,harbour", "2,mill", "3,market")), "stations.csv")
-    folder.quiet(page.block("awk -F, -v OFS=, 'n[$1] > 999"))
-    folder.quiet(page.block("awk -F, '{ file"))
-    same(folder.read("north.csv"), page.block("1772438700000,ride[1]"), "north.csv")
-    need(folder.read("south.csv").endswith("\nend\n"), "south.csv has its end")
-    folder.quiet(page.block("for day in"))
-    folder.write("rides.job", page.block("cell rides"))
+    command = page.block("awk -F, 'NR > 1 && !")
+    folder.quiet(command)
+    same(folder.read("north.csv"), page.block("2026-03-02 08:05:00,ride"), "north.csv")
+    for name in "north.csv", "south.csv":
+        with open(f"{TOP}/examples/rides/{name}") as it:
+            same(folder.read(name), it.read(), f"{name} is that of the example")
+    folder.write("rides.job", page.block("version 3 ties 1000 iso seconds"))
+    with open(f"{TOP}/examples/rides/rides.job") as it:
+        same(folder.read("rides.job"), it.read(), "rides.job is that of the example")
     folder.quiet(page.block("flumina check rides.job\nflumina fold"))
-    need(page.code("1772495999999,day,station 2: 2 rides") in folder.read("report.csv").splitlines(), "a row of the report")
-    folder.quiet(page.block("awk -F, 'NR == FNR"))
-    by_miller, by_awk = (folder.quiet(it) for it in page.block("mlr --csv").splitlines())
-    same(by_awk, page.block("2026-03-02 23:59:59,day,longest"), "the report with names and dates")
-    same(re.sub(r"^(\S+)T(\S+)Z,", r"\1 \2,", by_miller, flags=re.M), by_awk, "the same by Miller, whose dates have T and Z")
+    same(folder.read(page.code("report.csv")), page.block("2026-03-03T00:00:00Z,day,harbour"), "the report")
+
+    log, good = folder.read("rides.log"), {name: folder.read(name) for name in ("north.csv", "south.csv")}
+    folder.write("rides.log", log + "2026-03-03 11:00:00,east,mill,5\n")
+    out, err = folder.call(command, status=1)
+    same(out + err, "line 8: 2026-03-03 11:00:00,east,mill,5\n", "a row of a third office")
+    folder.refused("flumina fold rides.job", 6, "flumina: source north row 4: unclosed\n", terminal=False)
+    folder.write("rides.log", log)
+    folder.quiet(command)
+    same("".join(folder.read(name) for name in good), "".join(good.values()), "the sources once more")
+    ride = "2026-03-02 00:00:00,ride,mill,1\nend\n"
+    for name in "north.csv", "south.csv":
+        folder.write(name, "end\n" if name == "south.csv" else ride)
+    last = folder.quiet("flumina fold rides.job")
+    lines = folder.read("rides.job").splitlines(True)
+    folder.write("early.job", "".join(lines[:-3] + lines[-1:] + lines[-3:-1]))
+    days = [out.split("T")[0] for out in (last, folder.quiet("flumina fold early.job"))]
+    same("\n".join(days), "2026-03-02\n2026-03-03", "the day of a ride at midnight, with the clock last and first")
+    for name, text in good.items():
+        folder.write(name, text)
+
+    command = page.block("printf 'harbour,12.50")
+    same(folder.quiet(command), page.block("harbour,1250"), "amounts in cents")
+    out, err = folder.call(command.replace("0.75", "0.7"), status=1)
+    same(out + err, "harbour,1250\nline 2: mill,0.7\n", "an amount of another form")
 
 
-def many_keys(page, folder):
-    """Items, from a log to the sums of each path."""
+def many_names(page, folder):
+    """Items by names, from a log to the sums of each path."""
     folder.quiet(page.block("awk 'BEGIN { for (n"))
-    for command in page.block("awk -v OFS=, '!($2").splitlines():
-        folder.quiet(command)
-    folder.write(page.code("paths.job"), page.block("version 3"))
-    out = "".join(folder.quiet(it) for it in page.block("flumina fold paths.job").splitlines())
+    folder.quiet(page.block("sed 's/ /,hit,/"))
+    folder.write(page.code("paths.head"), page.block("version 3 ties 10 iso seconds"))
+    out = "".join(folder.quiet(it) for it in page.block("cat paths.head").splitlines())
     same(out, page.block("/page/"), "the first lines of the sums by path")
 
 
 def late_and_open(page, folder):
     folder.write(page.code("late.csv"), page.block("100,ride,12"))
-    same(folder.quiet(page.block("awk -F, '/^[0-9]/")), "31\n", page.says("prints 31"))
-    source = page.code('source south "late.csv" slack 31: ride')
-    job = 'tag ride int\non ride: emit "seen"\n'
+    same(folder.quiet(page.block("awk -F, '/^[0-9]/")), "30\n", page.says("prints 30"))
+    source = page.code('source south "late.csv" slack 30: ride')
+    job = page.code("version 3") + '\ntag ride int\non ride: emit "seen"\n'
     folder.write("slack.job", f"{job}{source}\n")
     times = "".join(f"{it},ride,seen\n" for it in page.says("100, 130, 160 and 161").replace(" and", ",").split(", "))
     same(folder.quiet("flumina fold slack.job"), times, "the events of late.csv")
-    folder.write("slack.job", f"{job}{source}\n".replace("31", "30"))
+    folder.write("slack.job", f"{job}{source}\n".replace("slack 30", "slack 29"))
     folder.refused("flumina fold slack.job", 6, "flumina: source south row 3: disordered, last 160, got 130\n", terminal=False)
     folder.edit("rides.job", page.code("live.job"), (page.code('"south.csv"'), page.code('"/dev/stdin"')))
     folder.edit("rides.job", page.code("live3.job"), ('"south.csv"', page.code('"/dev/fd/3"')))
@@ -232,26 +243,26 @@ def late_and_open(page, folder):
 
 def live(page, folder):
     """A report that is written while its sources grow. The tails are those of the page; so is the run, but for a pause until it has written."""
-    folder.write(page.code("hits.job"), page.block("cell hits"))
-    rows, start, first = page.block("printf '1000"), page.block("mkfifo"), page.block("59999,tick,")
-    tick, beat, second = page.code("echo 119999,tick >> clock.csv"), page.code("echo 120000,beat >> web.csv"), page.block("119999,tick,")
+    folder.write(page.code("hits.job"), page.block("version 3"))
+    rows, start, first = page.block("printf '2026-03-02 08:05:01"), page.block("mkfifo"), page.block("2026-03-02T08:06:00Z,minute,")
+    beats_at = [page.code(f"echo '2026-03-02 08:07:0{it},beat' >> web.csv") for it in (0, 1)]
+    second = page.block("2026-03-02T08:07:00Z,minute,")
     page.block("tail -n +1 -F access.log")
     beats = page.block("beats()")
-    end, resume = page.block("for file"), page.block("flumina run hits.job")
+    end, third, resume = page.block("echo end >> web.csv"), page.block("2026-03-02T08:08:00Z,minute,"), page.block("flumina run hits.job")
     shown = "sleep 2; cat hits.csv; echo --\n"
-    out, err = folder.call(f"set +m\n{rows}{start}{shown}{tick}\n{shown}{beat}\n{shown}{end}cat hits.csv\n")
-    same(out, f"{first}--\n{first}--\n{first}{second}--\n{first}{second}", f"the report while its sources grow\n{err}")
+    out, err = folder.call(f"set +m\n{rows}{start}{shown}{beats_at[0]}\n{shown}{beats_at[1]}\n{shown}{end}cat hits.csv\n")
+    same(out, f"{first}--\n{first}--\n{first}{second}--\n{first}{second}{third}", f"the report while its source grows\n{err}")
     again = start.replace("flumina run hits.job --round 1 --save hits.save > hits.csv &\n", "")
-    out, err = folder.call(f"set +m\nrm *.fifo\n{again}(sleep 2; kill $web; sleep 2; kill $clock) &\n{resume}cat hits.csv\n")
-    same(out, first + second, f"the report of a run that is resumed after its end\n{err}")
-    quiet = folder.quiet(f"{beats}(echo row; sleep 6; echo row) | beats | sed 's/^[0-9]*999,beat$/beat/'")
+    out, err = folder.call(f"set +m\nrm *.fifo\n{again}(sleep 2; kill $web) &\n{resume}cat hits.csv\n")
+    same(out, first + second + third, f"the report of a run that is resumed after its end\n{err}")
+    quiet = folder.quiet(f"{beats}(echo row; sleep 6; echo row) | beats | sed 's/^[0-9]*,beat$/beat/'")
     same(quiet, "row\nbeat\nrow\n", "a heartbeat between two rows")
 
 
 def instead(page, folder):
     """Windows, minima and means."""
-    folder.quiet(page.block("awk 'BEGIN"))
-    folder.write(page.code("stats.job"), page.block("cell lowest"))
+    folder.write(page.code("stats.job"), page.block("version 3"))
     same(folder.quiet("flumina fold stats.job"), page.block("150,window,63"), "the report of stats.job")
     means = folder.quiet(page.block("flumina fold stats.job | awk"))
     same(means, page.block("150,mean"), "the means")
@@ -284,12 +295,30 @@ def go_on(page, folder):
         command = page.block("flumina run")
         folder.quiet(command)
         same(folder.read("report.csv"), report, f"the report of a run that saves, to which one that is resumed adds nothing: {command}")
-    folder.write("report.csv", report + "1772")
-    folder.quiet(page.block("test -z"))
+    cut = page.block("test -z")
+    border = page.says("9223372036854775807")
+    folder.write("rides.save", f'{{"border":{border},"cells":[]}}')
+    folder.write("report.csv", report + "2026-03")
+    folder.quiet(cut)
     same(folder.read("report.csv"), report, "the report without its truncated last line")
-    dated = page.block("border=$(date")
-    for border, wanted in ("1772582400", "2026-03-04T00:00:00Z"), (page.says("9223372036854775807"), "9999-12-31T23:59:59Z"):
-        same(folder.quiet(f"border={border}\n{dated}echo $border\n"), f"{wanted}\n", "a border as a date")
+    first = report.splitlines(True)[:3]
+    folder.write("rides.save", '{"border":1772582399,"cells":[]}')
+    folder.quiet(cut)
+    same(folder.read("report.csv"), "".join(first), "the lines up to a border")
+    for border, at in ("1772582400000", "one too great for a date in seconds"), ("17725824", "2026-03-04T00:00:00.000Z"):
+        folder.write("rides.save", f'{{"border":{border},"cells":[]}}')
+        folder.write("report.csv", report.replace("00Z", "00.000Z") if "Z" in at else report)
+        before = folder.read("report.csv")
+        out, err = folder.call(cut, status=1)
+        same(out + err, "the border is no date of this form\n", f"a border of another unit: {at}")
+        same(folder.read("report.csv"), before, "the report is as it was")
+    folder.write("rides.save", '{"border":1000,"cells":[]}')
+    folder.write("report.csv", "999,tick,9\n1000,tick,10\n1001,tick,11\n10")
+    folder.quiet(cut)
+    same(folder.read("report.csv"), "999,tick,9\n1000,tick,10\n", "a report with times as numbers")
+    folder.write("report.csv", report)
+    folder.quiet("flumina run rides.job --save rides.save > report.csv")
+    same(folder.read("report.csv"), report, "the report once more")
 
 
 def how_far(page, folder):
@@ -301,21 +330,22 @@ def how_far(page, folder):
     form, shown = r"  read (\d+) bytes, (\d+) rows in \d+\.\d s, \d+\.\d MB/s, \d+ rows/s\n", page.block("  read ")
     found = re.fullmatch(form, folder.read("log"))
     need(found and re.fullmatch(form, shown), f"the closing line, {folder.read('log')}")
-    read = sum(len(folder.read(name)) for name in ("rides.job", "north.csv", "south.csv", "days.csv"))
-    lines = sum(folder.read(name).count("\n") for name in ("north.csv", "south.csv", "days.csv"))
+    read = sum(len(folder.read(name)) for name in ("rides.job", "north.csv", "south.csv"))
+    lines = sum(folder.read(name).count("\n") for name in ("north.csv", "south.csv"))
     need(found[1] == re.fullmatch(form, shown)[1] == str(read), f"{read} bytes were read: {folder.read('log')}")
     need(found[2] == re.fullmatch(form, shown)[2] == str(lines), f"{lines} rows were read: {folder.read('log')}")
     same(folder.quiet(page.code("flumina --no-progress fold rides.job")), report, "the same without it")
 
 
 def missing_lines(page, folder):
-    days = (page.code("1772495999,day"), page.code("1772582399,day"), "end")
-    folder.write(page.code("seconds.csv"), "".join(f"{it}\n" for it in days))
-    folder.edit("rides.job", page.code("seconds.job"), (page.code('"days.csv"'), page.code('"seconds.csv"')))
-    out, err = folder.call(page.code("flumina --hints fold seconds.job"))
-    same(out + err, page.block("1772495999,day,longest"), "what is not in a report")
-    folder.edit("seconds.job", page.code("silent.job"), ('; emit "longest ride {longest} minutes"', ""))
-    out, err = folder.call(page.code("flumina --hints fold silent.job"))
+    folder.write(page.code("closing.csv"), f"{page.code('2026-03-02 20:00:00,day')}\nend\n")
+    clock = "clock midnight every 86400: day"
+    folder.edit("rides.job", page.code("days.job"), (clock, page.code('source closing "closing.csv": day')))
+    out, err = folder.call(page.code("flumina --hints fold days.job"))
+    same(out + err, page.block("2026-03-02T20:00:00Z,day,harbour"), "what is not in a report")
+    folder.write("closing.csv", f"{page.code('1772481600,day')}\nend\n")
+    folder.edit("days.job", page.code("milliseconds.job"), ("iso seconds", page.code("iso milliseconds")))
+    out, err = folder.call(page.code("flumina --hints fold milliseconds.job"))
     same(out + err, page.block("  no line was written"), "what is not in an empty report")
 
 
@@ -323,10 +353,10 @@ def refusals(page, folder):
     folder.refused(page.code("flumina flod rides.job"), 2, page.block("flumina: bad words"), terminal=False)
     need("\n  flumina check JOB\n" in folder.call("flumina flod", status=2, terminal=True)[1], "a terminal shows the commands")
 
-    folder.edit("rides.job", "shape.job", (page.code("add rides[key] 1"), page.code("add rides 1")))
+    folder.edit("rides.job", "shape.job", (page.code("add rides[item] 1"), page.code("add rides 1")))
     folder.refused(page.code("flumina fold shape.job"), 3, page.block("flumina: job: wrong shape"))
-    place = folder.quiet(page.code("""head -c 116 shape.job | awk 'END { print NR ": " $0 }'"""))
-    same(place, page.code("7: on ride: add ") + "\n", "the line of a place")
+    place = folder.quiet(page.code("""head -c 268 shape.job | awk 'END { print NR ": " $0 }'"""))
+    same(place, page.code("10: on ride: add ") + "\n", "the line of a place")
     folder.write("cells.job", "".join(f"cell c{n} sum\n" for n in range(65)))
     shown = f"flumina: job: {page.code('over limit families 65')}\n"
     folder.refused("flumina fold cells.job", 3, shown, terminal=False)
@@ -344,20 +374,22 @@ def refusals(page, folder):
     folder.quiet(page.code("flumina plan rides.job"))
 
     command, good = page.code("flumina fold rides.job"), folder.read("north.csv")
-    first, second, third = page.block("flumina: source north").splitlines(True)
-    hint = page.block("  north.csv, line 3")
-    folder.write("north.csv", "when,tag,minutes\n" + good)
+    first, second, third, fourth = page.block("flumina: source north").splitlines(True)
+    hint, rows = page.block("  north.csv, line 2"), good.splitlines(True)
+    folder.write("north.csv", "when,office,station,minutes\n" + good)
     folder.refused(command, 6, first, terminal=False)
-    folder.write("north.csv", good.replace("1772441400001", "1772441400000"))
-    folder.refused(command, 6, second + hint)
-    same(folder.quiet(page.code("sed -n 3p north.csv")), hint.splitlines(True)[1].strip() + "\n", "the row")
+    folder.write("north.csv", good.replace("market", page.code("docks")))
+    folder.refused(command, 6, second, terminal=False)
+    folder.write("north.csv", "".join([rows[1], rows[0], *rows[2:]]))
+    folder.refused(command, 6, third + hint)
+    same(folder.quiet(page.code("sed -n 2p north.csv")), hint.splitlines(True)[1].strip() + "\n", "the row")
     folder.write("north.csv", good.replace("end\n", ""))
-    folder.refused(command, 6, third, terminal=False)
+    folder.refused(command, 6, fourth, terminal=False)
     folder.write("north.csv", good)
 
     folder.refused(page.code("flumina fold guide/rides.job"), 7, page.block("flumina: read fault"), below="..")
     looked = folder.call(page.code("""awk -F'"' '/^source/ { print $2 }' guide/rides.job | xargs ls -l"""), status=123, below="..")
-    need(all(it in looked[1] for it in ("north.csv", "south.csv", "days.csv")), f"the missing files are named\n{looked[1]}")
+    need(all(it in looked[1] for it in ("north.csv", "south.csv")), f"the missing files are named\n{looked[1]}")
 
     folder.refused(page.code("flumina fold rides.job > /dev/full"), 8, page.block("flumina: write fault"))
 
@@ -390,7 +422,7 @@ def refusals(page, folder):
 
 def guide(program):
     page, folder = Page("docs/GUIDE.md"), Folder(program)
-    for part in log_to_report, many_keys, late_and_open, live, instead, steps_and_counts, go_on, how_far, missing_lines, refusals:
+    for part in log_to_report, many_names, late_and_open, live, instead, steps_and_counts, go_on, how_far, missing_lines, refusals:
         part(page, folder)
     page.end()
 
@@ -399,6 +431,7 @@ def examples(program):
     page, folder = Page("examples/README.md"), Folder(program)
     os.symlink(f"{TOP}/examples", f"{folder.at}/examples")
     same(folder.quiet(page.block("for name in")), "", page.says("prints nothing"))
+    same(folder.quiet(page.block("cd examples/rides")), "", "and for the job with names of its own folder")
     page.end()
 
 

@@ -3,7 +3,7 @@
 
     tests/system/parts_changed.py PROGRAM
 
-The partials are those of the nodes `left` and `right` of examples/rides. That of `left` is cut at each byte; each of its bytes is changed to others
+The partials are those of the nodes `left` and `right` of examples/rides-1. That of `left` is cut at each byte; each of its bytes is changed to others
 like it; its lines are swapped, doubled and left out. A text that is refused is status 14 with a line that names its file; each cut is, and each line
 that is doubled or swapped. The last lines say how many texts gave what, and show each change that made another right partial: what the node sent has
 another amount or key then, or one contribution less, which nothing in the text contradicts."""
@@ -14,10 +14,10 @@ from system import Folder, need, program
 
 program()
 folder = Folder()
-rides = os.path.join(os.path.dirname(os.path.abspath(__file__)), "..", "..", "examples", "rides")
+rides = os.path.join(os.path.dirname(os.path.abspath(__file__)), "..", "..", "examples", "rides-1")
 for name in ("rides.job", "rides.plan", "north.csv", "south.csv", "days.csv"):
     with open(os.path.join(rides, name), "rb") as it:
-        folder.write(name, it.read().replace(b"examples/rides/", b""))
+        folder.write(name, it.read().replace(b"examples/rides-1/", b""))
 words = ("rides.job", "rides.plan")
 report = folder.call("fold", "rides.job")[1]
 for node in ("left", "right"):

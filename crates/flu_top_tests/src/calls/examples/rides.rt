@@ -1,4 +1,4 @@
-//! Rides of a bicycle hire. The files are those of `examples/rides`.
+//! Rides of a bicycle hire. The files are those of `examples/rides-1`.
 
 /// The job, its plan in normal form, its sources, the report as worked out by hand, and the job's normal form by the rules of
 /// `docs/LANGUAGE.md`.
@@ -13,23 +13,23 @@ depends ride day
 depends day day
 on ride: add rides[key] 1; raise longest value
 on day: flush rides \"station {key}: {cell} rides\"; emit \"longest ride {longest} minutes\"; clear longest
-source north \"examples/rides/north.csv\": ride[1..2]
-source south \"examples/rides/south.csv\": ride[3]
-source clock \"examples/rides/days.csv\": day
+source north \"examples/rides-1/north.csv\": ride[1..2]
+source south \"examples/rides-1/south.csv\": ride[3]
+source clock \"examples/rides-1/days.csv\": day
 @ P
 node root: day -> left right
 node left: ride@north
 node right: ride@south
-@ examples/rides/north.csv
+@ examples/rides-1/north.csv
 485,ride[1],12
 530,ride[2],34
 545,ride[1],7
 end
-@ examples/rides/south.csv
+@ examples/rides-1/south.csv
 500,ride[3],51
 560,ride[3],18
 end
-@ examples/rides/days.csv
+@ examples/rides-1/days.csv
 1440,day
 end
 @ $ fold J
@@ -51,9 +51,9 @@ depends ride day
 depends day day
 on ride: add rides[key] 1; raise longest value
 on day: flush rides \"station {key}: {cell} rides\"; emit \"longest ride {longest} minutes\"; clear longest
-source north \"examples/rides/north.csv\" rate 1: ride[1..2]
-source south \"examples/rides/south.csv\" rate 1: ride[3]
-source clock \"examples/rides/days.csv\" rate 1: day
+source north \"examples/rides-1/north.csv\" rate 1: ride[1..2]
+source south \"examples/rides-1/south.csv\" rate 1: ride[3]
+source clock \"examples/rides-1/days.csv\" rate 1: day
 @ $ valid J P
 @ = 0
 node root: day -> left right
