@@ -278,6 +278,10 @@ def steps_and_counts(page, folder):
     same(folder.quiet(page.block("printf")), page.code("3,read,count 1") + "\n", "the report of the replay")
     tried = folder.quiet(page.block("head -n 3"))
     same(tried, page.block("arrive 0: "), "what may come next")
+    same(folder.quiet(page.block("flumina plan rides.job > offices.plan")), folder.read("report.csv"), "the report of two partials")
+    refused = "flumina: plan: n0 can't be apart: clock midnight\n"
+    folder.refused("flumina partial rides.job offices.plan n0", 5, refused, terminal=False)
+    page.says("a node that owns a clock can't be apart")
     page.block("flumina run JOB")
     folder.write("a.csv", "".join(page.code(it) + "\n" for it in ("1,inc,1", "2,inc,1", "3,inc,1")) + "end\n")
     folder.write("b.csv", "1,inc,1\n2,inc,1\nend\n")

@@ -10,12 +10,11 @@ use Rattle.flu_model.specs.declared.events.Cell.{Cell}
 use Rattle.flu_model.specs.declared.events.Tag.{Tag}
 use Rattle.flu_model.specs.declared.jobs.Program.{Program}
 use Rattle.flu_model.specs.declared.plans.Node.{Node}
-use Rattle.flu_model.specs.Rules.{is_clock}
 use Rattle.flu_apart.specs.declared.reason.Reason.{Reason}
 use Rattle.flu_apart.specs.declared.reason.Reason.TheVariants.{Clock, Shared}
 use Rattle.flu_apart.specs.declared.reason.SharedUse.{SharedUse}
 use Rattle.flu_apart.specs.Apart.{MayBeApart, IsFirstUse, IsFirstReason}
-use Rattle.flu_apart.proofs.ClockLemmas.{one_passes}
+use Rattle.flu_apart.proofs.ClockLemmas.{some_or_none, no_first}
 use Rattle.flu_apart.proofs.SearchLemmas.{no_use}
 
 -- two numbers of which neither is the lesser
@@ -73,11 +72,11 @@ one_reason p nodes w (Clock m) (Clock n) one other =
     let found : Some m ≡ Some n = sym one ∙ other in
     let same : m ≡ n = cc in
     ap (λ (k : ℕ). let r : Reason = Clock k in r) same
-one_reason p nodes w (Clock m) (Shared s) one other = absurd (one_passes is_clock p.sources m one other.0)
-one_reason p nodes w (Shared r) (Clock n) one other = absurd (one_passes is_clock p.sources n other one.0)
+one_reason p nodes w (Clock m) (Shared s) one other = absurd (some_or_none m (sym one ∙ other.0))
+one_reason p nodes w (Shared r) (Clock n) one other = absurd (some_or_none n (sym other ∙ one.0))
 one_reason p nodes w (Shared r) (Shared s) one other =
     ap (λ (u : SharedUse). let reason : Reason = Shared u in reason) (one_use p nodes w r s one.1 other.1)
 
 pub no_reason : (p : Program) (nodes : List Node) (w : ℕ) (r : Reason) → MayBeApart p nodes w → IsFirstReason p nodes w r → ⊥
-no_reason p nodes w (Clock number) may is = one_passes is_clock p.sources number is may.no_clock
+no_reason p nodes w (Clock number) may is = some_or_none number (sym is ∙ no_first p nodes w may.no_clock)
 no_reason p nodes w (Shared u) may is = no_use p nodes w u.tag u.cell is.1.shared may.shares_none

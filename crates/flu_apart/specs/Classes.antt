@@ -1,15 +1,17 @@
 -- CLASSES: how the subtree of a node, and what is outside it, use a cell.
-use Rattle.std.specs.Prelude.{ℕ, Bool, not, ◌&&◌, List, if◌then◌else◌}
+use Rattle.std.specs.Prelude.{ℕ, Bool, false, not, ◌&&◌, List, slice_get, if◌then◌else◌}
 use Rattle.std.specs.List.{list_any, range_with_len}
+use Rattle.std.specs.Option.{option_map_or}
 use Rattle.flu_model.specs.declared.events.Cell.{Cell}
 use Rattle.flu_model.specs.declared.events.Itag.{Itag}
 use Rattle.flu_model.specs.declared.events.Tag.{Tag}
 use Rattle.flu_model.specs.declared.jobs.Program.{Program}
 use Rattle.flu_model.specs.declared.modes.Mode.{Mode}
 use Rattle.flu_model.specs.declared.plans.Node.{Node}
-use Rattle.flu_model.specs.Itags.{count_of_itags, tag_of_itag}
+use Rattle.flu_model.specs.Itags.{count_of_itags, source_of_itag, tag_of_itag}
 use Rattle.flu_model.specs.Modes.{mode_of, uses}
 use Rattle.flu_model.specs.Owners.{subtree_owns}
+use Rattle.flu_model.specs.Rules.{is_clock}
 use Rattle.flu_laws.specs.Uses.{needs}
 use Rattle.flu_apart.specs.declared.classes.Class.{Class}
 use Rattle.flu_apart.specs.declared.classes.Class.TheVariants.{Unused, Kept, Contributed, Shared}
@@ -31,6 +33,10 @@ inside p nodes w i = subtree_owns p nodes w (itag i)
 
 abbrev pub outside : Program → List Node → ℕ → ℕ → Bool
 outside p nodes w i = not (inside p nodes w i)
+
+-- whether the events of an itag are ticks: its source is a clock
+abbrev pub has_ticks : Program → ℕ → Bool
+has_ticks p i = option_map_or is_clock (slice_get p.sources (source_of_itag p (itag i))) false
 
 -- ---- what they do to a cell
 

@@ -1,6 +1,5 @@
 -- What the events of a node's subtree and the events outside it do to the cells of each class.
 use Rattle.std.specs.Prelude.{◌≡◌, ◌≢◌, ◌⊎◌, ℕ, ◌<◌, true, false, List}
-use Rattle.std.specs.List.{list_any}
 use Rattle.flu_model.specs.declared.events.Cell.{Cell}
 use Rattle.flu_model.specs.declared.events.Event.{Event}
 use Rattle.flu_model.specs.declared.jobs.Program.{Program}
@@ -10,7 +9,6 @@ use Rattle.flu_model.specs.declared.plans.Node.{Node}
 use Rattle.flu_model.specs.Contents.{Contents, joined_worth}
 use Rattle.flu_model.specs.Itags.{count_of_itags}
 use Rattle.flu_model.specs.Modes.{uses}
-use Rattle.flu_model.specs.Rules.{is_clock}
 use Rattle.flu_model.specs.Sorts.{IsStateOf}
 use Rattle.flu_model.specs.Updates.{effect_of}
 use Rattle.flu_laws.specs.Changes.{change_of}
@@ -52,10 +50,6 @@ pub record LeavesKept (p : Program) (nodes : List Node) (w : ℕ) : Type 0 where
   pub texts : (s t : Contents) (x : Event) → IsOutside p nodes w x → AgreeOnOthers p nodes w s t → (effect_of p s x).texts ≡ (effect_of p t x).texts
   pub changes : (s t : Contents) (x : Event) (c : Cell) → IsOutside p nodes w x → AgreeOnOthers p nodes w s t
       → change_of p s x c ≡ change_of p t x c
-
--- NO CLOCKS: where a node may be apart no source of the job is a clock
-abbrev pub ApartWithoutClocks : Type 0
-ApartWithoutClocks = (p : Program) (nodes : List Node) (w : ℕ) → MayBeApart p nodes w → list_any is_clock p.sources ≡ false
 
 -- ONE REASON: there is one first reason why a node may not be apart, and none where it may be
 pub record HasOneReason (p : Program) (nodes : List Node) (w : ℕ) : Type 0 where

@@ -7,11 +7,11 @@ ghost use Rattle.flu_model.specs.Modes as modes;
 ghost use Rattle.flu_deps.specs.Checking.{program_of};
 ghost use Rattle.flu_deps.specs.Validated.{plan_of, IsValidFor};
 ghost use Rattle.flu_laws.specs.Uses as uses;
-ghost use Rattle.flu_apart.specs.Classes.{inside, outside, mode_at, tag_at};
+ghost use Rattle.flu_apart.specs.Classes.{inside, outside, mode_at, tag_at, has_ticks};
 
 use flu_deps::nodes::{MAX_ITAGS, is_within};
 use flu_deps::{Checked, Valid, mode};
-use flu_model::{Cell, Itag, Mode, Program, Tag, itag_count, tag_of};
+use flu_model::{Cell, Itag, Mode, Program, Tag, itag_count, source_of, tag_of};
 
 /// How the subtree of a node uses a cell, and whether others do.
 #[derive(Clone, Copy, PartialEq, Eq, Debug)]
@@ -89,8 +89,8 @@ impl<'a> Subtree<'a> {
         self.tags[i as usize]
     }
 
-    // Whether an itag is of the subtree.
-    fn has(&self, i: u32) -> bool
+    /// Whether an itag is of the subtree.
+    pub(crate) fn has(&self, i: u32) -> bool
         requires subtree { IsSubtree self.now }
         requires in_range { i < count_of_itags (job self.now) }
         ensures { result ≡ inside (job self.now) (nodes self.now) (node self.now) i }
@@ -158,6 +158,14 @@ impl<'a> Subtree<'a> {
         }
         true
     }
+}
+
+/// Whether the events of an itag are ticks: its source is a clock.
+pub fn has_ticks(p: &Program, i: Itag) -> bool
+    requires { i.0 < count_of_itags p.now }
+    ensures { result ≡ has_ticks p.now i.0 }
+{
+    p.sources.items()[source_of(p, i) as usize].every.is_some()
 }
 
 // The tag of each itag, by the itags' numbers.

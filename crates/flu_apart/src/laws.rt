@@ -1,11 +1,6 @@
 //! Laws of the subtrees of nodes, on which running them apart rests. Each law is the contract of a function that does nothing.
 
-ghost use Rattle.flu_apart.specs.Laws.{ApartWithoutClocks, ReasonsAreOne, ContributedInOneMode, SubtreesContribute, KeptIsLeft};
-
-/// Where a node may be apart, each source of the job has a file: none is a clock.
-pub fn apart_without_clocks()
-    ensures { ApartWithoutClocks }
-{}
+ghost use Rattle.flu_apart.specs.Laws.{ReasonsAreOne, ContributedInOneMode, SubtreesContribute, KeptIsLeft};
 
 /// A node has one first reason why it may not be apart, and none if it may.
 pub fn reasons_are_one()

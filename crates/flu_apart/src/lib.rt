@@ -1,5 +1,5 @@
-//! Which nodes of a valid plan may be apart: those whose subtree only contributes to the cells that others use (`docs/SCALE.md`). None of a
-//! job with clocks may.
+//! Which nodes of a valid plan may be apart: those whose subtree only contributes to the cells that others use, and has no itag of a clock
+//! (`docs/SCALE.md`).
 #![tactic(auto)]
 
 ghost use Rattle.std.specs.Prelude.{◌↔◌, ◌<◌, IsOk, IfErr, length};
@@ -12,19 +12,19 @@ pub mod laws;
 mod reason;
 mod search;
 
-pub use classes::{Class, Subtree};
+pub use classes::{Class, Subtree, has_ticks};
 pub use flu_deps::{Checked, Valid};
 pub use reason::{Reason, SharedUse};
 use search::first_reason;
 
-/// Whether a node of a plan may be apart: the job has no clock, and each cell that a tag of the node's subtree uses is used by all tags
+/// Whether a node of a plan may be apart: the node's subtree has no itag of a clock, and each cell that a tag of it uses is used by all tags
 /// of the subtree that use it in the mode Add or Raise, or is used by no tag of an itag outside the subtree. A family that is meant whole,
 /// by an event's item or by `flush` or `clear`, is all its cells.
 ///
 /// # Errors
 ///
-/// The first clock of the job, as declared; where there is none, the first tag of the subtree that uses a cell which is neither, with the
-/// first such cell: tags are in order of their kinds as declared and then their keys, cells of their families and then their keys.
+/// The first clock, as declared, whose itag the subtree has; where there is none, the first tag of the subtree that uses a cell which is neither,
+/// with the first such cell: tags are in order of their kinds as declared and then their keys, cells of their families and then their keys.
 ///
 /// It takes no memory. Its time is the number of cells that the actions of the itags' tags name, times the number of itags, times the
 /// time of `mode` of `flu_deps`.

@@ -12,8 +12,8 @@ pub struct SharedUse {
 /// Why a node can't be apart.
 #[derive(Clone, Copy, PartialEq, Eq, Debug)]
 pub enum Reason {
-    /// The job has a clock: the number of the first one among its sources. Its ticks stand behind the rows of all files, which no node
-    /// that is apart reads.
+    /// The subtree has the itag of a clock: the number of the first such clock among the job's sources. Its ticks follow the rows of all files,
+    /// of which a node that is apart reads only some.
     Clock(u32),
     /// A tag of the node's subtree uses a cell that is shared.
     Shared(SharedUse),

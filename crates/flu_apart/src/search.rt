@@ -1,22 +1,22 @@
-//! The first reason why a node may not be apart: the first clock of the job, or the first shared use.
+//! The first reason why a node may not be apart: the first clock whose itag its subtree has, or the first shared use.
 
-ghost use Rattle.std.specs.Prelude.{◌≡◌, ◌<◌, IfSome, IfNone, ◌&&◌, None, length};
-ghost use Rattle.std.specs.List.{position};
+ghost use Rattle.std.specs.Prelude.{◌≡◌, ◌<◌, IfSome, IfNone, ◌&&◌, None};
 ghost use Rattle.flu_model.specs.Itags.{count_of_itags};
 ghost use Rattle.flu_model.specs.Contents.{cell};
-ghost use Rattle.flu_model.specs.Rules.{is_clock};
 ghost use Rattle.flu_deps.specs.Checking.{program_of};
 ghost use Rattle.flu_deps.specs.Validated.{plan_of, IsValidFor};
 ghost use Rattle.flu_deps.specs.LoopNamed.{expr_cells, guard_cells, piece_cells, pieces_cells, act_cells, action_cells, actions_cells};
-ghost use Rattle.flu_apart.specs.Apart.{SharesNone, MayBeApart, IsFirstUse, IsFirstReason};
+ghost use Rattle.flu_apart.specs.Apart.{SharesNone, MayBeApart, first_clock, IsFirstUse, IsFirstReason};
 ghost use Rattle.flu_apart.specs.Classes.{class_of};
 ghost use Rattle.flu_apart.specs.LoopSearch as search;
 ghost use Rattle.flu_apart.specs.Subtrees.{job, nodes, node, IsSubtree};
 
-use crate::classes::{Class, Subtree};
+use crate::classes::{Class, Subtree, has_ticks};
 use crate::reason::{Reason, SharedUse};
 use flu_deps::{Checked, Valid};
-use flu_model::{Act, Action, Cell, Expr, Piece, Program, actions_of, cell_of, itag_count};
+use flu_model::{
+    Act, Action, Cell, Expr, Itag, Piece, Program, actions_of, cell_of, itag_count, source_of,
+};
 
 /// The first reason why a node of a plan may not be apart; none if it may.
 pub fn first_reason(c: &Checked, v: &Valid, w: u32) -> Option<Reason>
@@ -25,34 +25,27 @@ pub fn first_reason(c: &Checked, v: &Valid, w: u32) -> Option<Reason>
     ensures some { IfSome result (λ r. MayBeApart (program_of c.now) (plan_of v.now).nodes w → ⊥) }
     ensures none { IfNone result (MayBeApart (program_of c.now) (plan_of v.now).nodes w) }
 {
-    match first_clock(c.program()) {
-        Some(number) => Some(Reason::Clock(number as u32)),
-        None => match first_use(c, v, w) {
+    let subtree = Subtree::of(c, v, w);
+    match first_clock(&subtree) {
+        Some(number) => Some(Reason::Clock(number)),
+        None => match first_of(&subtree) {
             Some(shared) => Some(Reason::Shared(shared)),
             None => None,
         },
     }
 }
 
-// The first source of a job that is a clock.
-fn first_clock(p: &Program) -> Option<usize>
-    ensures first { result ≡ position is_clock p.now.sources }
-    ensures within { IfSome result (λ number. number < length p.now.sources) }
+// The number of the first clock whose itag a subtree has.
+fn first_clock(s: &Subtree) -> Option<u32>
+    requires { IsSubtree s.now }
+    ensures { result ≡ first_clock (job s.now) (nodes s.now) (node s.now) }
 {
-    p.sources
-        .items()
-        .iter()
-        .position(|source| source.every.is_some())
-}
-
-// The first shared use of the subtree of a node.
-fn first_use(c: &Checked, v: &Valid, w: u32) -> Option<SharedUse>
-    requires { IsValidFor (program_of c.now) v.now }
-    ensures first { IfSome result (λ u. IsFirstUse (program_of c.now) (plan_of v.now).nodes w u.tag u.cell) }
-    ensures none { IfNone result (SharesNone (program_of c.now) (plan_of v.now).nodes w) }
-{
-    let subtree = Subtree::of(c, v, w);
-    first_of(&subtree)
+    for i in 0..itag_count(s.program) {
+        if s.has(i) && has_ticks(s.program, Itag(i)) {
+            return Some(source_of(s.program, Itag(i)));
+        }
+    }
+    None
 }
 
 // The first shared use of a subtree.

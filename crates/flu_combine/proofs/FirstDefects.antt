@@ -20,7 +20,7 @@ use Rattle.flu_model.specs.Owners.{climb, parent_of, is_within, are_related}
 use Rattle.flu_outside.specs.Outside.{Contents}
 use Rattle.flu_outside.specs.Taking.{bytes_left}
 use Rattle.flu_apart.specs.declared.reason.Reason.{Reason}
-use Rattle.flu_apart.specs.Apart.{IsFirstReason}
+use Rattle.flu_apart.specs.Apart.{MayBeApart, IsFirstReason}
 use Rattle.flu_apart.specs.Laws.{ReasonsAreOne}
 use Rattle.flu_contribution.specs.Contributions.{Contribution}
 use Rattle.flu_contribution.specs.Laws.{IsApart, NoneIsWithin}
@@ -38,19 +38,20 @@ use Rattle.flu_receiving.specs.declared.receiving.Received.{Received}
 use Rattle.flu_contribution.specs.declared.contributing.Handed.{Handed}
 use Rattle.flu_receiving.specs.Faults.{IsFirstFault}
 use Rattle.flu_receiving.specs.Laws.{BytesHaveOneFault, FaultyBytesAreNotWhole, PartialsHaveOneText}
-use Rattle.flu_receiving.specs.Receiving.{IsRead, IsSendableLine, IsSentBy}
+use Rattle.flu_receiving.specs.Receiving.{last_of, IsRead, IsSendableLine, IsSentBy}
 use Rattle.flu_joining.specs.Joining.{is_last_alone, are_used_up, nothing_joined, waiting_behind}
 use Rattle.flu_joining.specs.Laws.{AlikeQueuesJoinAlike, AreQueuesAlike}
 use Rattle.flu_combine.specs.declared.fault.PartialDefect.{PartialDefect}
-use Rattle.flu_combine.specs.declared.fault.PartialDefect.TheVariants.{TooLong, Text, OtherJob, OtherPlan, UnknownNode, NotApart, Twice, Within, LeftOver}
+use Rattle.flu_combine.specs.declared.fault.PartialDefect.TheVariants.{TooLong, Text, OtherJob, OtherPlan, UnknownNode, NotApart, Twice, Within, WrongTimes}
+use Rattle.flu_combine.specs.declared.fault.PartialDefect.TheVariants.{LeftOver}
 use Rattle.flu_combine.specs.Combined.{AreAccepted, events_of_rest}
 use Rattle.flu_combine.specs.Faults.{IsFirstDefect, IsFirstLeftOver, IsFaultOfPartial}
 use Rattle.flu_combine.specs.Laws.{FirstDefectIsOne}
 use Rattle.flu_combine.specs.Names.{bytes_behind}
-use Rattle.flu_combine.specs.Partials.{most_bytes, node_named, AreNested, ArePartials, IsOfJob, IsOfPlan, IsOfNode, IsPartialOf, IsFirstRelated, IsDefectOfNode}
-use Rattle.flu_combine.specs.Partials.{IsDefectOfHead, IsDefect}
-use Rattle.flu_combine.proofs.Judging.{related_there}
-use Rattle.flu_combine.proofs.Lawful.{one_alike, all_alike}
+use Rattle.flu_combine.specs.Partials.{most_bytes, node_named, times_fit, AreNested, ArePartials, AreWrongTimes, IsOfJob, IsOfPlan, IsOfNode, IsPartialOf}
+use Rattle.flu_combine.specs.Partials.{TellsRows, AllTellRows, IsFirstRelated, IsDefectOfNode, IsDefectOfHead, IsDefect}
+use Rattle.flu_combine.proofs.Judging.{related_there, none_related}
+use Rattle.flu_combine.proofs.Lawful.{one_alike, all_alike, all_tell_alike}
 
 -- ---- defects, by what they are found by
 
@@ -72,6 +73,7 @@ data Found (p : Program) (nodes : List Node) (ws bytes : List ℕ) (d : PartialD
   for_length : most_bytes < length bytes → d ≡ TooLong → Found p nodes ws bytes d
   for_text : length bytes ≤ most_bytes → (f : PartialFault) → IsFirstFault p bytes f → d ≡ Text f → Found p nodes ws bytes d
   for_head : length bytes ≤ most_bytes → (r : Received) → IsRead p bytes r → HeadFound p nodes ws r.head d → Found p nodes ws bytes d
+  for_times : length bytes ≤ most_bytes → (r : Received) → IsRead p bytes r → AreWrongTimes p nodes ws r → d ≡ WrongTimes → Found p nodes ws bytes d
 
 same_test : (m n : ℕ) → m ≡ n → (m == n) ≡ true
 same_test m n e = grind arith
@@ -104,6 +106,7 @@ module _ (p : Program) (nodes : List Node) (ws : List ℕ) where
   node_found w (NotApart u r) is = for_reason r is.1 (ap (λ (n : ℕ). let d : PartialDefect = NotApart n r in d) is.0)
   node_found w (Twice u) is = for_related is.1.0 is.1.1 (twice_beside nodes (get_or ws is.1.0 0) u w is.0 is.1.2)
   node_found w (Within u v) is = for_related is.0 is.1 (nested_beside nodes (get_or ws is.0 0) w u v is.2 is.3)
+  node_found w WrongTimes is = absurd is
   node_found w LeftOver is = absurd is
 
   head_found : (h : PartialHead) (d : PartialDefect) → IsDefectOfHead p nodes ws h d → HeadFound p nodes ws h d
@@ -115,6 +118,7 @@ module _ (p : Program) (nodes : List Node) (ws : List ℕ) where
   head_found h (NotApart u r) is = for_node is.0 is.1 (node_found is.0 (NotApart u r) is.2)
   head_found h (Twice u) is = for_node is.0 is.1 (node_found is.0 (Twice u) is.2)
   head_found h (Within u v) is = for_node is.0 is.1 (node_found is.0 (Within u v) is.2)
+  head_found h WrongTimes is = absurd is.2
   head_found h LeftOver is = absurd is.2
 
   found : (bytes : List ℕ) (d : PartialDefect) → IsDefect p nodes ws bytes d → Found p nodes ws bytes d
@@ -126,6 +130,7 @@ module _ (p : Program) (nodes : List Node) (ws : List ℕ) where
   found bytes (NotApart u r) is = for_head is.0 is.1.0 is.1.1 (head_found is.1.0.head (NotApart u r) is.1.2)
   found bytes (Twice u) is = for_head is.0 is.1.0 is.1.1 (head_found is.1.0.head (Twice u) is.1.2)
   found bytes (Within u v) is = for_head is.0 is.1.0 is.1.1 (head_found is.1.0.head (Within u v) is.1.2)
+  found bytes WrongTimes is = for_times is.0 is.1.0 is.1.1 is.1.2 refl
   found bytes LeftOver is = for_head is.0 is.1.0 is.1.1 (head_found is.1.0.head LeftOver is.1.2)
 
 module _ (reasons : ReasonsAreOne) (p : Program) (nodes : List Node) (ws : List ℕ) where
@@ -163,6 +168,37 @@ module _ (reasons : ReasonsAreOne) (p : Program) (nodes : List Node) (ws : List 
       let same : v ≡ w = cc in
       one_of_node w d e (subst (λ (u : ℕ). NodeFound p nodes ws u d) same is) too
 
+  -- ---- of a node that may be apart beside those there is none
+  apart_at : (us : List ℕ) (w place d : ℕ) → AllByRecursion (λ u. AreApart nodes u w) us → place < length us → AreApart nodes (get_or us place d) w
+  apart_at [] w place d all lt = absurd (omega arith)
+  apart_at (u ∷ us) w zero d all lt = all.0
+  apart_at (u ∷ us) w (suc place) d all lt = apart_at us w place d all.1 (omega arith)
+
+  not_related : (u w : ℕ) → AreApart nodes u w → are_related nodes u w ≡ true → ⊥
+  not_related u w apart related = false≢true (sym (ap (λ (b : Bool). b || is_within nodes w u) apart.0 ∙ apart.1) ∙ related)
+
+  apart_node : (w : ℕ) (d : PartialDefect) → MayBeApart p nodes w → AllByRecursion (λ u. AreApart nodes u w) ws → NodeFound p nodes ws w d → ⊥
+  apart_node w d may all (for_reason r first is) = (reasons p nodes w).none r may first
+  apart_node w d may all (for_related place related is) =
+      not_related (get_or ws place 0) w (apart_at ws w place 0 all (position_below (λ u. are_related nodes u w) ws place related.first))
+      (related_there nodes w ws place 0 related.first)
+
+  apart_head : (h : PartialHead) (w : ℕ) (d : PartialDefect) → IsOfNode p nodes h w → MayBeApart p nodes w → AllByRecursion (λ u. AreApart nodes u w) ws
+      → HeadFound p nodes ws h d → ⊥
+  apart_head h w d of_node may all (for_job wrong is) = wrong of_node.plan.job
+  apart_head h w d of_node may all (for_plan job wrong is) = wrong of_node.plan.plan
+  apart_head h w d of_node may all (for_unknown plan none is) = let bad : None ≡ Some w = sym none ∙ of_node.node in cc
+  apart_head h w d of_node may all (for_node v other is) =
+      let somes : Some v ≡ Some w = sym other.node ∙ of_node.node in
+      let same : v ≡ w = cc in
+      apart_node w d may all (subst (λ (u : ℕ). NodeFound p nodes ws u d) same is)
+
+  -- so of one whose times alone are wrong
+  not_both : (h : PartialHead) (r : Received) (d : PartialDefect) → h ≡ r.head → AreWrongTimes p nodes ws r → HeadFound p nodes ws h d → ⊥
+  not_both h r d same times is =
+      apart_head r.head times.node d times.of_node times.may (none_related nodes times.node ws times.unrelated)
+      (subst (λ (g : PartialHead). HeadFound p nodes ws g d) same is)
+
 -- lines by which something was sent
 sendable : (p : Program) (cs : List partial.Contribution) (hs : List Handed) → Pairs (IsSentBy p) cs hs → AllByRecursion (IsSendableLine p) cs
 sendable p [] hs pairs = tt
@@ -192,40 +228,32 @@ module _ (reasons : ReasonsAreOne) (one_fault : BytesHaveOneFault) (not_whole : 
   one_defect ws bytes d e (for_head few r read is) (for_head again s other too) =
       let same = one_text bytes r.head s.head read.0 other.0 read.1 other.1 in
       one_of_head reasons p nodes ws s.head d e (subst (λ (h : PartialHead). HeadFound p nodes ws h d) same.0 is) too
+  one_defect ws bytes d e (for_length long is) (for_times few r read times too) = absurd (omega (arith, long, few))
+  one_defect ws bytes d e (for_text few f fault is) (for_times again r read times too) = absurd (not_read bytes f r fault read)
+  one_defect ws bytes d e (for_head few r read is) (for_times again s other times too) =
+      absurd (not_both reasons p nodes ws r.head s d (one_text bytes r.head s.head read.0 other.0 read.1 other.1).0 times is)
+  one_defect ws bytes d e (for_times few r read times is) (for_length long too) = absurd (omega (arith, long, few))
+  one_defect ws bytes d e (for_times few r read times is) (for_text again f fault too) = absurd (not_read bytes f r fault read)
+  one_defect ws bytes d e (for_times few r read times is) (for_head again s other too) =
+      absurd (not_both reasons p nodes ws s.head r e (one_text bytes s.head r.head other.0 read.0 other.1 read.1).0 times too)
+  one_defect ws bytes d e (for_times few r read times is) (for_times again s other wrong too) = is ∙ sym too
 
   -- ---- what is accepted has none
-  apart_at : (ws : List ℕ) (w place d : ℕ) → AllByRecursion (λ u. AreApart nodes u w) ws → place < length ws → AreApart nodes (get_or ws place d) w
-  apart_at [] w place d all lt = absurd (omega arith)
-  apart_at (u ∷ us) w zero d all lt = all.0
-  apart_at (u ∷ us) w (suc place) d all lt = apart_at us w place d all.1 (omega arith)
-
-  not_related : (u w : ℕ) → AreApart nodes u w → are_related nodes u w ≡ true → ⊥
-  not_related u w apart related = false≢true (sym (ap (λ (b : Bool). b || is_within nodes w u) apart.0 ∙ apart.1) ∙ related)
-
-  accepted_node : (ws : List ℕ) (w : ℕ) (d : PartialDefect) → IsApart p nodes w → AllByRecursion (λ u. AreApart nodes u w) ws → NodeFound p nodes ws w d → ⊥
-  accepted_node ws w d apart all (for_reason r first is) = (reasons p nodes w).none r apart.may first
-  accepted_node ws w d apart all (for_related place related is) =
-      not_related (get_or ws place 0) w (apart_at ws w place 0 all (position_below (λ u. are_related nodes u w) ws place related.first))
-      (related_there nodes w ws place 0 related.first)
-
-  accepted_head : (ws : List ℕ) (h : PartialHead) (w : ℕ) (d : PartialDefect) → IsOfNode p nodes h w → IsApart p nodes w
-      → AllByRecursion (λ u. AreApart nodes u w) ws → HeadFound p nodes ws h d → ⊥
-  accepted_head ws h w d of_node apart all (for_job wrong is) = wrong of_node.plan.job
-  accepted_head ws h w d of_node apart all (for_plan job wrong is) = wrong of_node.plan.plan
-  accepted_head ws h w d of_node apart all (for_unknown plan none is) = let bad : None ≡ Some w = sym none ∙ of_node.node in cc
-  accepted_head ws h w d of_node apart all (for_node v other is) =
-      let somes : Some v ≡ Some w = sym other.node ∙ of_node.node in
-      let same : v ≡ w = cc in
-      accepted_node ws w d apart all (subst (λ (u : ℕ). NodeFound p nodes ws u d) same is)
-
-  accepted_bytes : (ws bytes : List ℕ) (w : ℕ) (sent : List Contribution) (d : PartialDefect) → IsPartialOf p nodes bytes w sent → IsApart p nodes w
-      → AllByRecursion (λ u. AreApart nodes u w) ws → Found p nodes ws bytes d → ⊥
-  accepted_bytes ws bytes w sent d one apart all (for_length long is) = omega (arith, long, one.few)
-  accepted_bytes ws bytes w sent d one apart all (for_text few f fault is) =
+  accepted_bytes : (ws bytes : List ℕ) (w : ℕ) (sent : List Contribution) (rows : List ℕ) (d : PartialDefect) → IsPartialOf p nodes bytes w sent
+      → TellsRows p bytes rows → MayBeApart p nodes w → AllByRecursion (λ u. AreApart nodes u w) ws → Found p nodes ws bytes d → ⊥
+  accepted_bytes ws bytes w sent rows d one tells may all (for_length long is) = omega (arith, long, one.few)
+  accepted_bytes ws bytes w sent rows d one tells may all (for_text few f fault is) =
       not_whole p bytes f one.head one.lines fault one.whole (said_sendable p one.lines sent one.said)
-  accepted_bytes ws bytes w sent d one apart all (for_head few r read is) =
+  accepted_bytes ws bytes w sent rows d one tells may all (for_head few r read is) =
       let same = one_text bytes r.head one.head read.0 one.lines read.1 one.whole in
-      accepted_head ws one.head w d one.of_node apart all (subst (λ (h : PartialHead). HeadFound p nodes ws h d) same.0 is)
+      apart_head reasons p nodes ws one.head w d one.of_node may all (subst (λ (h : PartialHead). HeadFound p nodes ws h d) same.0 is)
+  accepted_bytes ws bytes w sent rows d one tells may all (for_times few r read times is) =
+      let same = one_text bytes r.head tells.head read.0 tells.lines read.1 tells.whole in
+      false≢true (sym times.wrong
+      ∙ ap (times_fit p r.head.first) read.2.last
+      ∙ ap (λ (h : PartialHead). times_fit p h.first (last_of read.0)) same.0
+      ∙ ap (λ (cs : List partial.Contribution). times_fit p tells.head.first (last_of cs)) same.1
+      ∙ tells.fit)
 
 -- ---- lists that are accepted
 within_itself : (nodes : List Node) (v : ℕ) → v < length nodes → is_within nodes v v ≡ true
@@ -243,6 +271,13 @@ record IsPlaced (p : Program) (nodes : List Node) (left : Contents) (names : Lis
   split : ws ≡ front ++ node ∷ behind
   earlier : ArePartials p nodes left (take k names) front queues
   here : IsPartialOf p nodes (bytes_left left (get_or names k [])) node sent
+
+-- what the partial at one place tells of its rows
+tells_at : (p : Program) (left : Contents) (names : List (List ℕ)) (told : List ℕ) (k : ℕ) → k < length names → AllTellRows p left names told
+    → (rows : List ℕ) × TellsRows p (bytes_left left (get_or names k [])) rows
+tells_at p left [] told k lt these = absurd (omega arith)
+tells_at p left (name ∷ names) told zero lt these = (these.0, these.2)
+tells_at p left (name ∷ names) told (suc k) lt these = tells_at p left names these.1 k (omega arith) these.3
 
 push_front : (w : ℕ) (ws front behind : List ℕ) (v : ℕ) → ws ≡ front ++ v ∷ behind → w ∷ ws ≡ (w ∷ front) ++ v ∷ behind
 push_front w ws front behind v same = ap (λ (us : List ℕ). w ∷ us) same
@@ -306,9 +341,9 @@ module _ (one_text : PartialsHaveOneText) (determine : LinesDetermine) (p : Prog
 module _ (reasons : ReasonsAreOne) (one_fault : BytesHaveOneFault) (not_whole : FaultyBytesAreNotWhole) (one_text : PartialsHaveOneText)
     (determine : LinesDetermine) (p : Program) (nodes : List Node) (names : List (List ℕ)) (left : Contents) where
   -- the first defect of a list is none of an accepted one that has its place
-  pub not_accepted : (a b : ℕ) (d : PartialDefect) (ws : List ℕ) (queues : List (List Contribution)) → a < b → b ≤ length names
-      → IsFirstDefect p nodes names left a d → AreAccepted p nodes left (take b names) ws queues → ⊥
-  not_accepted a b d ws queues lt le first accepted =
+  pub not_accepted : (a b : ℕ) (d : PartialDefect) (ws : List ℕ) (queues : List (List Contribution)) (told : List ℕ) → a < b → b ≤ length names
+      → IsFirstDefect p nodes names left a d → AreAccepted p nodes left (take b names) ws queues told → ⊥
+  not_accepted a b d ws queues told lt le first accepted =
       let size : length (take b names) ≡ b = length-take-le b names le in
       let at = placed p nodes left (take b names) ws queues a (omega (arith, lt, size)) accepted.partials in
       let earlier : ArePartials p nodes left (take a names) at.front at.queues =
@@ -316,6 +351,9 @@ module _ (reasons : ReasonsAreOne) (one_fault : BytesHaveOneFault) (not_whole : 
       let name = get_or names a [] in
       let here : IsPartialOf p nodes (bytes_left left name) at.node at.sent =
       subst (λ (n : List ℕ). IsPartialOf p nodes (bytes_left left n) at.node at.sent) (get_or-take b names a [] lt) at.here in
+      let rows = tells_at p left (take b names) told a (omega (arith, lt, size)) accepted.tell in
+      let tells : TellsRows p (bytes_left left name) rows.0 =
+      subst (λ (n : List ℕ). TellsRows p (bytes_left left n) rows.0) (get_or-take b names a [] lt) rows.1 in
       let apart = all_at_front one_text determine p nodes left (IsApart p nodes) at.front at.node at.behind ws at.split accepted.apart.each in
       let beside_all = apart_front nodes at.front at.node at.behind (subst (NoneIsWithin nodes) at.split accepted.apart.none_within) in
       let new = not_among one_text determine p nodes left (take a names) at.front at.queues name at.node at.sent earlier apart.there beside_all here in
@@ -323,7 +361,7 @@ module _ (reasons : ReasonsAreOne) (one_fault : BytesHaveOneFault) (not_whole : 
       let bytes : bytes_behind (take a names) left name ≡ bytes_left left name = ap (λ (b : Bool). unwrap_or (cond b (Some []) (left name)) []) new in
       let has = subst (λ (bs : List ℕ). IsDefect p nodes at.front bs d) bytes
       (subst (λ (vs : List ℕ). IsDefect p nodes vs (bytes_behind (take a names) left name) d) same_nodes first.has) in
-      accepted_bytes reasons one_fault not_whole one_text p nodes at.front (bytes_left left name) at.node at.sent d here apart beside_all
+      accepted_bytes reasons one_fault not_whole one_text p nodes at.front (bytes_left left name) at.node at.sent rows.0 d here tells apart.may beside_all
       (found p nodes at.front (bytes_left left name) d has)
     where
       take_less : (a b : ℕ) (xs : List (List ℕ)) → a < b → take a (take b xs) ≡ take a xs
@@ -391,20 +429,20 @@ first_is_one reasons one_fault not_whole one_text determine join p nodes names l
   where
     apart_left : (a : ℕ) (c : PartialDefect) (place : ℕ) → IsFirstDefect p nodes names left a c → IsFirstLeftOver p nodes names left place → ⊥
     apart_left a c place one left_over =
-        not_accepted reasons one_fault not_whole one_text determine p nodes names left a (length names) c left_over.ws left_over.queues one.there
+        not_accepted reasons one_fault not_whole one_text determine p nodes names left a (length names) c left_over.ws left_over.queues left_over.told one.there
         (omega arith) one
-        (subst (λ (ns : List (List ℕ)). AreAccepted p nodes left ns left_over.ws left_over.queues) (sym (take-length names)) left_over.accepted)
+        (subst (λ (ns : List (List ℕ)). AreAccepted p nodes left ns left_over.ws left_over.queues left_over.told) (sym (take-length names)) left_over.accepted)
 
     defects : IsFirstDefect p nodes names left a d → IsFirstDefect p nodes names left b e → (a ≡ b) × (d ≡ e)
     defects one other = order (nat_lt a b) refl (nat_lt b a) refl
       where
         order : (x : Bool) → nat_lt a b ≡ x → (y : Bool) → nat_lt b a ≡ y → (a ≡ b) × (d ≡ e)
         order true lt y gt =
-            absurd (not_accepted reasons one_fault not_whole one_text determine p nodes names left a b d other.ws other.queues (true_lt a b lt)
-            (omega (arith, other.there)) one other.earlier)
+            absurd (not_accepted reasons one_fault not_whole one_text determine p nodes names left a b d other.ws other.queues other.told
+            (true_lt a b lt) (omega (arith, other.there)) one other.earlier)
         order false lt true gt =
-            absurd (not_accepted reasons one_fault not_whole one_text determine p nodes names left b a e one.ws one.queues (true_lt b a gt)
-            (omega (arith, one.there)) other one.earlier)
+            absurd (not_accepted reasons one_fault not_whole one_text determine p nodes names left b a e one.ws one.queues one.told
+            (true_lt b a gt) (omega (arith, one.there)) other one.earlier)
         order false lt false gt =
             let same : a ≡ b = grind (arith, nat_tests) in (
               same,
@@ -415,10 +453,12 @@ first_is_one reasons one_fault not_whole one_text determine join p nodes names l
     lefts : IsFirstLeftOver p nodes names left a → IsFirstLeftOver p nodes names left b → a ≡ b
     lefts one other =
         let alike = all_alike one_text determine p nodes left names one.ws other.ws one.queues other.queues one.accepted.partials other.accepted.partials in
-        let events = ap (λ (ws : List ℕ). events_of_rest p nodes names ws left) alike.0 in
+        let same_told = all_tell_alike one_text p left names one.told other.told one.accepted.tell other.accepted.tell in
+        let events = ap (λ (ws : List ℕ). events_of_rest p nodes names ws one.told left) alike.0
+        ∙ ap (λ (ts : List ℕ). events_of_rest p nodes names other.ws ts left) same_told in
         let somes : Some a ≡ Some b =
         sym one.first ∙ ap (λ (ys : List Event). position (λ ks. not (is_last_alone ks)) (waiting_behind one.queues ys)) events
-        ∙ first_alike join p one.queues other.queues (events_of_rest p nodes names other.ws left) alike.1 ∙ other.first in
+        ∙ first_alike join p one.queues other.queues (events_of_rest p nodes names other.ws other.told left) alike.1 ∙ other.first in
         cc
 
     by : IsFaultOfPartial p nodes names left a d → IsFaultOfPartial p nodes names left b e → (a ≡ b) × (d ≡ e)

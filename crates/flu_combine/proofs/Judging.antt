@@ -1,5 +1,5 @@
 -- Which partials are accepted.
-use Rattle.std.proofs.Common.{◌≡◌, ℕ, ◌+◌, Bool, true, false, Option, Some, None, Result, Ok, Err, List, [], ◌∷◌, refl, sym, subst, ◌∙◌, cond}
+use Rattle.std.proofs.Common.{◌≡◌, ℕ, ◌+◌, Bool, true, false, Option, Some, None, Result, Ok, Err, List, [], ◌∷◌, refl, sym, ap, subst, ◌∙◌, cond}
 use Rattle.std.specs.Prelude.{◌≤◌, ◌||◌, map, length, position, option_map, slice_index_or, IsOk}
 use Rattle.std.proofs.Common.{get_or}
 use Rattle.std.proofs.lemmas.Option.{get_or_from_slice_get}
@@ -20,9 +20,10 @@ use Rattle.flu_handover.specs.Handing.{IsLineOf}
 use Rattle.flu_receiving.specs.declared.receiving.Received.{Received}
 use Rattle.flu_receiving.specs.Receiving.{IsRead, IsSentBy}
 use Rattle.flu_combine.specs.declared.fault.PartialDefect.{PartialDefect}
-use Rattle.flu_combine.specs.declared.fault.PartialDefect.TheVariants.{TooLong, Text, OtherJob, OtherPlan, UnknownNode, NotApart, Twice, Within, LeftOver}
-use Rattle.flu_combine.specs.Partials.{most_bytes, AreNested, IsOfNode, IsPartialOf, IsDefectOfNode, IsDefectOfHead, IsDefect}
-use Rattle.flu_combine.specs.Reading.{IsDefectBeside}
+use Rattle.flu_combine.specs.declared.fault.PartialDefect.TheVariants.{TooLong, Text, OtherJob, OtherPlan, UnknownNode, NotApart, Twice, Within, WrongTimes}
+use Rattle.flu_combine.specs.declared.fault.PartialDefect.TheVariants.{LeftOver}
+use Rattle.flu_combine.specs.Partials.{most_bytes, told_by, times_fit, AreNested, IsOfNode, IsPartialOf, TellsRows, IsDefectOfNode, IsDefectOfHead, IsDefect}
+use Rattle.flu_combine.specs.Reading.{IsApartBeside, IsDefectBeside}
 
 -- ---- nodes beside each other
 neither : (a b : Bool) → (a || b) ≡ false → (a ≡ false) × (b ≡ false)
@@ -43,6 +44,15 @@ none_related nodes w (u ∷ us) none =
     by_test true is o later h more = cc
     by_test false is (Some i) later h more = cc
     by_test false is None later h more = (neither (is_within nodes u w) (is_within nodes w u) is, more later)
+
+-- and the other way round
+pub unrelated : (nodes : List Node) (w : ℕ) (ws : List ℕ) → AllByRecursion (λ u. AreApart nodes u w) ws → position (λ u. are_related nodes u w) ws ≡ None
+unrelated nodes w [] all = refl
+unrelated nodes w (u ∷ us) all =
+    position-cons (λ v. are_related nodes v w) u us
+    ∙ ap (λ (b : Bool). cond b (Some 0) (option_map (λ i. i + 1) (position (λ v. are_related nodes v w) us)))
+    (ap (λ (b : Bool). b || is_within nodes w u) all.0.0 ∙ all.0.1)
+    ∙ ap (option_map (λ i. i + 1)) (unrelated nodes w us all.1)
 
 pub ok_if_no_error : {T E : Type 0} (r : Result T E) → ((e : E) → r ≡ Err e → ⊥) → IsOk r
 ok_if_no_error (Ok x) none = refl
@@ -68,6 +78,7 @@ defect_of_first p nodes ws w other place (NotApart u reason) may first at is = a
 defect_of_first p nodes ws w other place (Twice u) may first at is = (is.0, (place, record { may = may; first = first }, at ∙ is.1))
 defect_of_first p nodes ws w other place (Within u v) may first at is =
     (place, record { may = may; first = first }, λ same. is.0 (sym at ∙ same), subst (λ (r : ℕ). AreNested nodes r w u v) (sym at) is.1)
+defect_of_first p nodes ws w other place WrongTimes may first at is = absurd is
 defect_of_first p nodes ws w other place LeftOver may first at is = absurd is
 
 pub defect_of_node : (p : Program) (nodes : List Node) (ws : List ℕ) (h : PartialHead) (w : ℕ) (d : PartialDefect) → IsOfNode p nodes h w
@@ -80,6 +91,7 @@ defect_of_node p nodes ws h w UnknownNode is d = absurd d
 defect_of_node p nodes ws h w (NotApart u reason) is d = (w, is, d)
 defect_of_node p nodes ws h w (Twice u) is d = (w, is, d)
 defect_of_node p nodes ws h w (Within u v) is d = (w, is, d)
+defect_of_node p nodes ws h w WrongTimes is d = (w, is, d)
 defect_of_node p nodes ws h w LeftOver is d = (w, is, d)
 
 pub defect_of_head : (p : Program) (nodes : List Node) (ws bytes : List ℕ) (r : Received) (d : PartialDefect) → length bytes ≤ most_bytes
@@ -92,7 +104,24 @@ defect_of_head p nodes ws bytes r UnknownNode few read d = (few, (r, read, d))
 defect_of_head p nodes ws bytes r (NotApart u reason) few read d = (few, (r, read, d))
 defect_of_head p nodes ws bytes r (Twice u) few read d = (few, (r, read, d))
 defect_of_head p nodes ws bytes r (Within u v) few read d = (few, (r, read, d))
+defect_of_head p nodes ws bytes r WrongTimes few read d = absurd d.2
 defect_of_head p nodes ws bytes r LeftOver few read d = (few, (r, read, d))
+
+-- ---- times
+pub wrong_times : (p : Program) (nodes : List Node) (ws bytes : List ℕ) (r : Received) (w : ℕ) → length bytes ≤ most_bytes → IsRead p bytes r
+    → IsOfNode p nodes r.head w → IsApartBeside p nodes ws w → times_fit p r.head.first r.last ≡ false → IsDefect p nodes ws bytes WrongTimes
+wrong_times p nodes ws bytes r w few read of_node beside wrong =
+    (few, (r, read, record { node = w; of_node = of_node; may = beside.apart.may; unrelated = unrelated nodes w ws beside.beside; wrong = wrong }))
+
+pub tells_rows : (p : Program) (bytes : List ℕ) (r : Received) (told : List ℕ) → IsRead p bytes r → times_fit p r.head.first r.last ≡ true
+    → told ≡ told_by p r.head.first r.last → TellsRows p bytes told
+tells_rows p bytes r told read fit is = record {
+  head = r.head;
+  lines = read.0;
+  whole = read.1;
+  fit = subst (λ (last : Option ℕ). times_fit p r.head.first last ≡ true) read.2.last fit;
+  tells = is ∙ ap (told_by p r.head.first) read.2.last;
+}
 
 -- ---- what was sent
 pub sent_by_lines : (p : Program) (cs : List partial.Contribution) (hs : List Handed) → Pairs (IsSentBy p) cs hs

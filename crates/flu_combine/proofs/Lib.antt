@@ -1,4 +1,4 @@
-pub mod NoClocks
+mod Telling
 mod Judging
 mod Readings
 mod Combinings

@@ -1,38 +1,48 @@
--- The text of a node's partial is a whole partial of what the node sends.
+-- The text of a node's partial is a whole partial of what the node sends, and tells its rows.
 use Rattle.std.proofs.Common.{◌≡◌, ◌<◌, ◌≤◌, ◌+◌, ℕ, zero, suc, Bool, true, false, cond, Option, Some, None, List, [], ◌∷◌, ◌++◌, length, map, refl}
-use Rattle.std.proofs.Common.{sym, ap, subst, ◌∙◌, arith, min}
-use Rattle.std.specs.Prelude.{not, option_map, slice_get}
-use Rattle.std.specs.List.{fold, list_all, list_any, reduce, AllByRecursion}
+use Rattle.std.proofs.Common.{sym, ap, subst, ◌∙◌, arith, get_or, min}
+use Rattle.std.specs.Prelude.{not, option_map, slice_get, IsTrue}
+use Rattle.std.specs.List.{fold, flat_map, list_all, list_any, range_with_len, reduce, AllByRecursion}
 use Rattle.std.specs.Str.{IsUtf8}
 use Rattle.std.proofs.lemmas.List.{length-append}
 use Rattle.std.proofs.lemmas.Option.{slice_get-map}
 use Rattle.flu_lemmas.specs.Items.{Pairs}
 use Rattle.flu_lemmas.proofs.Bytes.{bytes_itself}
-use Rattle.flu_lemmas.proofs.Elements.{fails_at, passes_at}
+use Rattle.flu_lemmas.proofs.Elements.{all_append, all_back, all_front, fails_at, passes_at}
 use Rattle.flu_lemmas.proofs.Places.{position-cons, slice_get-there}
 use Rattle.flu_lemmas.proofs.Tests.{and_left, and_right, not_true}
 use Rattle.flu_names.specs.Names.{is_name}
+use Rattle.flu_model.specs.declared.events.Event.{Event}
+use Rattle.flu_model.specs.declared.events.Item.{Item}
 use Rattle.flu_model.specs.declared.events.Out.{Out}
 use Rattle.flu_model.specs.declared.jobs.Program.{Program}
 use Rattle.flu_model.specs.declared.plans.Node.{Node}
+use Rattle.flu_model.specs.Erasure.{job_of}
+use Rattle.flu_model.specs.Itags.{count_of_itags}
 use Rattle.flu_model.specs.Owners.{nodes_fit}
 use Rattle.flu_model.specs.Rules.{are_distinct, is_same_text}
+use Rattle.flu_model.specs.Streaming.{are_streams}
+use Rattle.flu_apart.specs.Classes.{has_ticks}
 use Rattle.flu_contribution.specs.Contributions.{Contribution}
 use Rattle.flu_contribution.specs.Sharing.{MergedEventsRiseStrictly}
+use Rattle.flu_parse.specs.Printing.{normal_form}
+use Rattle.flu_partial.specs.declared.order.Reached.{Reached}
+use Rattle.flu_partial.specs.declared.order.Reached.TheVariants.{Head, Event as AtEvent, End as AtEnd}
 use Rattle.flu_partial.specs.declared.values.Emitted.{Emitted}
+use Rattle.flu_partial.specs.Order.{reached_with, AreRest}
 use Rattle.flu_partial.specs.Laws.{LawOfPrintedHeads, LawOfPrintedContributions}
 use Rattle.flu_partial.specs.Partial.{contribution_text, head_text, line_of as text_line, IsHead, IsTime, IsTimeOrNone}
-use Rattle.flu_handover.specs.Handing.{emitted_of, line_of, IsLineOf}
+use Rattle.flu_handover.specs.Handing.{emitted_of, line_of, place_of, IsLineOf}
 use Rattle.flu_handover.specs.Laws.{SendableHaveLines}
 use Rattle.flu_plan.specs.Printing.{has_text, name_of_child}
 use Rattle.flu_receiving.specs.Laws.{PrintedPartialsAreWhole}
-use Rattle.flu_receiving.specs.Receiving.{lines_text, partial_text, HasLine as HasText, IsWholePartial}
-use Rattle.flu_sending.specs.Laws.{HasLine, SentLinesMayCome, SentTextsAreUtf8, WhatIsSentCanBeHandedOver}
-use Rattle.flu_sending.specs.Lines.{all_times, last_time, lines_of, sent_by}
+use Rattle.flu_receiving.specs.Receiving.{last_of, last_time as end_time, lines_text, partial_text, HasLine as HasText, IsWholePartial}
+use Rattle.flu_sending.specs.Laws.{AreReadable, HasLine, SentLinesMayCome, SentTextsAreUtf8, WhatIsSentCanBeHandedOver}
+use Rattle.flu_sending.specs.Lines.{all_times, times_of, times_of_itag, row_times, first_time, last_time, lines_of, sent_by}
 use Rattle.flu_sending.specs.Texts.{IsUtf8Output}
 use Rattle.flu_node_run.specs.Partials.{head_of, name_of_node, text_of_partial}
-use Rattle.flu_combine.specs.Laws.{TextsAreWholePartials}
-use Rattle.flu_combine.specs.Partials.{most_bytes, node_named}
+use Rattle.flu_combine.specs.Laws.{TextsAreWholePartials, TextsTellTheirRows}
+use Rattle.flu_combine.specs.Partials.{most_bytes, node_named, told_by, times_fit}
 use Rattle.flu_combine.proofs.PlanText.{plan_is_utf8}
 use Rattle.flu_combine.proofs.Templates.{names_are_utf8, templates_are_utf8}
 
@@ -40,6 +50,22 @@ use Rattle.flu_combine.proofs.Templates.{names_are_utf8, templates_are_utf8}
 least_time : (t : ℕ) (ts : List ℕ) → IsTime t → AllByRecursion IsTime ts → IsTime (fold min t ts)
 least_time t [] low all = low
 least_time t (u ∷ ts) low all = least_time (min t u) ts (omega (arith, low, all.0)) all.1
+
+-- the times of the rows are among those of all items
+among_lists : (lists : List (List Item)) (i : ℕ) → AllByRecursion IsTime (all_times lists) → AllByRecursion IsTime (times_of (get_or lists i []))
+among_lists [] i all = tt
+among_lists (items ∷ lists) zero all = all_front IsTime (times_of items) (all_times lists) all
+among_lists (items ∷ lists) (suc i) all = among_lists lists i (all_back IsTime (times_of items) (all_times lists) all)
+
+rows_among : (p : Program) (lists : List (List Item)) (itags : List ℕ) → AllByRecursion IsTime (all_times lists)
+    → AllByRecursion IsTime (flat_map (times_of_itag p lists) itags)
+rows_among p lists [] all = tt
+rows_among p lists (i ∷ itags) all =
+    all_append IsTime (times_of_itag p lists i) (flat_map (times_of_itag p lists) itags) (by (has_ticks p i)) (rows_among p lists itags all)
+  where
+    by : (b : Bool) → AllByRecursion IsTime (cond b [] (times_of (get_or lists i [])))
+    by true = tt
+    by false = among_lists lists i all
 
 first_in_range : (ts : List ℕ) → AllByRecursion IsTime ts → IsTimeOrNone (reduce min ts)
 first_in_range [] all = tt
@@ -102,33 +128,74 @@ lines_said : (p : Program) (last : Option ℕ) (ks : List Contribution) → AllB
 lines_said p last [] all = tt
 lines_said p last (k ∷ ks) all = ((all.0.sendable, (last, refl)), lines_said p last ks all.1)
 
+-- the last one is for the end, and has the last time
+end_last : (p : Program) (last : Option ℕ) (k : Contribution) (ks : List Contribution) (r : Reached) → AreRest r (map (line_of p last) (k ∷ ks))
+    → last_of (map (line_of p last) (k ∷ ks)) ≡ last
+end_last p last k (j ∷ ks) r rest = end_last p last j ks (reached_with (place_of k.before last)) rest.1
+end_last p last k [] r rest = by k.before rest.1
+  where
+    by : (before : Option Event) → reached_with (place_of before last) ≡ AtEnd → end_time (place_of before last) ≡ last
+    by None end = refl
+    by (Some y) end = absurd (let bad : AtEvent y.time y.itag ≡ AtEnd = end in cc)
+
+sent_last : (p : Program) (last : Option ℕ) (ks : List Contribution) → AreRest Head (map (line_of p last) ks)
+    → last_of (map (line_of p last) ks) ≡ last
+sent_last p last [] rest = absurd (let bad : Head ≡ AtEnd = rest in cc)
+sent_last p last (k ∷ ks) rest = end_last p last k ks Head rest
+
 -- ---- the whole
-pub texts_are_whole : LawOfPrintedHeads → LawOfPrintedContributions → PrintedPartialsAreWhole → SendableHaveLines → WhatIsSentCanBeHandedOver
-    → SentTextsAreUtf8 → SentLinesMayCome → MergedEventsRiseStrictly → TextsAreWholePartials
-texts_are_whole heads printed whole has handed utf8 come rise p nodes w lists job_utf8 has_text own there one streams readable few =
-    let h = head_of p nodes w lists in
-    let last = last_time lists in
-    let ks = sent_by p nodes w lists in
-    let cs = map (line_of p last) ks in
-    let text : text_of_partial p nodes w lists ≡ partial_text h cs =
-    ap (λ (xs : List ℕ). text_line (head_text h) ++ xs) (lines_same p last ks) in
-    let short = line_short (head_text h) (lines_text cs) (subst (λ (xs : List ℕ). length xs ≤ most_bytes) text few) in
-    let at = name_at nodes w there in
-    let named = passes_at (λ (node : Node). is_name node.name) nodes w at.0
-    (and_right (nodes_fit p nodes) (list_all (λ (node : Node). is_name node.name) nodes) has_text) at.1 in
-    let is_head : IsHead h =
-    record { first = first_in_range (all_times lists) readable.times; node = subst (λ (n : List ℕ). is_name n ≡ true) (sym at.2) named } in
-    let all = handed p nodes w lists one streams readable in
-    let head_line = heads h is_head job_utf8 (plan_is_utf8 p nodes has_text) short.0 in
-    let lines = have_lines printed has p last ks all (utf8 p nodes w lists (names_are_utf8 p job_utf8) (templates_are_utf8 p job_utf8)) short.1 in
-    record {
-      head = h;
-      lines = cs;
-      few = few;
-      whole = subst (IsWholePartial h cs) (sym text) (whole h cs head_line lines (come p nodes w last lists (rise lists streams)));
-      of_node = record {
-        plan = record { job = refl; plan = refl };
-        node = ap (node_named nodes) at.2 ∙ named_there nodes w at.0 own at.1;
-      };
-      said = lines_said p last ks all;
-    }
+module _ (heads : LawOfPrintedHeads) (printed : LawOfPrintedContributions) (whole : PrintedPartialsAreWhole) (has : SendableHaveLines)
+    (handed : WhatIsSentCanBeHandedOver) (utf8 : SentTextsAreUtf8) (come : SentLinesMayCome) (rise : MergedEventsRiseStrictly) where
+  text_is_whole : (p : Program) (nodes : List Node) (w : ℕ) (lists : List (List Item))
+      → IsUtf8 (normal_form (job_of p)) → IsTrue (has_text p nodes) → w < length nodes
+      → length lists ≡ count_of_itags p → IsTrue (are_streams 0 lists) → AreReadable lists → length (text_of_partial p nodes w lists) ≤ most_bytes
+      → IsWholePartial (head_of p nodes w lists) (map (line_of p (last_time p lists)) (sent_by p nodes w lists)) (text_of_partial p nodes w lists)
+  text_is_whole p nodes w lists job_utf8 has_text there one streams readable few =
+      let h = head_of p nodes w lists in
+      let last = last_time p lists in
+      let ks = sent_by p nodes w lists in
+      let cs = map (line_of p last) ks in
+      let text : text_of_partial p nodes w lists ≡ partial_text h cs =
+      ap (λ (xs : List ℕ). text_line (head_text h) ++ xs) (lines_same p last ks) in
+      let short = line_short (head_text h) (lines_text cs) (subst (λ (xs : List ℕ). length xs ≤ most_bytes) text few) in
+      let at = name_at nodes w there in
+      let named = passes_at (λ (node : Node). is_name node.name) nodes w at.0
+      (and_right (nodes_fit p nodes) (list_all (λ (node : Node). is_name node.name) nodes) has_text) at.1 in
+      let times = rows_among p lists (range_with_len 0 (count_of_itags p)) readable.times in
+      let is_head : IsHead h =
+      record { first = first_in_range (row_times p lists) times; node = subst (λ (n : List ℕ). is_name n ≡ true) (sym at.2) named } in
+      let all = handed p nodes w lists one streams readable in
+      let head_line = heads h is_head job_utf8 (plan_is_utf8 p nodes has_text) short.0 in
+      let lines = have_lines printed has p last ks all (utf8 p nodes w lists (names_are_utf8 p job_utf8) (templates_are_utf8 p job_utf8)) short.1 in
+      subst (IsWholePartial h cs) (sym text) (whole h cs head_line lines (come p nodes w last lists (rise lists streams)))
+
+  pub texts_are_whole : TextsAreWholePartials
+  texts_are_whole p nodes w lists job_utf8 has_text own there one streams readable few =
+      let last = last_time p lists in
+      let ks = sent_by p nodes w lists in
+      let at = name_at nodes w there in
+      record {
+        head = head_of p nodes w lists;
+        lines = map (line_of p last) ks;
+        few = few;
+        whole = text_is_whole p nodes w lists job_utf8 has_text there one streams readable few;
+        of_node = record {
+          plan = record { job = refl; plan = refl };
+          node = ap (node_named nodes) at.2 ∙ named_there nodes w at.0 own at.1;
+        };
+        said = lines_said p last ks (handed p nodes w lists one streams readable);
+      }
+
+  pub texts_tell : TextsTellTheirRows
+  texts_tell p nodes w lists job_utf8 has_text own there one streams readable few fit =
+      let first = first_time p lists in
+      let last = last_time p lists in
+      let ks = sent_by p nodes w lists in
+      let at_end : last_of (map (line_of p last) ks) ≡ last = sent_last p last ks (come p nodes w last lists (rise lists streams)) in
+      record {
+        head = head_of p nodes w lists;
+        lines = map (line_of p last) ks;
+        whole = text_is_whole p nodes w lists job_utf8 has_text there one streams readable few;
+        fit = ap (times_fit p first) at_end ∙ fit;
+        tells = sym (ap (told_by p first) at_end);
+      }

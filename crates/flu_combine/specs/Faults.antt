@@ -24,7 +24,8 @@ pub record IsFirstDefect (p : Program) (nodes : List Node) (names : List (List �
   pub there : place < length names
   pub ws : List ℕ
   pub queues : List (List Contribution)
-  pub earlier : AreAccepted p nodes left (take place names) ws queues
+  pub told : List ℕ
+  pub earlier : AreAccepted p nodes left (take place names) ws queues told
   pub has : IsDefect p nodes ws (bytes_behind (take place names) left (slice_index_or names place [])) defect
 
 -- THE FIRST THAT IS LEFT OVER: all partials are accepted and no source that is read has a defect, and the queue at that place is the first that is
@@ -32,9 +33,10 @@ pub record IsFirstDefect (p : Program) (nodes : List Node) (names : List (List �
 pub record IsFirstLeftOver (p : Program) (nodes : List Node) (names : List (List ℕ)) (left : Contents) (place : ℕ) : Type 0 where
   pub ws : List ℕ
   pub queues : List (List Contribution)
-  pub accepted : AreAccepted p nodes left names ws queues
-  pub good : first_read_fault p (reads_rest p nodes ws) (read_out names left) ≡ None
-  pub first : position (λ ks. not (is_last_alone ks)) (waiting_behind queues (events_of_rest p nodes names ws left)) ≡ Some place
+  pub told : List ℕ
+  pub accepted : AreAccepted p nodes left names ws queues told
+  pub good : first_read_fault p told (reads_rest p nodes ws) (read_out names left) ≡ None
+  pub first : position (λ ks. not (is_last_alone ks)) (waiting_behind queues (events_of_rest p nodes names ws told left)) ≡ Some place
 
 -- what is wrong with the partial at a place
 abbrev pub IsFaultOfPartial : Program → List Node → List (List ℕ) → Contents → ℕ → PartialDefect → Type 0
@@ -45,8 +47,9 @@ IsFaultOfPartial p nodes names left place defect =
 pub record IsFaultOfSource (p : Program) (nodes : List Node) (names : List (List ℕ)) (left : Contents) (fault : SourceFault) : Type 0 where
   pub ws : List ℕ
   pub queues : List (List Contribution)
-  pub accepted : AreAccepted p nodes left names ws queues
-  pub first : first_read_fault p (reads_rest p nodes ws) (read_out names left) ≡ Some fault
+  pub told : List ℕ
+  pub accepted : AreAccepted p nodes left names ws queues told
+  pub first : first_read_fault p told (reads_rest p nodes ws) (read_out names left) ≡ Some fault
 
 -- the count of the file of a source that is read rose
 abbrev pub OneReadRose : Program → (ℕ → Bool) → (List ℕ → ℕ) → (List ℕ → ℕ) → Type 0
@@ -56,7 +59,8 @@ OneReadRose p is_read before now = (name : List ℕ) × IsRead p is_read name ×
 pub record SourceRose (p : Program) (nodes : List Node) (names : List (List ℕ)) (left : Contents) (before now : List ℕ → ℕ) : Type 0 where
   pub ws : List ℕ
   pub queues : List (List Contribution)
-  pub accepted : AreAccepted p nodes left names ws queues
+  pub told : List ℕ
+  pub accepted : AreAccepted p nodes left names ws queues told
   pub rose : OneReadRose p (reads_rest p nodes ws) before now
 
 -- where a read failed: the count of a partial's name rose, or that of the file of a source
@@ -71,7 +75,8 @@ IsReadFault p nodes names old new before now =
 pub record IsHaltedAt (p : Program) (nodes : List Node) (names : List (List ℕ)) (place : ℕ) (was then : Contents) : Type 0 where
   pub ws : List ℕ
   pub queues : List (List Contribution)
-  pub earlier : AreAccepted p nodes was (take place names) ws queues
+  pub told : List ℕ
+  pub earlier : AreAccepted p nodes was (take place names) ws queues told
   pub few : TookAtMost (slice_index_or names place []) most_bytes (read_out (take place names) was) then
 
 -- the read of a partial failed, and no defect was read before that
@@ -87,7 +92,8 @@ pub record HidesNoDefectBehind (p : Program) (nodes : List Node) (names : List (
     : Type 0 where
   pub ws : List ℕ
   pub queues : List (List Contribution)
-  pub accepted : WhereTold old new (λ was then. AreAccepted p nodes was names ws queues)
+  pub told : List ℕ
+  pub accepted : WhereTold old new (λ was then. AreAccepted p nodes was names ws queues told)
   pub hides : HidesNoReadDefect p (reads_rest p nodes ws) (option_map (read_out names) old) new before now
 
 -- A READ FAULT HIDES NO DEFECT, of a partial or of a source

@@ -1,11 +1,13 @@
 -- WHAT A PARTIAL IS of a job and a plan, and what is wrong with another.
-use Rattle.std.specs.Prelude.{◌≡◌, ◌≢◌, ℕ, ◌<◌, ◌≤◌, false, Option, Some, None, List, [], ◌∷◌, length, position, slice_index_or, ◌⊎◌, IsTrue, ⊤}
+use Rattle.std.specs.Prelude.{◌≡◌, ◌≢◌, ℕ, ◌<◌, ◌≤◌, Bool, true, false, not, ◌||◌, if◌then◌else◌, Option, Some, None, List, [], ◌∷◌, ◌++◌}
+use Rattle.std.specs.Prelude.{length, position, slice_index_or, ◌⊎◌, IsTrue, ⊤}
+use Rattle.std.specs.List.{list_any}
 use Rattle.flu_lemmas.specs.Items.{Pairs}
 use Rattle.flu_model.specs.declared.jobs.Program.{Program}
 use Rattle.flu_model.specs.declared.plans.Node.{Node}
 use Rattle.flu_model.specs.Erasure.{job_of}
 use Rattle.flu_model.specs.Owners.{are_related, is_within}
-use Rattle.flu_model.specs.Rules.{is_same_text}
+use Rattle.flu_model.specs.Rules.{is_clock, is_same_text}
 use Rattle.flu_outside.specs.Outside.{Contents}
 use Rattle.flu_outside.specs.Taking.{bytes_left}
 use Rattle.flu_apart.specs.Apart.{MayBeApart, IsFirstReason}
@@ -17,9 +19,10 @@ use Rattle.flu_parse.specs.Printing.{normal_form}
 use Rattle.flu_plan.specs.Printing.{printed}
 use Rattle.flu_receiving.specs.declared.receiving.Received.{Received}
 use Rattle.flu_receiving.specs.Faults.{IsFirstFault}
-use Rattle.flu_receiving.specs.Receiving.{IsRead, IsWholePartial}
+use Rattle.flu_receiving.specs.Receiving.{last_of, IsRead, IsWholePartial}
+use Rattle.flu_selected.specs.Spans.{span_told, moments_fit}
 use Rattle.flu_combine.specs.declared.fault.PartialDefect.{PartialDefect}
-use Rattle.flu_combine.specs.declared.fault.PartialDefect.TheVariants.{TooLong, Text, OtherJob, OtherPlan, UnknownNode, NotApart, Twice, Within}
+use Rattle.flu_combine.specs.declared.fault.PartialDefect.TheVariants.{TooLong, Text, OtherJob, OtherPlan, UnknownNode, NotApart, Twice, Within, WrongTimes}
 
 -- how many bytes a partial has at most
 abbrev pub most_bytes : ℕ
@@ -64,6 +67,30 @@ ArePartials p nodes left (name ∷ names) (w ∷ ws) [] = ⊥
 ArePartials p nodes left (name ∷ names) (w ∷ ws) (sent ∷ queues) =
     IsPartialOf p nodes (bytes_left left name) w sent × ArePartials p nodes left names ws queues
 
+-- ---- where the rows stand that a node read, as its partial tells it
+
+-- what the moments of a first and a last row tell, in a job with a clock; in another nothing asks for it
+abbrev pub told_by : Program → Option ℕ → Option ℕ → List ℕ
+told_by p first last = if list_any is_clock p.sources then span_told p first last else []
+
+-- so they have to fit in a job with a clock
+abbrev pub times_fit : Program → Option ℕ → Option ℕ → Bool
+times_fit p first last = not (list_any is_clock p.sources) || moments_fit p first last
+
+-- A PARTIAL TELLS ITS ROWS: the bytes are a whole partial, whose times fit, and this is what they tell
+pub record TellsRows (p : Program) (bytes told : List ℕ) : Type 0 where
+  pub head : PartialHead
+  pub lines : List partial.Contribution
+  pub whole : IsWholePartial head lines bytes
+  pub fit : times_fit p head.first (last_of lines) ≡ true
+  pub tells : told ≡ told_by p head.first (last_of lines)
+
+-- under each name is a partial that tells its rows, and this is what they tell, in order
+abbrev pub AllTellRows : Program → Contents → List (List ℕ) → List ℕ → Type 0
+AllTellRows p left [] told = told ≡ []
+AllTellRows p left (name ∷ names) told =
+    (first : List ℕ) × (later : List ℕ) × TellsRows p (bytes_left left name) first × AllTellRows p left names later × (told ≡ first ++ later)
+
 -- ---- what is wrong with one
 
 -- the node may be apart, and the first of these nodes that is it, or within it, or above it, is at this place
@@ -92,9 +119,19 @@ IsDefectOfHead p nodes ws h OtherPlan = IsOfJob p h × (h.plan ≢ printed p nod
 IsDefectOfHead p nodes ws h UnknownNode = IsOfPlan p nodes h × (node_named nodes h.node ≡ None)
 IsDefectOfHead p nodes ws h defect = (w : ℕ) × IsOfNode p nodes h w × IsDefectOfNode p nodes ws w defect
 
+-- WHAT IS WRONG WITH TIMES, where nothing else is: the node may be apart, and none of these nodes is it, or within it, or above it; but the times of the
+-- first and the last row do not fit
+pub record AreWrongTimes (p : Program) (nodes : List Node) (ws : List ℕ) (r : Received) : Type 0 where
+  pub node : ℕ
+  pub of_node : IsOfNode p nodes r.head node
+  pub may : MayBeApart p nodes node
+  pub unrelated : position (λ u. are_related nodes u node) ws ≡ None
+  pub wrong : times_fit p r.head.first r.last ≡ false
+
 -- WHAT IS WRONG WITH BYTES that are read as a partial: there are too many, or else they are no partial of the job, or else there is something wrong
--- with its head
+-- with its head, or else its times are wrong
 abbrev pub IsDefect : Program → List Node → List ℕ → List ℕ → PartialDefect → Type 0
 IsDefect p nodes ws bytes TooLong = most_bytes < length bytes
 IsDefect p nodes ws bytes (Text fault) = (length bytes ≤ most_bytes) × IsFirstFault p bytes fault
+IsDefect p nodes ws bytes WrongTimes = (length bytes ≤ most_bytes) × ((r : Received) × IsRead p bytes r × AreWrongTimes p nodes ws r)
 IsDefect p nodes ws bytes defect = (length bytes ≤ most_bytes) × ((r : Received) × IsRead p bytes r × IsDefectOfHead p nodes ws r.head defect)

@@ -1,5 +1,5 @@
 -- What reading partials one after another does.
-use Rattle.std.specs.Prelude.{◌≡◌, ◌≢◌, ℕ, Option, List, [], ◌∷◌, ⊤}
+use Rattle.std.specs.Prelude.{◌≡◌, ◌≢◌, ℕ, Option, Some, None, List, [], ◌∷◌, ⊤}
 use Rattle.flu_model.specs.declared.jobs.Program.{Program}
 use Rattle.flu_model.specs.declared.plans.Node.{Node}
 use Rattle.flu_outside.specs.Outside.{Contents, Rose, WhereTold}
@@ -15,7 +15,8 @@ use Rattle.flu_combine.specs.declared.fault.PartialDefect.TheVariants.{Twice, Wi
 use Rattle.flu_combine.specs.declared.fault.Refused.{Refused}
 use Rattle.flu_combine.specs.declared.fault.Refused.TheVariants.{Defect, ReadFault, NoMemory}
 use Rattle.flu_combine.specs.Names.{read_out}
-use Rattle.flu_combine.specs.Partials.{most_bytes, AreNested, IsPartialOf, ArePartials, IsDefect}
+use Rattle.flu_combine.specs.Partials.{most_bytes, AreNested, IsPartialOf, ArePartials, TellsRows, AllTellRows, IsDefect}
+use Rattle.flu_combine.specs.declared.spans.Told.{Told}
 
 -- the node may be apart, beside these
 pub record IsApartBeside (p : Program) (nodes : List Node) (ws : List ℕ) (w : ℕ) : Type 0 where
@@ -28,9 +29,11 @@ IsDefectBeside nodes other w (Twice u) = (u ≡ w) × (other ≡ w)
 IsDefectBeside nodes other w (Within u v) = (other ≢ w) × AreNested nodes other w u v
 IsDefectBeside nodes other w defect = ⊥
 
--- a partial of a node was read to its end
-pub record IsOneRead (p : Program) (nodes : List Node) (name : List ℕ) (w : ℕ) (sent : List Contribution) (old new : Contents) : Type 0 where
+-- a partial of a node, which tells its rows, was read to its end
+pub record IsOneRead (p : Program) (nodes : List Node) (name : List ℕ) (w : ℕ) (sent : List Contribution) (told : List ℕ) (old new : Contents)
+    : Type 0 where
   pub partial : IsPartialOf p nodes (bytes_left old name) w sent
+  pub tells : TellsRows p (bytes_left old name) told
   pub end : new ≡ read_out (name ∷ []) old
   pub taken : TakesFrom name old new
 
@@ -52,9 +55,15 @@ IsRefusedAt place (Defect defect) fault = fault ≡ combine.Partial place defect
 IsRefusedAt place ReadFault fault = fault ≡ combine.ReadFault
 IsRefusedAt place NoMemory fault = fault ≡ combine.NoMemory
 
--- partials of nodes were read to their end
-pub record AreRead (p : Program) (nodes : List Node) (names : List (List ℕ)) (ws : List ℕ) (queues : List (List Contribution))
+-- the ranks of a first and a last row, if there are any
+abbrev pub ranks_told : Option Told → List ℕ
+ranks_told None = []
+ranks_told (Some told) = told.first ∷ told.last ∷ []
+
+-- partials of nodes, which tell their rows, were read to their end
+pub record AreRead (p : Program) (nodes : List Node) (names : List (List ℕ)) (ws : List ℕ) (queues : List (List Contribution)) (told : List ℕ)
     (old new : Contents) : Type 0 where
   pub partials : ArePartials p nodes old names ws queues
+  pub tell : AllTellRows p old names told
   pub end : new ≡ read_out names old
   pub fronts : TookFronts old new

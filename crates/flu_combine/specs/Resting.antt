@@ -33,29 +33,31 @@ IsJoinFault queues ys combine.ReadFault = ⊥
 IsJoinFault queues ys combine.WriteFault = ⊥
 IsJoinFault queues ys combine.NoMemory = ⊤
 
--- the events inside none of the nodes
-abbrev pub events_beside : Program → List Node → List ℕ → Contents → List Event
-events_beside p nodes ws left = events_of_none p nodes ws (rest_read p nodes ws left)
+-- the events inside none of the nodes, where clocks tick among the rows of the nodes too, as told
+abbrev pub events_beside : Program → List Node → List ℕ → List ℕ → Contents → List Event
+events_beside p nodes ws told left = events_of_none p nodes ws (rest_read p nodes ws told left)
 
 -- the sources were read, and what was sent was joined
-pub record IsRest (p : Program) (nodes : List Node) (ws : List ℕ) (queues : List (List Contribution)) (text : List ℕ) (old new : Contents) : Type 0 where
-  pub good : first_read_fault p (reads_rest p nodes ws) old ≡ None
-  pub joined : IsJoined p queues (events_beside p nodes ws old) text
+pub record IsRest (p : Program) (nodes : List Node) (ws told : List ℕ) (queues : List (List Contribution)) (text : List ℕ) (old new : Contents)
+    : Type 0 where
+  pub good : first_read_fault p told (reads_rest p nodes ws) old ≡ None
+  pub joined : IsJoined p queues (events_beside p nodes ws told old) text
   pub ends : (name : List ℕ) → IsRead p (reads_rest p nodes ws) name → new name ≡ Some []
 
 -- the sources were read, and what was sent is not used up
-pub record IsRestLeftOver (p : Program) (nodes : List Node) (ws : List ℕ) (queues : List (List Contribution)) (place : ℕ) (old : Contents) : Type 0 where
-  pub good : first_read_fault p (reads_rest p nodes ws) old ≡ None
-  pub left_over : IsLeftOver queues (events_beside p nodes ws old) place
+pub record IsRestLeftOver (p : Program) (nodes : List Node) (ws told : List ℕ) (queues : List (List Contribution)) (place : ℕ) (old : Contents)
+    : Type 0 where
+  pub good : first_read_fault p told (reads_rest p nodes ws) old ≡ None
+  pub left_over : IsLeftOver queues (events_beside p nodes ws told old) place
 
 -- why there is no report
-abbrev pub IsRestFault : Program → List Node → List ℕ → List (List Contribution) → Option Contents → Option Contents → (List ℕ → ℕ) → (List ℕ → ℕ)
+abbrev pub IsRestFault : Program → List Node → List ℕ → List ℕ → List (List Contribution) → Option Contents → Option Contents → (List ℕ → ℕ) → (List ℕ → ℕ)
     → CombineFault → Type 0
-IsRestFault p nodes ws queues old new before now (combine.Partial place defect) =
-    (defect ≡ LeftOver) × (place < length queues) × WhereTold old new (λ was then. IsRestLeftOver p nodes ws queues place was)
-IsRestFault p nodes ws queues old new before now (combine.Source fault) =
-    (fault.source < length p.sources) × WhereTold old new (λ was then. first_read_fault p (reads_rest p nodes ws) was ≡ Some fault)
-IsRestFault p nodes ws queues old new before now combine.ReadFault =
+IsRestFault p nodes ws told queues old new before now (combine.Partial place defect) =
+    (defect ≡ LeftOver) × (place < length queues) × WhereTold old new (λ was then. IsRestLeftOver p nodes ws told queues place was)
+IsRestFault p nodes ws told queues old new before now (combine.Source fault) =
+    (fault.source < length p.sources) × WhereTold old new (λ was then. first_read_fault p told (reads_rest p nodes ws) was ≡ Some fault)
+IsRestFault p nodes ws told queues old new before now combine.ReadFault =
     OneRose (files_of p.sources) before now × ReadRose p (reads_rest p nodes ws) old before now
-IsRestFault p nodes ws queues old new before now combine.WriteFault = ⊥
-IsRestFault p nodes ws queues old new before now combine.NoMemory = ⊤
+IsRestFault p nodes ws told queues old new before now combine.WriteFault = ⊥
+IsRestFault p nodes ws told queues old new before now combine.NoMemory = ⊤

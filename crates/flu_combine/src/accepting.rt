@@ -10,10 +10,12 @@ ghost use Rattle.flu_joining.specs.Parts.{waiting_in};
 ghost use Rattle.flu_receiving.specs.Receiving.{IsRead};
 ghost use Rattle.flu_parse.specs.Printing.{normal_form};
 ghost use Rattle.flu_plan.specs.Printing.{printed};
-ghost use Rattle.flu_combine.specs.Partials.{most_bytes, node_named, IsOfNode, IsPartialOf, IsDefectOfNode, IsDefectOfHead};
-ghost use Rattle.flu_combine.specs.Reading.{IsApartBeside, IsDefectBeside, IsRefusedAs};
+ghost use Rattle.flu_combine.specs.Partials.{most_bytes, node_named, IsOfNode, IsPartialOf, TellsRows, IsDefectOfNode, IsDefectOfHead};
+ghost use Rattle.flu_combine.specs.Reading.{IsApartBeside, IsDefectBeside, IsRefusedAs, ranks_told};
+ghost use Rattle.flu_streams.specs.Clocks.{AreEarly};
 
 use crate::fault::{PartialDefect, Refused};
+use crate::spans::{Told, times_fit, told_by};
 use flu_apart::apart;
 use flu_deps::nodes::{is_within, related};
 use flu_deps::{Checked, Valid};
@@ -23,11 +25,12 @@ use flu_partial::PartialHead;
 use flu_receiving::{PartialFault, Received, read_partial};
 use std::alloc::Global;
 
-// What was accepted of a partial: its node, and what was sent.
+// What was accepted of a partial: its node, what was sent, and where the rows stand that the node read.
 #[derive(Drop)]
 pub(crate) struct Accepted {
     pub(crate) node: u32,
     pub(crate) queue: Queue,
+    pub(crate) told: Option<Told>,
 }
 
 // The place of the node with a name.
@@ -165,6 +168,8 @@ pub(crate) fn accept(
     requires plan { plan.now ≡ printed (program_of c.now) (plan_of v.now).nodes }
     requires few { length bytes.now ≤ most_bytes }
     ensures partial { IfOk result (λ a. IsPartialOf (program_of c.now) (plan_of v.now).nodes bytes.now a.node (waiting_in a.queue)) }
+    ensures tells { IfOk result (λ a. TellsRows (program_of c.now) bytes.now (ranks_told a.told)) }
+    ensures early { IfOk result (λ a. AreEarly (program_of c.now) (ranks_told a.told)) }
     ensures apart { IfOk result (λ a. IsApartBeside (program_of c.now) (plan_of v.now).nodes nodes.now a.node) }
     ensures refused { IfErr result (IsRefusedAs (program_of c.now) (plan_of v.now).nodes nodes.now bytes.now) }
 {
@@ -172,11 +177,16 @@ pub(crate) fn accept(
         Ok(received) => received,
         Err(refused) => return Err(refused),
     };
-    match judge(c, v, job, plan, nodes, &received.head) {
-        Ok(node) => Ok(Accepted {
-            node,
-            queue: Queue::of(received.sent),
-        }),
-        Err(defect) => Err(Refused::Defect(defect)),
+    let node = match judge(c, v, job, plan, nodes, &received.head) {
+        Ok(node) => node,
+        Err(defect) => return Err(Refused::Defect(defect)),
+    };
+    if !times_fit(c.program(), received.head.first, received.last) {
+        return Err(Refused::Defect(PartialDefect::WrongTimes));
     }
+    Ok(Accepted {
+        node,
+        told: told_by(c.program(), received.head.first, received.last),
+        queue: Queue::of(received.sent),
+    })
 }

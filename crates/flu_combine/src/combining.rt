@@ -1,15 +1,14 @@
 //! The report of partials and sources.
 
-ghost use Rattle.std.specs.Prelude.{◌≡◌, ◌≢◌, ℕ, false, List, [], Err, IfOk, IfErr, OnOk, IsErrOf, length};
-ghost use Rattle.std.specs.List.{list_any};
+ghost use Rattle.std.specs.Prelude.{◌≡◌, ◌≢◌, ℕ, List, [], Err, IfOk, IfErr, OnOk, IsErrOf, length};
 ghost use Rattle.flu_model.specs.Itags.{count_of_itags};
 ghost use Rattle.flu_model.specs.Listed.{listed};
-ghost use Rattle.flu_model.specs.Rules.{is_clock};
 ghost use Rattle.flu_outside.specs.Outside.{Rose, WhereTold, SameCounts};
 ghost use Rattle.flu_outside.specs.Taking.{TookFronts};
 ghost use Rattle.flu_outside.specs.Writing.{AppendsAll, AppendsPart};
 ghost use Rattle.flu_deps.specs.Checking.{program_of};
 ghost use Rattle.flu_deps.specs.Validated.{plan_of, IsValidFor};
+ghost use Rattle.flu_streams.specs.Clocks.{AreEarly};
 ghost use Rattle.flu_selected.specs.Gathering as selected;
 ghost use Rattle.flu_readers.specs.Reading.{reads_rest};
 ghost use Rattle.flu_joining.specs.Joining.{events_of_none};
@@ -57,8 +56,8 @@ fn joined_text(
     }
 }
 
-// Reads the sources that have events inside none of some nodes, and gives the report of what these sent and of those events. No source is a
-// clock: else no node could be apart.
+// Reads the sources that have events inside none of some nodes, and gives the report of what these sent and of those events. Clocks tick among the rows
+// that the nodes read too, where `told` says where the first and the last of each node's stand.
 fn rest_text<F: Files>(
     alloc: Global,
     files: &mut F,
@@ -66,12 +65,13 @@ fn rest_text<F: Files>(
     v: &Valid,
     nodes: &[u32],
     queues: Vec<Queue>,
+    told: &[u64],
 ) -> Result<Text, CombineFault>
     requires valid { IsValidFor (program_of c.now) v.now }
-    requires no_clocks { list_any is_clock (program_of c.now).sources ≡ false }
+    requires early { AreEarly (program_of c.now) told.now }
     ensures rest { IfOk result (λ text. WhereTold (F.left files.old) (F.left files.new)
-        (IsRest (program_of c.now) (plan_of v.now).nodes nodes.now (waiting_in_each queues.items) text)) }
-    ensures fault { IfErr result (IsRestFault (program_of c.now) (plan_of v.now).nodes nodes.now (waiting_in_each queues.items)
+        (IsRest (program_of c.now) (plan_of v.now).nodes nodes.now told.now (waiting_in_each queues.items) text)) }
+    ensures fault { IfErr result (IsRestFault (program_of c.now) (plan_of v.now).nodes nodes.now told.now (waiting_in_each queues.items)
         (F.left files.old) (F.left files.new) (F.faults files.old) (F.faults files.new)) }
     ensures hides { IsErrOf result CombineFault.ReadFault → selected.HidesNoReadDefect (program_of c.now)
         (reads_rest (program_of c.now) (plan_of v.now).nodes nodes.now) (F.left files.old) (F.left files.new) (F.faults files.old) (F.faults files.new) }
@@ -81,7 +81,7 @@ fn rest_text<F: Files>(
     ensures quiet { result ≢ Err CombineFault.ReadFault → SameCounts (F.faults files.old) (F.faults files.new) }
     ensures puts { SameCounts (F.put_faults files.old) (F.put_faults files.new) }
 {
-    match gather_rest(alloc, files, c, v, nodes) {
+    match gather_rest(alloc, files, c, v, nodes, told) {
         Ok(streams) => joined_text(alloc, c, v, nodes, queues, &streams),
         Err(GatherFault::Source(fault)) => Err(CombineFault::Source(fault)),
         Err(GatherFault::ReadFault) => Err(CombineFault::ReadFault),
@@ -112,7 +112,21 @@ fn combined_text<F: Files>(
     ensures puts { SameCounts (F.put_faults files.old) (F.put_faults files.new) }
 {
     match read_partials(alloc, files, c, v, names) {
-        Ok(Partials { nodes, queues }) => rest_text(alloc, files, c, v, nodes.as_slice(), queues),
+        Ok(
+            Partials {
+                nodes,
+                queues,
+                told,
+            },
+        ) => rest_text(
+            alloc,
+            files,
+            c,
+            v,
+            nodes.as_slice(),
+            queues,
+            told.as_slice(),
+        ),
         Err(fault) => Err(fault),
     }
 }

@@ -28,6 +28,9 @@ pub enum PartialDefect {
     /// The first node is within the second. One of them is its node, and the other that of an earlier partial: the first whose node is within
     /// its own or above it.
     Within(u32, u32),
+    /// The times of the first and the last row that it is of do not fit: one is missing, they are not in order, or the last one is not below the end of
+    /// times. Only in a job with a clock, where ticks depend on them.
+    WrongTimes,
     /// Something that it has is to be joined before an event that did not come, or in another order than the events.
     LeftOver,
 }

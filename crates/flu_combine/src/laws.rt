@@ -1,12 +1,14 @@
 //! Laws of partials and of what is combined of them, each the contract of a function that does nothing.
 
-ghost use Rattle.flu_combine.specs.Laws.{FirstDefectIsOne, PartialsAreCombined, TextsAreWholePartials};
+ghost use Rattle.flu_combine.specs.Laws.{FirstDefectIsOne, PartialsAreCombined, TextsAreWholePartials, TextsTellTheirRows};
 ghost use Rattle.flu_combine.specs.Laws.{NoPartialIsFaulty, NoSourceIsFaulty, SourcesOrPartialsAreFaulty};
 
 /// The text of a node's partial, of streams that have one list for each itag of the job, is a whole partial of what the node sends of them, if it is
-/// not too long. The plan has a text, its nodes have names of their own, and the normal form of the job is UTF-8.
+/// not too long; and it tells where the first and the last row stand, if their times fit. The plan has a text, its nodes have names of their own, and the
+/// normal form of the job is UTF-8.
 pub fn texts_are_whole_partials()
-    ensures { TextsAreWholePartials }
+    ensures whole { TextsAreWholePartials }
+    ensures tell { TextsTellTheirRows }
 {
     flu_partial::printed_heads_are_lines();
     flu_partial::printed_contributions_are_lines();

@@ -7,6 +7,7 @@ mod fault;
 mod gathering;
 pub mod laws;
 mod reading;
+mod spans;
 
 pub use combining::combine;
 pub use fault::{CombineFault, PartialDefect};

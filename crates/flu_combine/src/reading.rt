@@ -7,12 +7,13 @@ ghost use Rattle.flu_outside.specs.Taking.{TakesFrom, TookFronts};
 ghost use Rattle.flu_deps.specs.Checking.{program_of};
 ghost use Rattle.flu_deps.specs.Validated.{plan_of, IsValidFor};
 ghost use Rattle.flu_contribution.specs.Laws.{AreNodesApart};
+ghost use Rattle.flu_streams.specs.Clocks.{AreEarly};
 ghost use Rattle.flu_streams.specs.Files.{LeavesOthers};
 ghost use Rattle.flu_joining.specs.Parts.{waiting_in, waiting_in_each};
 ghost use Rattle.flu_parse.specs.Printing.{normal_form};
 ghost use Rattle.flu_plan.specs.Printing.{printed};
 ghost use Rattle.flu_combine.specs.Faults.{IsCause, HidesNoDefectBefore};
-ghost use Rattle.flu_combine.specs.Reading.{IsApartBeside, IsOneRead, AreRead, IsRefusal, IsRefusedAt};
+ghost use Rattle.flu_combine.specs.Reading.{IsApartBeside, IsOneRead, AreRead, IsRefusal, IsRefusedAt, ranks_told};
 
 use crate::accepting::{Accepted, accept};
 use crate::fault::{CombineFault, PartialDefect, Refused};
@@ -27,11 +28,12 @@ use std::alloc::{AllocError, Global};
 /// How many bytes a partial has at most.
 const MOST_BYTES: usize = 536_870_912;
 
-// What was accepted of partials: their nodes, and what was sent.
+// What was accepted of partials: their nodes, what was sent, and where the rows stand that the nodes read.
 #[derive(Drop)]
 pub(crate) struct Partials {
     pub(crate) nodes: Vec<u32>,
     pub(crate) queues: Vec<Queue>,
+    pub(crate) told: Vec<u64>,
 }
 
 impl Partials {
@@ -39,9 +41,14 @@ impl Partials {
     fn add(&mut self, accepted: Accepted) -> Result<(), AllocError>
         ensures nodes { OnOk result (self.new.nodes.items ≡ self.old.nodes.items ++ (accepted.node ∷ [])) }
         ensures queues { OnOk result (waiting_in_each self.new.queues.items ≡ waiting_in_each self.old.queues.items ++ (waiting_in accepted.queue ∷ [])) }
+        ensures told { OnOk result (self.new.told.items ≡ self.old.told.items ++ ranks_told accepted.told) }
     {
         self.nodes.push(accepted.node)?;
         self.queues.push(accepted.queue)?;
+        if let Some(told) = accepted.told {
+            self.told.push(told.first)?;
+            self.told.push(told.last)?;
+        }
         Ok(())
     }
 }
@@ -61,7 +68,8 @@ fn read_one<F: Files>(
     requires job { job.now ≡ normal_form (job_of (program_of c.now)) }
     requires plan { plan.now ≡ printed (program_of c.now) (plan_of v.now).nodes }
     ensures read { IfOk result (λ a. WhereTold (F.left files.old) (F.left files.new)
-        (IsOneRead (program_of c.now) (plan_of v.now).nodes name.now a.node (waiting_in a.queue))) }
+        (IsOneRead (program_of c.now) (plan_of v.now).nodes name.now a.node (waiting_in a.queue) (ranks_told a.told))) }
+    ensures early { IfOk result (λ a. AreEarly (program_of c.now) (ranks_told a.told)) }
     ensures apart { IfOk result (λ a. IsApartBeside (program_of c.now) (plan_of v.now).nodes nodes.now a.node) }
     ensures refused { IfErr result (IsRefusal (program_of c.now) (plan_of v.now).nodes nodes.now name.now (F.left files.old) (F.left files.new)
         (F.faults files.old) (F.faults files.new)) }
@@ -101,7 +109,8 @@ pub(crate) fn read_partials<F: Files>(
 ) -> Result<Partials, CombineFault>
     requires valid { IsValidFor (program_of c.now) v.now }
     ensures read { IfOk result (λ ps. WhereTold (F.left files.old) (F.left files.new)
-        (AreRead (program_of c.now) (plan_of v.now).nodes names.now ps.nodes.items (waiting_in_each ps.queues.items))) }
+        (AreRead (program_of c.now) (plan_of v.now).nodes names.now ps.nodes.items (waiting_in_each ps.queues.items) ps.told.items)) }
+    ensures early { IfOk result (λ ps. AreEarly (program_of c.now) ps.told.items) }
     ensures apart { IfOk result (λ ps. AreNodesApart (program_of c.now) (plan_of v.now).nodes ps.nodes.items) }
     ensures as_many_nodes { IfOk result (λ ps. length ps.nodes.items ≡ length names.now) }
     ensures as_many { IfOk result (λ ps. length (waiting_in_each ps.queues.items) ≡ length names.now) }
@@ -120,6 +129,7 @@ pub(crate) fn read_partials<F: Files>(
     let mut partials = Partials {
         nodes: Vec::new(alloc),
         queues: Vec::new(alloc),
+        told: Vec::new(alloc),
     };
     'partials: for (place, name) in names.iter().enumerate() {
         let read = read_one(

@@ -46,7 +46,7 @@ module _ (jobs : JobsAreGrammar) (laws : LawsOfJobs) where
 
   -- and the same lists
   lists_alike : (p q : Program) (left : Contents) → IsSameJob p q → lists_of q left ≡ lists_of p left
-  lists_alike p q left same = λ j. (laws.reading q p (sym same)).lists j left
+  lists_alike p q left same = λ j. (laws.reading q p (sym same)).lists j [] left
 
   pub one_line_of_run : OneLineASeed → OneLineOfARun
   unfolding lists_behind

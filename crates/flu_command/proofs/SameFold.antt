@@ -1,5 +1,5 @@
 -- Programs that are the same job have the same report of the same sources, and of their rows behind what was read, from an opening.
-use Rattle.std.proofs.Common.{◌≡◌, ℕ, List, map, Option, Some, None, refl, ap, ◌∙◌, ◌/◌}
+use Rattle.std.proofs.Common.{◌≡◌, ℕ, List, [], map, Option, Some, None, refl, ap, ◌∙◌, ◌/◌}
 use Rattle.std.specs.Prelude.{nat_lt}
 use Rattle.std.specs.List.{filter}
 use Rattle.flu_laws.specs.OneJob.{DoTheSame, ReportTheSame}
@@ -26,11 +26,11 @@ same_above p q (Some t) lists moments = ap (λ scale. map (filter (λ item. nat_
 
 module _ (p q : Program) (updates : DoTheSame p q) (reports : ReportTheSame p q) (reading : ReadTheSame p q) where
   pub same_report : (s : Contents) (left : Files) → report p (final_outputs p s (lists_of p left)) ≡ report q (final_outputs q s (lists_of q left))
-  same_report s left = λ j. reports.reports j (updates.outputs j s (merged (reading.lists j left)))
+  same_report s left = λ j. reports.reports j (updates.outputs j s (merged (reading.lists j [] left)))
 
   pub same_report_from : moments_a_time p ≡ moments_a_time q → (o : Opening) (texts : List (List ℕ)) (left : Files)
       → report_from o texts left p ≡ report_from o texts left q
   unfolding lists_behind
   same_report_from moments o texts left =
-      (λ j. reports.reports j (updates.outputs j o.cells (merged (lists_above p o.border (reading.lists j (emptied_each texts left))))))
+      (λ j. reports.reports j (updates.outputs j o.cells (merged (lists_above p o.border (reading.lists j [] (emptied_each texts left))))))
       ∙ ap (λ (lists : List (List Item)). report q (final_outputs q o.cells lists)) (same_above p q o.border (lists_of q (emptied_each texts left)) moments)

@@ -24,7 +24,7 @@ same_lines texts left p q i same =
 module _ (law : JobsReadTheSame) where
   same_fault : (texts : List (List ℕ)) (left : Contents) (p q : Program) → IsSameJob p q → fault_behind texts left p ≡ fault_behind texts left q
   unfolding fault_behind
-  same_fault texts left p q same = λ j. (law p q same).faults j (emptied_each texts left)
+  same_fault texts left p q same = λ j. (law p q same).faults j [] (emptied_each texts left)
 
   same_sound : (texts : List (List ℕ)) (left : Contents) (p q : Program) → IsSameJob p q → AreSound p (lines_behind texts left p)
       → AreSound q (lines_behind texts left q)

@@ -8,6 +8,7 @@ pub mod Streams
 pub mod Places
 pub mod Merged
 pub mod Sent
+pub mod Idle
 pub mod Reading
 pub mod KeptLemmas
 pub mod OneJob

@@ -1,5 +1,5 @@
 -- What passes a test of the merged list is the merged list of what passes it; and the merged events of streams rise strictly.
-use Rattle.std.proofs.Common.{◌≡◌, ◌≤◌, ◌+◌, ℕ, suc, Bool, true, false, cond, not, List, [], ◌∷◌, ◌++◌, length, inl, inr, refl, sym, ap, ◌∙◌, arith}
+use Rattle.std.proofs.Common.{◌≡◌, ◌≤◌, ◌+◌, ℕ, zero, suc, Bool, true, false, cond, not, List, [], ◌∷◌, ◌++◌, length, inl, inr, refl, sym, ap, ◌∙◌, arith}
 use Rattle.std.specs.Prelude.{◌==◌, ◌&&◌, slice_index_or, ⊤}
 use Rattle.std.specs.Cmp.{IsStrictWeakOrder}
 use Rattle.std.specs.List.{filter, AllByRecursion}
@@ -95,7 +95,32 @@ later_itags n i (items ∷ lists) le e =
     (all_map (λ (x : Event). x.itag.0 ≡ i) (λ (x : Event). n ≤ x.itag.0) (events_of items) (λ x same. omega arith) (stream_itags i 0 items (and_left _ _ e)))
     (later_itags n (i + 1) lists (omega arith) (and_right _ _ e))
 
--- ---- streams that have the same events of the itags that pass a test
+-- ---- streams of which the same events pass a test
+same_events : (test : Event → Bool) (whole part : List (List Item)) → length part ≡ length whole
+    → ((k : ℕ) → filter test (events_of (slice_index_or part k [])) ≡ filter test (events_of (slice_index_or whole k [])))
+    → filter test (all_events part) ≡ filter test (all_events whole)
+same_events test [] [] long alike = refl
+same_events test [] (a ∷ part) long alike = absurd (omega (arith, long))
+same_events test (b ∷ whole) [] long alike = absurd (omega (arith, long))
+same_events test (b ∷ whole) (a ∷ part) long alike =
+    let here : filter test (events_of a) ≡ filter test (events_of b) = alike 0 in
+    let more = same_events test whole part (omega (arith, long)) (λ k. alike (suc k)) in
+    filter-append test (events_of a) (all_events part)
+    ∙ (λ j. here j ++ more j)
+    ∙ sym (filter-append test (events_of b) (all_events whole))
+
+is_before-weak : IsStrictWeakOrder is_before
+is_before-weak = earlier-ranks (λ (x : Event). x.time) (λ x. x.itag.0)
+
+pub lists_pass_alike : (test : Event → Bool) (whole part : List (List Item)) → length part ≡ length whole
+    → ((i : ℕ) → filter test (events_of (slice_index_or part i [])) ≡ filter test (events_of (slice_index_or whole i [])))
+    → filter test (merged part) ≡ filter test (merged whole)
+lists_pass_alike test whole part long alike =
+    filter_in_order is_before is_before-weak test (all_events part)
+    ∙ ap (in_order is_before) (same_events test whole part long alike)
+    ∙ sym (filter_in_order is_before is_before-weak test (all_events whole))
+
+-- ---- and so with a test of itags
 of_itag : (ℕ → Bool) → Event → Bool
 of_itag test x = test x.itag.0
 
@@ -105,45 +130,31 @@ none_pass test i [] fails all = refl
 none_pass test i (x ∷ xs) fails all =
     ap (λ b. cond b (x ∷ filter (of_itag test) xs) (filter (of_itag test) xs)) (ap test all.0 ∙ fails) ∙ none_pass test i xs fails all.1
 
-same_events : (test : ℕ → Bool) (i : ℕ) (whole part : List (List Item)) → are_streams i whole ≡ true → are_streams i part ≡ true → length part ≡ length whole
-    → ((k : ℕ) → test (i + k) ≡ true → events_of (slice_index_or part k []) ≡ events_of (slice_index_or whole k []))
-    → filter (of_itag test) (all_events part) ≡ filter (of_itag test) (all_events whole)
-same_events test i [] [] e f long agree = refl
-same_events test i [] (a ∷ part) e f long agree = absurd (omega (arith, long))
-same_events test i (b ∷ whole) [] e f long agree = absurd (omega (arith, long))
-same_events test i (b ∷ whole) (a ∷ part) e f long agree =
-    filter-append (of_itag test) (events_of a) (all_events part)
-    ∙ (λ j. here j ++ same_events test (i + 1) whole part (and_right (is_stream_from i 0 b) _ e) (and_right (is_stream_from i 0 a) _ f) (omega (arith, long))
-    (λ k h. agree (suc k) (ap test (next k) ∙ h)) j)
-    ∙ sym (filter-append (of_itag test) (events_of b) (all_events whole))
-  where
-    zero_more : i + 0 ≡ i
-    zero_more = omega arith
-
-    next : (k : ℕ) → i + suc k ≡ i + 1 + k
-    next k = omega arith
-
-    here : filter (of_itag test) (events_of a) ≡ filter (of_itag test) (events_of b)
-    here = elim (cases_Bool (test i)) [
-      | inl passes ↦ ap (filter (of_itag test)) (agree 0 (ap test zero_more ∙ passes))
-      | inr fails ↦ none_pass test i (events_of a) fails (stream_itags i 0 a (and_left _ _ f))
-          ∙ sym (none_pass test i (events_of b) fails (stream_itags i 0 b (and_left _ _ e)))
-    ]
-
-is_before-weak : IsStrictWeakOrder is_before
-is_before-weak = earlier-ranks (λ (x : Event). x.time) (λ x. x.itag.0)
+-- the events of a list of streams have its number as their itag
+itags_at : (i k : ℕ) (lists : List (List Item)) → are_streams i lists ≡ true
+    → AllByRecursion (λ (x : Event). x.itag.0 ≡ i + k) (events_of (slice_index_or lists k []))
+itags_at i k [] e = tt
+itags_at i zero (items ∷ lists) e =
+    all_map (λ (x : Event). x.itag.0 ≡ i) (λ (x : Event). x.itag.0 ≡ i + 0) (events_of items) (λ x is. omega (arith, is))
+    (stream_itags i 0 items (and_left _ _ e))
+itags_at i (suc k) (items ∷ lists) e =
+    all_map (λ (x : Event). x.itag.0 ≡ i + 1 + k) (λ (x : Event). x.itag.0 ≡ i + suc k) (events_of (slice_index_or lists k []))
+    (λ x is. omega (arith, is)) (itags_at (i + 1) k lists (and_right (is_stream_from i 0 items) _ e))
 
 pub lists_agree : (test : ℕ → Bool) (whole part : List (List Item)) → are_streams 0 whole ≡ true → are_streams 0 part ≡ true → length part ≡ length whole
     → ((i : ℕ) → test i ≡ true → events_of (slice_index_or part i []) ≡ events_of (slice_index_or whole i []))
     → filter (λ (x : Event). test x.itag.0) (merged part) ≡ filter (λ (x : Event). test x.itag.0) (merged whole)
 unfolding of_itag
-lists_agree test whole part e f long agree =
-    filter_in_order is_before is_before-weak (of_itag test) (all_events part)
-    ∙ ap (in_order is_before) (same_events test 0 whole part e f long (λ k h. agree k (sym (ap test (from_zero k)) ∙ h)))
-    ∙ sym (filter_in_order is_before is_before-weak (of_itag test) (all_events whole))
+lists_agree test whole part e f long agree = lists_pass_alike (of_itag test) whole part long alike
   where
-    from_zero : (k : ℕ) → 0 + k ≡ k
-    from_zero k = omega arith
+    alike : (i : ℕ) → filter (of_itag test) (events_of (slice_index_or part i [])) ≡ filter (of_itag test) (events_of (slice_index_or whole i []))
+    alike i = elim (cases_Bool (test i)) [
+      | inl passes ↦ ap (filter (of_itag test)) (agree i passes)
+      | inr fails ↦
+          let same : 0 + i ≡ i = omega arith in
+          none_pass test (0 + i) (events_of (slice_index_or part i [])) (ap test same ∙ fails) (itags_at 0 i part f)
+          ∙ sym (none_pass test (0 + i) (events_of (slice_index_or whole i [])) (ap test same ∙ fails) (itags_at 0 i whole e))
+    ]
 
 -- ---- merged events rise strictly
 is_other : Event → Event → Bool

@@ -1,7 +1,8 @@
 -- Programs of one job: the same nodes may be apart, contribute the same, and are joined alike.
 use Rattle.std.proofs.Common.{◌≡◌, refl, sym, ap, ◌∙◌, subst, ℕ, ◌<◌, List, [], ◌∷◌, ◌++◌, Bool, ◌&&◌, ◌||◌, not}
-use Rattle.std.specs.Prelude.{◌+◌, None, Some, if◌then◌else◌}
-use Rattle.std.specs.List.{list_any, position, filter, range_with_len, AllByRecursion}
+use Rattle.std.specs.Prelude.{◌+◌, false, None, Some, option_map, position, slice_get, if◌then◌else◌}
+use Rattle.std.specs.List.{list_any, filter, range_with_len, AllByRecursion}
+use Rattle.std.specs.Option.{option_map_or}
 use Rattle.flu_model.specs.declared.events.Cell.{Cell}
 use Rattle.flu_model.specs.declared.events.Event.{Event}
 use Rattle.flu_model.specs.declared.events.Item.{Item}
@@ -21,8 +22,8 @@ use Rattle.flu_laws.specs.Uses.{needs}
 use Rattle.flu_apart.specs.declared.classes.Class.TheVariants.{Unused, Kept, Contributed, Shared}
 use Rattle.flu_apart.specs.declared.reason.Reason.{Reason}
 use Rattle.flu_apart.specs.declared.reason.Reason.TheVariants.{Clock, Shared as SharedReason}
-use Rattle.flu_apart.specs.Apart.{MayBeApart, IsSharedUse, IsFirstReason}
-use Rattle.flu_apart.specs.Classes.{itag, inside, mode_at, is_used, is_contributed, is_kept}
+use Rattle.flu_apart.specs.Apart.{MayBeApart, first_clock, IsSharedUse, IsFirstReason}
+use Rattle.flu_apart.specs.Classes.{itag, inside, mode_at, has_ticks, is_used, is_contributed, is_kept}
 use Rattle.flu_contribution.specs.Combining.{Combined, with_effect, is_of_none}
 use Rattle.flu_contribution.specs.Contributions.{is_class_kept, keeps, Contribution, opened, with_event, closed, contributions_from, contributions}
 use Rattle.flu_contribution.specs.Laws.{IsApart, IsSetting}
@@ -65,12 +66,17 @@ module _ (laws : LawsOfJobs) (p q : Program) (same : IsSameJob p q) where
   back : (i : ℕ) → i < count_of_itags q → i < count_of_itags p
   back i lt = subst (λ n. i < n) (sym (laws.itags p q same).count) lt
 
-  same_clocks : list_any is_clock p.sources ≡ list_any is_clock q.sources
-  same_clocks = ap (λ j. list_any is_clock j.sources) same
+  same_ticks : has_ticks p ≡ has_ticks q
+  same_ticks = λ j i. option_map_or is_clock (slice_get (same j).sources ((laws.itags p q same).sources j (itag i))) false
+
+  same_first_clock : (nodes : List Node) (w : ℕ) → first_clock p nodes w ≡ first_clock q nodes w
+  same_first_clock nodes w = λ j.
+      option_map (λ i. (laws.itags p q same).sources j (itag i))
+      (position (λ i. same_inside j nodes w i && same_ticks j i) (range_with_len 0 ((laws.itags p q same).count j)))
 
   same_may : (nodes : List Node) (w : ℕ) → MayBeApart p nodes w → MayBeApart q nodes w
   same_may nodes w may = record {
-    no_clock = sym same_clocks ∙ may.no_clock;
+    no_clock = λ i lt inner. sym (λ j. same_ticks j i) ∙ may.no_clock i (back i lt) ((λ j. same_inside j nodes w i) ∙ inner);
     shares_none = λ i c lt inner used.
         sym (λ j. same_contributed j nodes w c || same_kept j nodes w c)
         ∙ may.shares_none i c (back i lt) ((λ j. same_inside j nodes w i) ∙ inner) ((λ j. uses (same_mode_at j i c)) ∙ used);
@@ -183,9 +189,9 @@ apart_alike laws p q same = record {
 }
   where
     first_alike : (nodes : List Node) (w : ℕ) (r : Reason) → IsFirstReason p nodes w r → IsFirstReason q nodes w r
-    first_alike nodes w (Clock number) is = sym (ap (λ j. position is_clock j.sources) same) ∙ is
+    first_alike nodes w (Clock number) is = sym (same_first_clock laws p q same nodes w) ∙ is
     first_alike nodes w (SharedReason u) is = (
-      sym (same_clocks laws p q same) ∙ is.0,
+      sym (same_first_clock laws p q same nodes w) ∙ is.0,
       record {
         shared = same_use laws p q same nodes w u.tag u.cell is.1.shared;
         first = λ v d other. is.1.first v d (same_use laws q p (sym same) nodes w v d other);

@@ -13,14 +13,14 @@ use Rattle.flu_contribution.specs.Combining.{is_of_none, combined}
 use Rattle.flu_contribution.specs.Contributions.{contributions}
 use Rattle.flu_contribution.specs.Laws.{ContributionsGiveTheRun, AreNodesApart, IsSetting}
 use Rattle.flu_contribution.specs.Sending.{sent, joined_from, start_of}
-use Rattle.flu_contribution.specs.Sharing.{needs_itag, is_itag_of_none, ArePartsFor, IsRestFor, all_sent, joined_parts, GivesTheReport}
-use Rattle.flu_contribution.specs.Sharing.{OnlyNeededEventsMatter, MergedListsAgree, WhatIsSentIsJoined}
+use Rattle.flu_contribution.specs.Sharing.{is_itag_of_none, ArePartsFor, IsRestFor, all_sent, joined_parts, GivesTheReport}
+use Rattle.flu_contribution.specs.Sharing.{MergedListsAgree, WhatIsSentIsJoined}
 use Rattle.flu_contribution.specs.Combining.{Combined}
 use Rattle.flu_model.specs.Reports.{report}
 use Rattle.flu_contribution.proofs.Merged.{merged_strictly}
 use Rattle.flu_contribution.proofs.Streams.{merged_in_range}
 
-module _ (needed : OnlyNeededEventsMatter) (agree : MergedListsAgree) (p : Program) (nodes : List Node) (opening : Contents) (whole : List (List Item))
+module _ (agree : MergedListsAgree) (p : Program) (nodes : List Node) (opening : Contents) (whole : List (List Item))
     (one : length whole ≡ count_of_itags p) (streams : are_streams 0 whole ≡ true) where
   parts_sent : (ws : List ℕ) (parts : List (List (List Item))) → ArePartsFor p nodes whole ws parts
       → all_sent p nodes opening ws parts ≡ map (λ w. sent (contributions p nodes w opening (merged whole))) ws
@@ -28,10 +28,8 @@ module _ (needed : OnlyNeededEventsMatter) (agree : MergedListsAgree) (p : Progr
   parts_sent [] (part ∷ parts) h = absurd h
   parts_sent (w ∷ ws) [] h = absurd h
   parts_sent (w ∷ ws) (part ∷ parts) h =
-      let events = agree (needs_itag p nodes w) whole part streams h.0.streams (h.0.length ∙ sym one) h.0.agree in
-      let same = needed p nodes w opening (merged part) (merged whole) events in
       let more = parts_sent ws parts h.1 in
-      λ j. sent (same j) ∷ more j
+      λ j. h.0.sends opening j ∷ more j
 
   rest_read : (ws : List ℕ) (rest : List (List Item)) → IsRestFor p nodes ws whole rest
       → filter (is_of_none p nodes ws) (merged rest) ≡ filter (is_of_none p nodes ws) (merged whole)

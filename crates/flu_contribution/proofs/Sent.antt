@@ -43,7 +43,7 @@ later_other x y e = grind (arith, common_steps)
 names_itself : (x : Event) → is_named (Some x) x ≡ true
 names_itself x = both (x.time == x.time) (x.itag.0 == x.itag.0) (eq_true x.time x.time refl) (eq_true x.itag.0 x.itag.0 refl)
 
-sent_idle : (k : Contribution) (ks : List Contribution) → is_idle k ≡ true → sent (k ∷ ks) ≡ sent ks
+pub sent_idle : (k : Contribution) (ks : List Contribution) → is_idle k ≡ true → sent (k ∷ ks) ≡ sent ks
 sent_idle k ks e = ap (λ b. cond (not b) (k ∷ sent ks) (sent ks)) e
 
 sent_busy : (k : Contribution) (ks : List Contribution) → is_idle k ≡ false → sent (k ∷ ks) ≡ k ∷ sent ks

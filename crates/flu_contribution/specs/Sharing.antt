@@ -1,6 +1,6 @@
 -- WHO READS WHAT: the streams that a node apart needs and those that the one that combines needs, and the laws that what the nodes send, each
 -- over its own part of the streams, gives the report of all of them.
-use Rattle.std.specs.Prelude.{◌≡◌, ℕ, Bool, not, ◌||◌, List, [], ◌∷◌, map, length, slice_index_or, IsTrue, ⊤}
+use Rattle.std.specs.Prelude.{◌≡◌, ℕ, Bool, true, false, not, ◌||◌, Contains, List, [], ◌∷◌, map, length, slice_index_or, IsTrue, ⊤}
 use Rattle.std.specs.List.{list_any, filter, AllByRecursion}
 use Rattle.flu_model.specs.declared.events.Event.{Event}
 use Rattle.flu_model.specs.declared.events.Item.{Item}
@@ -39,11 +39,11 @@ is_itag_of_none p nodes ws i = not (list_any (λ w. inside p nodes w i) ws)
 abbrev pub AgreeOn : (ℕ → Bool) → List (List Item) → List (List Item) → Type 0
 AgreeOn test whole part = (i : ℕ) → IsTrue (test i) → events_of (slice_index_or part i []) ≡ events_of (slice_index_or whole i [])
 
--- the streams that a node apart has read: one for each itag, and those of the itags that it needs have all their events
+-- the streams that a node apart has read: one for each itag, and of them it sends what it would send of the whole
 pub record IsPartFor (p : Program) (nodes : List Node) (whole : List (List Item)) (w : ℕ) (part : List (List Item)) : Type 0 where
   pub length : length part ≡ count_of_itags p
   pub streams : IsTrue (are_streams 0 part)
-  pub agree : AgreeOn (needs_itag p nodes w) whole part
+  pub sends : (opening : Contents) → sent (contributions p nodes w opening (merged part)) ≡ sent (contributions p nodes w opening (merged whole))
 
 -- the streams that the one that combines has read: those of the itags that are inside none of the nodes have all their events
 pub record IsRestFor (p : Program) (nodes : List Node) (ws : List ℕ) (whole : List (List Item)) (rest : List (List Item)) : Type 0 where
@@ -66,6 +66,11 @@ all_sent p nodes opening (w ∷ ws) (part ∷ parts) = sent (contributions p nod
 
 -- ---- the laws
 
+-- events that rise strictly: each is before all later ones
+abbrev pub RiseStrictly : List Event → Type 0
+RiseStrictly [] = ⊤
+RiseStrictly (x ∷ xs) = AllByRecursion (λ y. IsTrue (is_before x y)) xs × RiseStrictly xs
+
 -- ONLY NEEDED EVENTS MATTER: the same events inside and above, in the same order, give the same contributions
 abbrev pub OnlyNeededEventsMatter : Type 0
 OnlyNeededEventsMatter =
@@ -73,17 +78,36 @@ OnlyNeededEventsMatter =
     → filter (is_needed p nodes w) xs ≡ filter (is_needed p nodes w) ys
     → contributions p nodes w opening xs ≡ contributions p nodes w opening ys
 
+-- AN EVENT IS IDLE for a node among others: it is not inside, and between each event inside that is before it and itself there is one above. So when it
+-- comes, nothing has been contributed since the last event above.
+pub record IsIdle (p : Program) (nodes : List Node) (w : ℕ) (xs : List Event) (y : Event) : Type 0 where
+  pub outside : is_inside p nodes w y ≡ false
+  pub closed : (x : Event) → Contains xs x → is_inside p nodes w x ≡ true → is_before x y ≡ true
+      → (z : Event) × Contains xs z × (is_above p nodes w z ≡ true) × (is_before x z ≡ true) × (is_before z y ≡ true)
+
+-- IDLE EVENTS DON'T MATTER: of events that rise strictly a node sends the same without events that are idle for it, and without events that it does not
+-- need
+abbrev pub IdleEventsDontMatter : Type 0
+IdleEventsDontMatter =
+    (p : Program) (nodes : List Node) (w : ℕ) (opening : Contents) (test : Event → Bool) (xs : List Event)
+    → RiseStrictly xs → ((y : Event) → Contains xs y → test y ≡ false → is_needed p nodes w y ≡ true → IsIdle p nodes w xs y)
+    → sent (contributions p nodes w opening (filter test xs)) ≡ sent (contributions p nodes w opening xs)
+
+-- MERGED LISTS PASS ALIKE: where the events of each itag that pass a test are the same in two lists of streams, so are those of their merged lists, in the
+-- same order
+abbrev pub MergedListsPassAlike : Type 0
+MergedListsPassAlike =
+    (test : Event → Bool) (whole part : List (List Item))
+    → IsTrue (are_streams 0 whole) → IsTrue (are_streams 0 part) → length part ≡ length whole
+    → ((i : ℕ) → filter test (events_of (slice_index_or part i [])) ≡ filter test (events_of (slice_index_or whole i [])))
+    → filter test (merged part) ≡ filter test (merged whole)
+
 -- MERGED LISTS AGREE: where streams have the same events of the itags that pass a test, so have their merged lists, in the same order
 abbrev pub MergedListsAgree : Type 0
 MergedListsAgree =
     (test : ℕ → Bool) (whole part : List (List Item))
     → IsTrue (are_streams 0 whole) → IsTrue (are_streams 0 part) → length part ≡ length whole → AgreeOn test whole part
     → filter (λ (x : Event). test x.itag.0) (merged part) ≡ filter (λ (x : Event). test x.itag.0) (merged whole)
-
--- events that rise strictly: each is before all later ones
-abbrev pub RiseStrictly : List Event → Type 0
-RiseStrictly [] = ⊤
-RiseStrictly (x ∷ xs) = AllByRecursion (λ y. IsTrue (is_before x y)) xs × RiseStrictly xs
 
 -- MERGED EVENTS RISE STRICTLY: those of streams do, so no two have the same time and itag
 abbrev pub MergedEventsRiseStrictly : Type 0

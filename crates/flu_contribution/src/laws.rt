@@ -2,7 +2,8 @@
 //! contributed (`docs/SCALE.md`). Each law is the contract of a function that does nothing.
 
 ghost use Rattle.flu_contribution.specs.OneJob.{JobsMayBeApartAlike, JobsContributeTheSame};
-ghost use Rattle.flu_contribution.specs.Sharing.{OnlyNeededEventsMatter, MergedEventsRiseStrictly, MergedListsAgree, WhatIsSentIsJoined, PartsGiveTheReport};
+ghost use Rattle.flu_contribution.specs.Sharing.{OnlyNeededEventsMatter, IdleEventsDontMatter, MergedEventsRiseStrictly, MergedListsAgree, MergedListsPassAlike};
+ghost use Rattle.flu_contribution.specs.Sharing.{WhatIsSentIsJoined, PartsGiveTheReport};
 
 use crate::contributions_give_the_fold;
 
@@ -11,10 +12,17 @@ pub fn only_needed_events_matter()
     ensures { OnlyNeededEventsMatter }
 {}
 
-/// Where two lists of streams have the same events of the itags that pass a test, the events of these itags are the same in both merged
-/// lists, in the same order.
+/// An event is idle for a node if nothing has been contributed since the last event above the node when it comes. Without such events the node sends
+/// the same: contributions of no event are not sent. The events rise strictly.
+pub fn idle_events_dont_matter()
+    ensures { IdleEventsDontMatter }
+{}
+
+/// Where two lists of streams have the same events that pass a test, itag by itag, these are the same in both merged lists, in the same order. So it is
+/// with a test of itags.
 pub fn merged_lists_agree()
-    ensures { MergedListsAgree }
+    ensures events { MergedListsPassAlike }
+    ensures itags { MergedListsAgree }
 {}
 
 /// The merged events of streams rise strictly: each is before all later ones.
@@ -34,14 +42,13 @@ pub fn what_is_sent_is_joined()
     flu_deps::laws::itags_are_owned();
 }
 
-/// Where each node has read streams with all events of the itags that it needs, and the one that combines has read streams with all events of
+/// Where each node has read streams of which it sends what it would send of the whole, and the one that combines has read streams with all events of
 /// the itags that are inside none of the nodes, what the nodes send and the rest of the events give the fold's final state and its report.
 /// What else each of them has read changes nothing.
 pub fn parts_give_the_report()
     ensures { PartsGiveTheReport }
 {
     contributions_give_the_fold();
-    only_needed_events_matter();
     merged_lists_agree();
     what_is_sent_is_joined();
 }

@@ -3,11 +3,12 @@
 use crate::hints::refusal_hint;
 use crate::places::push_line;
 use crate::reasons::Failure;
+use crate::row_reasons::has_clocks;
 use crate::words::word_at;
 use flu_apart::Reason;
 use flu_combine::PartialDefect;
 use flu_lines::{FileDefect, NodeDefect, PartRefusal};
-use flu_model::{Node, Plan};
+use flu_model::{Node, Plan, Program};
 use flu_receiving::PartialFault;
 use std::alloc::{AllocError, Global};
 use std::rt;
@@ -25,9 +26,13 @@ const FIRST_PARTIAL: usize = 3;
 const SHARED: &str =
     "a tag of the node or of one below it reads or owns that cell, and a tag of another node uses it too";
 
-/// What keeps each node of a job with a clock from being apart.
+/// What keeps a node from being apart where it or one below it owns what a clock ticks.
 const CLOCK: &str =
     "a clock ticks behind the rows of all sources, of which a process of its own reads only some";
+
+/// What to do then.
+const LEAVE_THE_CLOCK: &str =
+    "let combine make the ticks: take nodes below the one that owns the clock, or a plan in which a node above owns it";
 
 /// What a person who sees that a part command was refused may want to know; empty if nothing is known.
 ///
@@ -40,19 +45,33 @@ pub fn part_hint<R: rt::Files + AllocGlobal>(
 ) -> Result<String, AllocError> {
     match refusal {
         PartRefusal::Command(refusal) => refusal_hint(rt, words, refusal, failure),
-        PartRefusal::Node(_, valid, _, why) => node_hint(rt.alloc(), valid.plan(), *why),
-        PartRefusal::File(_, valid, name, why) => {
-            file_hint(rt.alloc(), words, valid.plan(), name, *why)
+        PartRefusal::Node(checked, valid, _, why) => {
+            node_hint(rt.alloc(), checked.program(), valid.plan(), *why)
         }
+        PartRefusal::File(checked, valid, name, why) => file_hint(
+            rt.alloc(),
+            words,
+            checked.program(),
+            valid.plan(),
+            name,
+            *why,
+        ),
     }
 }
 
 // What helps with the node that `partial` names.
-fn node_hint(alloc: Global, plan: &Plan, why: NodeDefect) -> Result<String, AllocError> {
+fn node_hint(
+    alloc: Global,
+    program: &Program,
+    plan: &Plan,
+    why: NodeDefect,
+) -> Result<String, AllocError> {
     let mut told = String::new(alloc);
     match why {
         NodeDefect::Unknown => push_nodes(alloc, &mut told, plan)?,
-        NodeDefect::NotApart(node, why) => push_not_apart(alloc, &mut told, plan, node, why)?,
+        NodeDefect::NotApart(node, why) => {
+            push_not_apart(alloc, &mut told, program, plan, node, why)?
+        }
     }
     Ok(told)
 }
@@ -61,6 +80,7 @@ fn node_hint(alloc: Global, plan: &Plan, why: NodeDefect) -> Result<String, Allo
 fn file_hint(
     alloc: Global,
     words: &[String],
+    program: &Program,
     plan: &Plan,
     name: &str,
     why: FileDefect,
@@ -71,7 +91,9 @@ fn file_hint(
             &mut told,
             "that file has rows, which combine reads by itself: a FILE is what flumina partial wrote",
         )?,
-        FileDefect::Partial(defect) => push_partial(alloc, &mut told, words, plan, name, defect)?,
+        FileDefect::Partial(defect) => {
+            push_partial(alloc, &mut told, words, program, plan, name, defect)?
+        }
     }
     Ok(told)
 }
@@ -81,6 +103,7 @@ fn push_partial(
     alloc: Global,
     told: &mut String,
     words: &[String],
+    program: &Program,
     plan: &Plan,
     name: &str,
     defect: PartialDefect,
@@ -99,7 +122,9 @@ fn push_partial(
             push_line(told, "it names this plan, which has no node of that name")?;
             push_nodes(alloc, told, plan)?;
         }
-        PartialDefect::NotApart(node, why) => push_not_apart(alloc, told, plan, node, why)?,
+        PartialDefect::NotApart(node, why) => {
+            push_not_apart(alloc, told, program, plan, node, why)?
+        }
         PartialDefect::Twice(_) => {
             push_line(
                 told,
@@ -114,6 +139,10 @@ fn push_partial(
             )?;
             return push_earlier(alloc, told, words, name);
         }
+        PartialDefect::WrongTimes => push_line(
+            told,
+            "its first and its last time, between which clocks tick, don't go together: the file was changed",
+        )?,
         PartialDefect::LeftOver => push_line(
             told,
             "it was written when the sources that combine reads had other rows",
@@ -195,6 +224,7 @@ fn push_nodes(alloc: Global, told: &mut String, plan: &Plan) -> Result<(), Alloc
 fn push_not_apart(
     alloc: Global,
     told: &mut String,
+    program: &Program,
     plan: &Plan,
     node: u32,
     why: Reason,
@@ -202,36 +232,56 @@ fn push_not_apart(
     match why {
         Reason::Clock(_) => {
             push_line(told, CLOCK)?;
+            push_line(told, LEAVE_THE_CLOCK)
+        }
+        Reason::Shared(_) => {
+            push_line(told, SHARED)?;
+            let is_other = push_above(alloc, told, program, plan, node)?;
             push_line(
                 told,
-                "run the job as a whole, or give the ticks as rows of a source with a file in place of the clock",
+                if is_other {
+                    "or let the tags of the node and those below it only add to the cell or raise it"
+                } else {
+                    "let the tags of the node and those below it only add to the cell or raise it"
+                },
             )
         }
-        Reason::Shared(_) => push_shared(alloc, told, plan, node),
     }
 }
 
-// Appends what it means that a node shares a cell, and which nodes are above it.
-fn push_shared(alloc: Global, told: &mut String, plan: &Plan, node: u32) -> Result<(), AllocError> {
-    push_line(told, SHARED)?;
-    let mut line = String::from_str(
-        alloc,
-        "try a node above it, of which the root may always be apart: ",
-    )?;
+// Appends which nodes are above a node that shares a cell, and says whether there are any. The root may always be apart, but in a job with a clock it
+// never is.
+fn push_above(
+    alloc: Global,
+    told: &mut String,
+    program: &Program,
+    plan: &Plan,
+    node: u32,
+) -> Result<bool, AllocError> {
+    let is_clocked = has_clocks(program);
+    let begun = if is_clocked {
+        "try a node above it, if no clock is owned there or below: "
+    } else {
+        "try a node above it, of which the root may always be apart: "
+    };
+    let mut line = String::from_str(alloc, begun)?;
     let mut is_first = true;
     let mut below = node;
     for _ in 0..MOST_ABOVE {
         let Some((number, above)) = parent_of(plan, below) else {
             break;
         };
+        if is_clocked && parent_of(plan, number).is_none() {
+            break;
+        }
         push_name(&mut line, &mut is_first, above.name.as_str())?;
         below = number;
     }
+    if is_first {
+        return Ok(false);
+    }
     push_line(told, line.as_str())?;
-    push_line(
-        told,
-        "or let the tags of the node and those below it only add to the cell or raise it",
-    )
+    Ok(true)
 }
 
 // The node right above a node, with its number.

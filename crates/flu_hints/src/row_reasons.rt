@@ -198,7 +198,8 @@ fn bad_row_reason(program: &Program, row: &str) -> Option<&'static str> {
     reason.or_else(|| rest_reason(program.version, rest))
 }
 
-fn has_clocks(program: &Program) -> bool {
+/// Whether a job has a clock.
+pub(crate) fn has_clocks(program: &Program) -> bool {
     program
         .sources
         .items()

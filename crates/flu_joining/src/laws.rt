@@ -17,13 +17,12 @@ pub fn what_is_sent_is_used_up()
     flu_contribution::contributions_have_places();
 }
 
-/// So it is where each node has read streams with all events of the itags that it needs, and the one that combines has read streams with
+/// So it is where each node has read streams of which it sends what it would send of the whole, and the one that combines has read streams with
 /// all events of the itags that are inside none of the nodes.
 pub fn parts_are_used_up()
     ensures { PartsAreUsedUp }
 {
     what_is_sent_is_used_up();
-    flu_contribution::laws::only_needed_events_matter();
     flu_contribution::laws::merged_lists_agree();
 }
 

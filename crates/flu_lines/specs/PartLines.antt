@@ -54,6 +54,7 @@ partial_defect_text p nodes defects.UnknownNode = codes "unknown node"
 partial_defect_text p nodes (defects.NotApart u reason) = codes "node " ++ not_apart_text p nodes u reason
 partial_defect_text p nodes (defects.Twice u) = codes "node " ++ node_name nodes u ++ codes " twice"
 partial_defect_text p nodes (defects.Within u v) = codes "node " ++ node_name nodes u ++ codes " within " ++ node_name nodes v
+partial_defect_text p nodes defects.WrongTimes = codes "wrong times"
 partial_defect_text p nodes defects.LeftOver = codes "left over"
 
 -- what is wrong with a file that is named as a partial: it is the file of this source too, or it is no partial that can be combined

@@ -178,6 +178,7 @@ fn write_partial_text<E: Sink>(
         }
         PartialDefect::Twice(node) => write_twice(err, plan, node),
         PartialDefect::Within(inner, outer) => write_within(err, plan, inner, outer),
+        PartialDefect::WrongTimes => write_all(err, b"wrong times\n"),
         PartialDefect::LeftOver => write_all(err, b"left over\n"),
     }
 }

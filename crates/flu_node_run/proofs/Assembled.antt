@@ -1,5 +1,5 @@
 -- The head of a partial, and its text, from their parts.
-use Rattle.std.proofs.Common.{◌≡◌, ◌<◌, ◌∙◌, refl, sym, ap, ℕ, List, length, get_or, Option, Some, None}
+use Rattle.std.proofs.Common.{◌≡◌, ◌<◌, ◌∙◌, refl, sym, ap, ℕ, List, [], length, get_or, Option, Some, None}
 use Rattle.std.proofs.lemmas.Option.{slice_get_read}
 use Rattle.flu_model.specs.declared.events.Item.{Item}
 use Rattle.flu_model.specs.declared.jobs.Program.{Program}
@@ -19,12 +19,12 @@ pub is_named : (nodes : List Node) (w : ℕ) (n : Node) → w < length nodes →
 is_named nodes w n lt is = sym (ap name_of_child (slice_get_read nodes (length nodes) w n refl lt is))
 
 pub is_head : (p : Program) (nodes : List Node) (w : ℕ) (lists : List (List Item)) (first : Option ℕ) (job name plan : List ℕ)
-    → first ≡ first_time lists → job ≡ normal_form (job_of p) → name ≡ name_of_node nodes w → plan ≡ printed p nodes
+    → first ≡ first_time p lists → job ≡ normal_form (job_of p) → name ≡ name_of_node nodes w → plan ≡ printed p nodes
     → record { first = first; job = job; node = name; plan = plan } ≡ head_of p nodes w lists
 is_head p nodes w lists first job name plan e f g h = λ j. record { first = e j; job = f j; node = g j; plan = h j }
 
 pub is_partial : (p : Program) (nodes : List Node) (w : ℕ) (text : List ℕ) (streams : Streams) (a b : Option Contents)
-    → ReadAreGood p (reads p nodes w) a b → AreReadLists p (reads p nodes w) a b streams
+    → ReadAreGood p [] (reads p nodes w) a b → AreReadLists p [] (reads p nodes w) a b streams
     → ReadAreOut p (reads p nodes w) b → text ≡ text_of_partial p nodes w (listed streams) → WhereTold a b (IsPartialOf p nodes w text)
 is_partial p nodes w text streams None None good are ends is = tt
 is_partial p nodes w text streams None (Some y) good are ends is = good

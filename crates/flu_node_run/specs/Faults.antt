@@ -1,5 +1,5 @@
 -- Why the partial of a node was not written.
-use Rattle.std.specs.Prelude.{◌≡◌, ◌<◌, ℕ, Bool, length, Option, Some, ⊤}
+use Rattle.std.specs.Prelude.{◌≡◌, ◌<◌, ℕ, Bool, length, Option, Some, [], ⊤}
 use Rattle.flu_model.specs.declared.jobs.Program.{Program}
 use Rattle.flu_outside.specs.Outside.{Contents, WhereTold}
 use Rattle.flu_streams.specs.declared.faults.GatherFault.{GatherFault}
@@ -17,7 +17,7 @@ fault_of_reading NoMemoryThere = NoMemory
 -- a fault of a source is the first of the sources that are read, and names a declared source
 abbrev pub IsFirstPartFault : Program → (ℕ → Bool) → Option Contents → Option Contents → PartFault → Type 0
 IsFirstPartFault p is_read left left' (Source f) =
-    (f.source < length p.sources) × WhereTold left left' (λ was now. first_read_fault p is_read was ≡ Some f)
+    (f.source < length p.sources) × WhereTold left left' (λ was now. first_read_fault p [] is_read was ≡ Some f)
 IsFirstPartFault p is_read left left' ReadFault = ⊤
 IsFirstPartFault p is_read left left' WriteFault = ⊤
 IsFirstPartFault p is_read left left' NoMemory = ⊤

@@ -1,10 +1,8 @@
 //! Reading the sources that a node needs.
 
-ghost use Rattle.std.specs.Prelude.{◌≡◌, ◌≢◌, false, length, OnOk, IfOk, IfErr, IsErrOf, Err};
-ghost use Rattle.std.specs.List.{list_any};
+ghost use Rattle.std.specs.Prelude.{◌≡◌, ◌≢◌, [], length, OnOk, IfOk, IfErr, IsErrOf, Err};
 ghost use Rattle.flu_model.specs.Itags.{count_of_itags};
 ghost use Rattle.flu_model.specs.Listed.{listed};
-ghost use Rattle.flu_model.specs.Rules.{is_clock};
 ghost use Rattle.flu_outside.specs.Outside.{WhereTold, SameCounts};
 ghost use Rattle.flu_outside.specs.Taking.{TookFronts};
 ghost use Rattle.flu_deps.specs.Checking.{program_of};
@@ -22,7 +20,7 @@ use flu_selected::gather_selected;
 use flu_streams::GatherFault;
 use std::alloc::Global;
 
-/// Reads each source that a node of a valid plan needs to its end, and no other. No source is a clock: else the node could not be apart.
+/// Reads each source that a node of a valid plan needs to its end, and no other. Clocks tick among the rows that it reads.
 pub(crate) fn gather_needed<F: Files>(
     alloc: Global,
     files: &mut F,
@@ -31,12 +29,11 @@ pub(crate) fn gather_needed<F: Files>(
     w: u32,
 ) -> Result<Streams, GatherFault>
     requires valid { IsValidFor (program_of c.now) v.now }
-    requires no_clocks { list_any is_clock (program_of c.now).sources ≡ false }
-    ensures good { OnOk result (ReadAreGood (program_of c.now) (read_by c.now v.now w) (F.left files.old) (F.left files.new)) }
-    ensures lists { IfOk result (AreReadLists (program_of c.now) (read_by c.now v.now w) (F.left files.old) (F.left files.new)) }
+    ensures good { OnOk result (ReadAreGood (program_of c.now) [] (read_by c.now v.now w) (F.left files.old) (F.left files.new)) }
+    ensures lists { IfOk result (AreReadLists (program_of c.now) [] (read_by c.now v.now w) (F.left files.old) (F.left files.new)) }
     ensures itags { IfOk result (λ streams. length (listed streams) ≡ count_of_itags (program_of c.now)) }
     ensures read_out { OnOk result (ReadAreOut (program_of c.now) (read_by c.now v.now w) (F.left files.new)) }
-    ensures fault { IfErr result (IsFirstReadFault (program_of c.now) (read_by c.now v.now w) (F.left files.old) (F.left files.new)) }
+    ensures fault { IfErr result (IsFirstReadFault (program_of c.now) [] (read_by c.now v.now w) (F.left files.old) (F.left files.new)) }
     ensures fronts { WhereTold (F.left files.old) (F.left files.new) TookFronts }
     ensures others { WhereTold (F.left files.old) (F.left files.new) (LeavesUnread (program_of c.now) (read_by c.now v.now w)) }
     ensures counts { CountsOfRead (program_of c.now) (read_by c.now v.now w) (F.left files.old) (F.faults files.old) (F.faults files.new) }
@@ -49,5 +46,5 @@ pub(crate) fn gather_needed<F: Files>(
         (F.faults files.old) (F.faults files.new) }
 {
     let read = sources_of_node(c, v, w);
-    gather_selected(alloc, c.program(), read.as_slice(), files)
+    gather_selected(alloc, c.program(), read.as_slice(), &[], files)
 }

@@ -1,8 +1,6 @@
 //! Running a node apart.
 
-ghost use Rattle.std.specs.Prelude.{◌≡◌, ◌≢◌, ◌<◌, ◌≤◌, ℕ, false, List, length, OnOk, IfOk, IfErr, IsErrOf, Err};
-ghost use Rattle.std.specs.List.{list_any};
-ghost use Rattle.flu_model.specs.Rules.{is_clock};
+ghost use Rattle.std.specs.Prelude.{◌≡◌, ◌≢◌, ◌<◌, ◌≤◌, ℕ, List, [], length, OnOk, IfOk, IfErr, IsErrOf, Err};
 ghost use Rattle.flu_outside.specs.Outside.{WhereTold, SameCounts, Rose};
 ghost use Rattle.flu_outside.specs.Taking.{TookFronts};
 ghost use Rattle.flu_outside.specs.Writing.{AppendsAll, AppendsPart};
@@ -22,7 +20,7 @@ use flu_streams::GatherFault;
 use std::alloc::Global;
 
 /// The text of the partial of a node of a plan that is valid for an accepted job, over the sources that the node needs. These are read to
-/// their end, and no others. The node may be apart, so that no source of the job is a clock.
+/// their end, and no others; clocks tick among their rows.
 ///
 /// A source fault is the first defect of the first of these sources, as declared, that has one.
 pub fn partial_of<F: Files>(
@@ -33,10 +31,9 @@ pub fn partial_of<F: Files>(
     w: u32,
 ) -> Result<Vec<u8>, GatherFault>
     requires valid { IsValidFor (program_of c.now) v.now }
-    requires no_clocks { list_any is_clock (program_of c.now).sources ≡ false }
     requires node { w < length (plan_of v.now).nodes }
     ensures text { IfOk result (λ text. WhereTold (F.left files.old) (F.left files.new) (IsPartialOf (program_of c.now) (plan_of v.now).nodes w text.items)) }
-    ensures fault { IfErr result (IsFirstReadFault (program_of c.now) (read_by c.now v.now w) (F.left files.old) (F.left files.new)) }
+    ensures fault { IfErr result (IsFirstReadFault (program_of c.now) [] (read_by c.now v.now w) (F.left files.old) (F.left files.new)) }
 
     // It only takes bytes from the front of the files of the sources that the node needs, and puts none; and a read fault has its cause there.
     ensures fronts { WhereTold (F.left files.old) (F.left files.new) TookFronts }
@@ -61,7 +58,7 @@ pub fn partial_of<F: Files>(
 }
 
 /// Writes the partial of a node of a plan that is valid for an accepted job, over the sources that the node needs. These are read to their
-/// end before the first byte is written, and no others are read. The node may be apart, so that no source of the job is a clock.
+/// end before the first byte is written, and no others are read; clocks tick among their rows.
 ///
 /// # Errors
 ///
@@ -76,7 +73,6 @@ pub fn write_partial<F: Files, K: Sink>(
     w: u32,
 ) -> Result<(), PartFault>
     requires valid { IsValidFor (program_of c.now) v.now }
-    requires no_clocks { list_any is_clock (program_of c.now).sources ≡ false }
     requires node { w < length (plan_of v.now).nodes }
     ensures written { OnOk result ((text : List ℕ)
         × WhereTold (F.left files.old) (F.left files.new) (IsPartialOf (program_of c.now) (plan_of v.now).nodes w text)

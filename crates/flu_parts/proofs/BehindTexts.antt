@@ -42,10 +42,10 @@ module _ (p : Program) (nodes : List Node) (job plan node : List ℕ) (w : ℕ) 
   text_of_node text is =
       told_weaker (IsPartialOf p nodes w text) (IsTextOf (Partial job plan node) p nodes text) a b (λ x y h. (w, apart, h)) is
 
-  pub fault_of_node : (fault : SourceFault) → WhereTold a b (λ was now. first_read_fault p (reads p nodes w) was ≡ Some fault)
+  pub fault_of_node : (fault : SourceFault) → WhereTold a b (λ was now. first_read_fault p [] (reads p nodes w) was ≡ Some fault)
       → WhereTold a b (λ left now. IsSourceDefect (Partial job plan node) p nodes left fault)
   fault_of_node fault is =
-      told_weaker (λ was now. first_read_fault p (reads p nodes w) was ≡ Some fault)
+      told_weaker (λ was now. first_read_fault p [] (reads p nodes w) was ≡ Some fault)
       (λ left now. IsSourceDefect (Partial job plan node) p nodes left fault) a b (λ x y h. (w, apart, h)) is
 
 -- ---- `combine`

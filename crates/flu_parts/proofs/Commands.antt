@@ -169,7 +169,7 @@ stays law (Combine job plan names) p nodes text y z (none, is) leaves name out =
         (λ unread. leaves name (λ read. elim read.1 [
           | inl named ↦ unnamed named
           | inr beside ↦ unread (subst (λ ws. IsRead p (reads_rest p nodes ws) name)
-              (one_list law p nodes y names beside.0 is.ws beside.1 is.queues beside.2.partials is.accepted.partials) beside.3)
+              (one_list law p nodes y names beside.0 is.ws beside.1 is.queues beside.3.partials is.accepted.partials) beside.4)
         ]))
 
     by_test : (b : Bool) → is_among names name ≡ b → z name ≡ Some []
@@ -285,7 +285,7 @@ module _ (law : PartialsHaveOneText) (command : PartCommand) (checked : Checked)
     may = record { accepted = accepted; valid = fits; planned = planned };
     named = elim read.1 [
       | inl named ↦ inl (read.0, named)
-      | inr beside ↦ inr (beside.3.0, read.0, subst (λ (left : Contents). IsReadBeside p nodes partials left name) same beside)
+      | inr beside ↦ inr (beside.4.0, read.0, subst (λ (left : Contents). IsReadBeside p nodes partials left name) same beside)
     ];
   }
 

@@ -1,5 +1,5 @@
 -- If nothing failed, the status of a part command is the one that it and its files call for, or the one for out of memory.
-use Rattle.std.proofs.Common.{◌≡◌, ◌≢◌, ℕ, List, Option, Some, None, Ok, refl, sym, ap, subst, ◌∙◌, inl, inr, ◌⊎◌, arith}
+use Rattle.std.proofs.Common.{◌≡◌, ◌≢◌, ℕ, List, [], Option, Some, None, Ok, refl, sym, ap, subst, ◌∙◌, inl, inr, ◌⊎◌, arith}
 use Rattle.std.specs.Prelude.{Contains}
 use Rattle.std.proofs.lemmas.Option.{get_or_from_slice_get}
 use Rattle.flu_lemmas.proofs.Places.{position_below, position_passes}
@@ -63,11 +63,11 @@ no_node_defect reasons p nodes node w (NotApart u reason) apart defect =
 
 -- sources that a node reads have no defect, or they have one
 good_or_faulty : (p : Program) (nodes : List Node) (node : List ℕ) (left : Contents) (v w : ℕ) (fault : SourceFault) → IsNodeApart p nodes node v
-    → IsNodeApart p nodes node w → first_read_fault p (reads p nodes v) left ≡ None → first_read_fault p (reads p nodes w) left ≡ Some fault → ⊥
+    → IsNodeApart p nodes node w → first_read_fault p [] (reads p nodes v) left ≡ None → first_read_fault p [] (reads p nodes w) left ≡ Some fault → ⊥
 good_or_faulty p nodes node left v w fault one other good bad =
     let e : Some v ≡ Some w = sym one.named ∙ other.named in
     let same : v ≡ w = cc in
-    let none : None ≡ Some fault = sym good ∙ ap (λ (u : ℕ). first_read_fault p (reads p nodes u) left) same ∙ bad in
+    let none : None ≡ Some fault = sym good ∙ ap (λ (u : ℕ). first_read_fault p [] (reads p nodes u) left) same ∙ bad in
     cc
 
 -- names that are no sources' files have no first that is one

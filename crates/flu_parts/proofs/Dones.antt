@@ -79,6 +79,6 @@ calls_fold one_job one_report law words old new whole left now got job plan part
     let folded =
     law whole left now job plan partials written.0 wrote
     (all_made_of whole (behind command left) (bytes_left left job) (plan_behind (Named job) plan left) partials made)
-    (λ name read. same wrote.p wrote.nodes name wrote.planned (wrote.is.1.ws, wrote.is.1.queues, wrote.is.1.accepted, read)) in
+    (λ name read. same wrote.p wrote.nodes name wrote.planned (wrote.is.1.ws, wrote.is.1.queues, wrote.is.1.told, wrote.is.1.accepted, read)) in
     let alike = one_report wrote.p p nothing_held whole (one_job (Named job) left wrote.p p wrote.planned.has planned.has) in
     appended old.out new.out got written.0 had written.2 ∙ ap (λ (text : List ℕ). Some (got ++ text)) (folded ∙ alike)

@@ -152,15 +152,15 @@ failed_behind (Combine job plan partials) p nodes None new k l accepted valid pl
     (one.0, inr (record { p = p; nodes = nodes; may = record { accepted = accepted; valid = valid; planned = tt }; named = inr (one.1, none, tt) }), one.2)
 failed_behind (Combine job plan partials) p nodes (Some x) None k l accepted valid planned (none, inr source, hides) = absurd planned
 failed_behind (Combine job plan partials) p nodes (Some x) (Some z) k l accepted valid planned (none, inr source, hides) =
-    let told = source.1 in (
-      told.rose.0,
+    let found = source.1 in (
+      found.rose.0,
       inr (record {
         p = p;
         nodes = nodes;
         may = record { accepted = accepted; valid = valid; planned = planned };
-        named = inr (told.rose.1.0, none, (told.ws, told.queues, told.accepted, told.rose.1));
+        named = inr (found.rose.1.0, none, (found.ws, found.queues, found.told, found.accepted, found.rose.1));
       }),
-      told.rose.2,
+      found.rose.2,
     )
 
 name_that_failed : (command : PartCommand) (old new : Option Contents) (k l : List ℕ → ℕ) → HasFailedRead command old new k l

@@ -70,7 +70,7 @@ HasFileDefect (Combine job plan partials) old new p nodes name why =
 -- ---- the sources
 -- the first defect of the sources that are read, of what their files have left
 abbrev pub IsSourceDefect : PartCommand → Program → List Node → Contents → SourceFault → Type 0
-IsSourceDefect (Partial job plan node) p nodes left fault = (w : ℕ) × IsNodeApart p nodes node w × (first_read_fault p (reads p nodes w) left ≡ Some fault)
+IsSourceDefect (Partial job plan node) p nodes left fault = (w : ℕ) × IsNodeApart p nodes node w × (first_read_fault p [] (reads p nodes w) left ≡ Some fault)
 IsSourceDefect (Combine job plan partials) p nodes left fault = AreNoSources partials p × IsFaultOfSource p nodes partials left fault
 
 pub record HasSourceDefect (command : PartCommand) (old new : Option Contents) (p : Program) (fault : SourceFault) : Type 0 where

@@ -1,15 +1,12 @@
 //! Jobs with plans, nodes that may be apart, and rows that a seed draws.
 
-ghost use Rattle.std.specs.Prelude.{◌≡◌, ◌<◌, ◌^◌, false, IfOk, IfSome};
-ghost use Rattle.std.specs.List.{list_any};
-ghost use Rattle.flu_model.specs.Rules.{is_clock};
+ghost use Rattle.std.specs.Prelude.{◌<◌, ◌^◌, IfOk, IfSome};
 ghost use Rattle.flu_deps.specs.Checking.{program_of};
 ghost use Rattle.flu_deps.specs.Validated.{IsValidFor};
 
 use flu_check::check;
 use flu_deps::{Checked, Valid};
 use flu_draw::{draw_of, next_draw};
-use flu_model::Program;
 use flu_outside::HonestFiles;
 use flu_parse::read_job;
 use flu_plan::read_plan;
@@ -120,17 +117,42 @@ node views: view@app
     ],
 };
 
-/// A job that is accepted, and a plan that is valid for it; none if one of the two is not, or if the job has a clock, so that no node may be apart.
+/// Rides that two clocks print, one declared before the sources and one behind them: both tick behind the rows of all sources.
+pub const HOURS: Case = Case {
+    job: "version 3 ties 3
+cell rides keyed sum
+cell top keyed max
+tag ride keyed int
+tag hour none
+tag day none
+depends ride hour
+depends ride day
+depends hour hour
+depends day day
+on ride: add rides[key] value; raise top[key] value
+on hour: flush top \"station {key}: at most {cell}\"
+on day: flush rides \"station {key}: {cell}\"
+clock hours every 5: hour
+source north \"north\": ride[1]
+source south \"south\": ride[2..3]
+clock days every 7: day
+",
+    plan: "node root: hour, day -> left right
+node left: ride@north
+node right: ride@south
+",
+    apart: &[&[1], &[2], &[1, 2]],
+    ties: 3,
+    sources: &[("north", "ride[1],#"), ("south", "ride[2],#\nride[3],#")],
+};
+
+/// A job that is accepted, and a plan that is valid for it; none if one of the two is not.
 pub fn judged(alloc: Global, case: Case) -> Result<Option<(Checked, Valid)>, Fail>
     ensures valid { IfOk result (λ both. IfSome both (λ b. IsValidFor (program_of b.0) b.1)) }
-    ensures no_clocks { IfOk result (λ both. IfSome both (λ b. list_any is_clock (program_of b.0).sources ≡ false)) }
 {
     let Ok(checked) = check(read_job(alloc, case.job.as_bytes())?) else {
         return Ok(None);
     };
-    if has_clock(checked.program()) {
-        return Ok(None);
-    }
     let Ok(plan) = read_plan(alloc, checked.program(), case.plan.as_bytes()) else {
         return Ok(None);
     };
@@ -138,17 +160,6 @@ pub fn judged(alloc: Global, case: Case) -> Result<Option<(Checked, Valid)>, Fai
         return Ok(None);
     };
     Ok(Some((checked, valid)))
-}
-
-// Whether a source of a job is a clock.
-fn has_clock(program: &Program) -> bool
-    ensures { result ≡ list_any is_clock program.now.sources }
-{
-    program
-        .sources
-        .items()
-        .iter()
-        .any(|source| source.every.is_some())
 }
 
 /// The files of the sources, with rows that a seed draws.

@@ -1,13 +1,12 @@
 //! Partials in files: what each node writes, combined with the sources of all others, is the report of the fold.
 
-ghost use Rattle.std.specs.Prelude.{◌≡◌, ◌<◌, ◌^◌, false};
-ghost use Rattle.std.specs.List.{list_any};
+ghost use Rattle.std.specs.Prelude.{◌<◌, ◌^◌};
 ghost use Rattle.flu_deps.specs.Checking.{program_of};
 ghost use Rattle.flu_deps.specs.Validated.{IsValidFor};
-ghost use Rattle.flu_model.specs.Rules.{is_clock};
 
-use crate::cases::{Case, PAGES, STATIONS, files_of, judged};
+use crate::cases::{Case, HOURS, PAGES, STATIONS, files_of, judged};
 use crate::parts::{Drawn, folded};
+use flu_apart::{Reason, apart};
 use flu_combine::{CombineFault, PartialDefect, combine};
 use flu_deps::{Checked, Valid};
 use flu_model::Text;
@@ -35,7 +34,6 @@ fn add_partial<R: Abort>(
     names: &mut Vec<Text>,
 ) -> Result<(), Fail>
     requires valid { IsValidFor (program_of checked.now) valid.now }
-    requires no_clocks { list_any is_clock (program_of checked.now).sources ≡ false }
 {
     assert!(rt; w < valid.count(), "{w}");
     let mut sources = files_of(alloc, drawn.case, drawn.seed)?;
@@ -57,7 +55,6 @@ fn combined<R: Abort>(
     nodes: &[u32],
 ) -> Result<(Result<(), CombineFault>, MemSink), Fail>
     requires valid { IsValidFor (program_of checked.now) valid.now }
-    requires no_clocks { list_any is_clock (program_of checked.now).sources ≡ false }
 {
     let mut files = files_of(alloc, drawn.case, drawn.seed)?;
     let mut names = Vec::new(alloc);
@@ -103,6 +100,24 @@ fn partials_in_files(rt: HostRuntime) -> Result<(), Fail> {
         each_list(&rt, rt.alloc(), STATIONS, seed)?;
         each_list(&rt, rt.alloc(), PAGES, seed)?;
     }
+    Ok(())
+}
+
+#[test]
+fn partials_beside_clocks(rt: HostRuntime) -> Result<(), Fail> {
+    for seed in 0..SEEDS {
+        each_list(&rt, rt.alloc(), HOURS, seed)?;
+    }
+    Ok(())
+}
+
+#[test]
+fn a_clock_is_not_apart(rt: HostRuntime) -> Result<(), Fail> {
+    let both = judged(rt.alloc(), HOURS)?;
+    assert!(&rt; both.is_some());
+    let (checked, valid) = both.unwrap();
+    assert!(&rt; 0 < valid.count());
+    assert!(&rt; matches!(apart(&checked, &valid, 0), Err(Reason::Clock(0))));
     Ok(())
 }
 

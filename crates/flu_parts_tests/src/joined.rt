@@ -1,10 +1,8 @@
 //! What nodes apart send as text, read again and joined, gives the report of the fold.
 
-ghost use Rattle.std.specs.Prelude.{◌≡◌, ◌<◌, ◌^◌, false};
-ghost use Rattle.std.specs.List.{list_any};
+ghost use Rattle.std.specs.Prelude.{◌<◌, ◌^◌};
 ghost use Rattle.flu_deps.specs.Checking.{program_of};
 ghost use Rattle.flu_deps.specs.Validated.{IsValidFor};
-ghost use Rattle.flu_model.specs.Rules.{is_clock};
 
 use crate::cases::{Case, ITEMS, PAGES, STATIONS, judged};
 use crate::parts::{Drawn, folded, joined, partial};
@@ -29,7 +27,6 @@ fn queues<R: Abort>(
     nodes: &[u32],
 ) -> Result<Vec<Queue>, Fail>
     requires valid { IsValidFor (program_of checked.now) valid.now }
-    requires no_clocks { list_any is_clock (program_of checked.now).sources ≡ false }
 {
     let mut queues = Vec::new(alloc);
     for w in nodes {
@@ -52,7 +49,6 @@ fn compare<R: Abort>(
     valid: &Valid,
 ) -> Result<(), Fail>
     requires valid { IsValidFor (program_of checked.now) valid.now }
-    requires no_clocks { list_any is_clock (program_of checked.now).sources ≡ false }
 {
     let wanted = folded(alloc, drawn, checked.program())?;
     for nodes in drawn.case.apart {

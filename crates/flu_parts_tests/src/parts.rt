@@ -1,12 +1,10 @@
 //! The parts of a run: the text of what a node apart sends, and the report of what is joined.
 
-ghost use Rattle.std.specs.Prelude.{◌≡◌, ◌<◌, ◌^◌, false, length, IfOk};
-ghost use Rattle.std.specs.List.{list_any};
+ghost use Rattle.std.specs.Prelude.{◌≡◌, ◌<◌, ◌^◌, length, IfOk};
 ghost use Rattle.flu_deps.specs.Checking.{program_of};
 ghost use Rattle.flu_deps.specs.Validated.{IsValidFor};
 ghost use Rattle.flu_model.specs.Itags.{count_of_itags};
 ghost use Rattle.flu_model.specs.Listed.{listed};
-ghost use Rattle.flu_model.specs.Rules.{is_clock};
 
 use crate::cases::{Case, files_of};
 use flu_cells::State;
@@ -41,18 +39,17 @@ pub fn folded(alloc: Global, drawn: Drawn, program: &Program) -> Result<Text, Fa
     Ok(report_text(alloc, program, outs)?)
 }
 
-// The streams of the sources that are read, none of which is a clock.
+// The streams of the sources that are read.
 fn selected(
     alloc: Global,
     drawn: Drawn,
     program: &Program,
     read: &SourcesRead,
 ) -> Result<Streams, Fail>
-    requires { list_any is_clock program.now.sources ≡ false }
     ensures { IfOk result (λ streams. length (listed streams) ≡ count_of_itags program.now) }
 {
     let mut files = files_of(alloc, drawn.case, drawn.seed)?;
-    Ok(gather_selected(alloc, program, read.as_slice(), &mut files)?)
+    Ok(gather_selected(alloc, program, read.as_slice(), &[], &mut files)?)
 }
 
 // The name of a node of a plan.
@@ -72,7 +69,6 @@ pub fn partial(
     w: u32,
 ) -> Result<Vec<u8>, Fail>
     requires valid { IsValidFor (program_of checked.now) valid.now }
-    requires no_clocks { list_any is_clock (program_of checked.now).sources ≡ false }
 {
     let program = checked.program();
     let read = sources_of_node(checked, valid, w);
@@ -99,7 +95,6 @@ pub fn joined(
     queues: Vec<Queue>,
 ) -> Result<Result<Text, JoinFault>, Fail>
     requires valid { IsValidFor (program_of checked.now) valid.now }
-    requires no_clocks { list_any is_clock (program_of checked.now).sources ≡ false }
 {
     let program = checked.program();
     let read = sources_of_rest(checked, valid, apart);

@@ -1,1 +1,5 @@
 pub mod Readable
+pub mod Ranks
+pub mod Placed
+pub mod Rows
+pub mod Telling

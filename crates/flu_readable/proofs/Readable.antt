@@ -1,8 +1,8 @@
 -- The rows of files have times and values in range, and there are few of them; so have the lists that they give.
 use Rattle.std.proofs.Common.{◌≡◌, ◌<◌, ◌≤◌, ◌+◌, ◌*◌, ◌-◌, ◌^◌, ℕ, zero, suc, ℤ, pos, Bool, true, false, cond, Option, Some, None, List, []}
-use Rattle.std.proofs.Common.{◌∷◌, ◌++◌, length, map, refl, sym, ap, subst, arith, drop, take}
+use Rattle.std.proofs.Common.{◌∷◌, ◌++◌, ◌/◌, ◌∙◌, length, map, refl, sym, ap, subst, append_assoc, arith, drop, take}
 use lib.Signed.{mag}
-use Rattle.std.specs.Prelude.{◌==◌, ◌&&◌, nat_le, nat_lt, not, neg_ℤ, option_and_then, option_map, slice_index, sum_by, unwrap_or, FitsSigned, codes, IfSome}
+use Rattle.std.specs.Prelude.{◌==◌, ◌&&◌, nat_le, nat_lt, not, neg_ℤ, slice_get, option_and_then, option_map, slice_index, sum_by, unwrap_or, FitsSigned, codes, IfSome}
 use Rattle.std.specs.Prelude.{⊤, if◌then◌else◌}
 use Rattle.std.specs.Char.{is_ascii_digit}
 use Rattle.std.specs.Int.{w64}
@@ -47,7 +47,6 @@ use Rattle.flu_rows.specs.ItemNames.{items_named, named_item}
 use Rattle.flu_rows.specs.Row.{form_of, number_field, number_fields, named_fields, field_by, fields_by, one_field, two_fields, filled_len}
 use Rattle.flu_rows.specs.Row.{row_of, row_of_two, row_of_three, row_of_four}
 use Rattle.flu_sending.specs.Lines.{times_of, all_times}
-use Rattle.flu_selected.proofs.NoClocks.{lists_alone}
 use Rattle.flu_selected.specs.Laws.{LawOfLength}
 use Rattle.flu_streams.specs.declared.faults.SourceFault.{SourceFault}
 use Rattle.flu_streams.specs.Before.{with_before, or_else, first_some}
@@ -55,7 +54,16 @@ use Rattle.flu_streams.specs.Good.{lines_in, rows_in, items_held, fault_of_sourc
 use Rattle.flu_streams.specs.Good.{items_at, lists_of_rows, lists_of}
 use Rattle.flu_streams.specs.Tags.{place_named, given, given_by, given_to, width}
 use Rattle.flu_streams.specs.Tests.{rows_of, times_of as row_times, first_of}
+use Rattle.std.proofs.lemmas.Option.{slice_get_within}
+use Rattle.flu_model.specs.Moments.{IsTiming, limit_of_times}
+use Rattle.flu_streams.specs.declared.faults.Why.TheVariants.{TooMany}
+use Rattle.flu_streams.specs.Clocks.{items_of_ticks, lists_of_ticks, count_of_ticks, fault_of_ticks}
+use Rattle.flu_streams.specs.Good.{lists_of_source, ticks_in}
+use Rattle.flu_streams.proofs.ClockTimes.{limit_within}
 use Rattle.flu_streams.proofs.Moments.{timing_fits}
+use Rattle.flu_streams.proofs.TickItems.{tick_fits}
+use Rattle.flu_streams.proofs.Ticking.{size_of_ticks}
+use Rattle.flu_readable.proofs.Ranks.{clock_early, slice_here}
 use Rattle.flu_streams.proofs.Ranges.{IsLow, moments_low, good_range}
 use Rattle.flu_readable.specs.Laws.{WhatIsReadIsReadable}
 
@@ -457,13 +465,89 @@ all_few (items ∷ lists) all =
     let whole = length-append (events_of items) (all_events lists) in
     omega (arith, here, more, whole)
 
+-- ---- the lists of clocks
+ticks_right : (timing : Timing) → IsTiming timing → (itag : ℕ) (ticks : List ℕ) → AllByRecursion (λ t. t < 2 ^ 63 / timing.scale) ticks
+    → AllByRecursion IsRightItem (items_of_ticks timing itag ticks)
+ticks_right timing fits itag [] all = (tt, tt)
+ticks_right timing fits itag (t ∷ ticks) all =
+    let low = tick_fits timing fits t all.0 in
+    ((omega (arith, low), record { sfits = omega arith }), ticks_right timing fits itag ticks all.1)
+
+tick_list_right : (timing : Timing) → IsTiming timing → (itag : ℕ) (ticks : List ℕ) → AllByRecursion (λ t. t < 2 ^ 63 / timing.scale) ticks
+    → length ticks ≤ 16777216 → IsRightList (items_of_ticks timing itag ticks)
+tick_list_right timing fits itag ticks all most =
+    let size = size_of_ticks timing itag ticks in
+    let events = events_few (items_of_ticks timing itag ticks) in
+    record { right = ticks_right timing fits itag ticks all; few = omega (arith, most, size, events) }
+
+tick_lists_right : (timing : Timing) → IsTiming timing → (first : ℕ) (ticks : List ℕ) (places : List ℕ)
+    → AllByRecursion (λ t. t < 2 ^ 63 / timing.scale) ticks → length ticks ≤ 16777216
+    → AllByRecursion IsRightList (map (λ place. items_of_ticks timing (first + place) ticks) places)
+tick_lists_right timing fits first ticks [] all most = tt
+tick_lists_right timing fits first ticks (place ∷ places) all most =
+    (tick_list_right timing fits (first + place) ticks all most, tick_lists_right timing fits first ticks places all most)
+
+-- a clock has no more ticks than may be held
+no_fault : (b : Bool) (fault : SourceFault) → cond b (Some fault) None ≡ None → b ≡ false
+no_fault true fault e = cc
+no_fault false fault e = refl
+
+ticks_few : (number held : ℕ) (ticks : List ℕ) → fault_of_ticks number held ticks ≡ None → length ticks ≤ 16777216
+ticks_few number held ticks none =
+    let fails = no_fault (nat_lt 16777216 (held + length ticks)) (record { source = number; row = 16777217 - held; why = TooMany 16777217 }) none in
+    grind (arith, nat_tests)
+
+below_limit : (limit end : ℕ) (ticks : List ℕ) → limit ≤ end → AllByRecursion (λ t. t < limit) ticks → AllByRecursion (λ t. t < end) ticks
+below_limit limit end [] le all = tt
+below_limit limit end (t ∷ ticks) le all = let lt = all.0 in (omega (arith, lt, le), below_limit limit end ticks le all.1)
+
+module _ (times : TimesAreInRange) (p : Program) (left : Contents) (rows_good : fault_of_rows p left ≡ None) where
+  abbrev all_from : List Source × Source → List (List Item)
+  all_from e = lists_of_source p (rows_in (form_of (job_of p)) left e.1) (ticks_in p left e) e
+
+  abbrev held_items : ℕ
+  held_items = items_held (form_of (job_of p)) left p.sources
+
+  clock_right : (e : List Source × Source) → slice_get p.sources (length e.0) ≡ Some e.1
+      → fault_of_ticks (length e.0) (held_items + count_of_ticks (ticks_in p left) e.0) (ticks_in p left e) ≡ None
+      → AllByRecursion IsRightList (lists_of_ticks (timing_of p (length e.0)) e.1 (sum_by width e.0) (ticks_in p left e))
+  clock_right e at none =
+      let timing = timing_of p (length e.0) in
+      let fits = timing_fits p (length e.0) (slice_get_within p.sources (length e.0) e.1 at) in
+      let early = below_limit (limit_of_times p) (2 ^ 63 / timing.scale) (ticks_in p left e) (limit_within p) (clock_early p left e.0 e.1 at rows_good) in
+      tick_lists_right timing fits (sum_by width e.0) (ticks_in p left e) (range_with_len 0 (width e.1)) early
+      (ticks_few (length e.0) (held_items + count_of_ticks (ticks_in p left) e.0) (ticks_in p left e) none)
+
+  one_right : (e : List Source × Source) → slice_get p.sources (length e.0) ≡ Some e.1
+      → fault_of_source (timing_of p) (form_of (job_of p)) p.kinds left e.0 e.1 ≡ None
+      → fault_of_ticks (length e.0) (held_items + count_of_ticks (ticks_in p left) e.0) (ticks_in p left e) ≡ None
+      → AllByRecursion IsRightList (all_from e)
+  one_right e at sound few =
+      elim (is_clock e.1) as (λ (b : Bool). AllByRecursion IsRightList (if b then lists_of_ticks (timing_of p (length e.0)) e.1 (sum_by width e.0) (ticks_in p left e)
+      else lists_of_rows (timing_of p (length e.0)) p.kinds e.1 (sum_by width e.0) (rows_in (form_of (job_of p)) left e.1))) [
+        | true ↦ clock_right e at few
+        | false ↦ source_right times p left e (slice_get_within p.sources (length e.0) e.1 at) sound
+      ]
+
+  each_right : (before sources : List Source) → p.sources ≡ before ++ sources
+      → first_some (λ (e : List Source × Source). fault_of_source (timing_of p) (form_of (job_of p)) p.kinds left e.0 e.1) (with_before before sources) ≡ None
+      → first_some (λ (e : List Source × Source). fault_of_ticks (length e.0) (held_items + count_of_ticks (ticks_in p left) e.0) (ticks_in p left e))
+      (with_before before sources) ≡ None
+      → AllByRecursion IsRightList (flat_map all_from (with_before before sources))
+  each_right before [] split sound few = tt
+  each_right before (s ∷ sources) split sound few =
+      let sounds = none_first (fault_of_source (timing_of p) (form_of (job_of p)) p.kinds left before s) _ sound in
+      let fews = none_first (fault_of_ticks (length before) (held_items + count_of_ticks (ticks_in p left) before) (ticks_in p left (before, s))) _ few in
+      let at : slice_get p.sources (length before) ≡ Some s = ap (λ l. slice_get l (length before)) split ∙ slice_here before sources s in
+      all_append IsRightList (all_from (before, s)) (flat_map all_from (with_before (before ++ s ∷ []) sources)) (one_right (before, s) at sounds.0 fews.0)
+      (each_right (before ++ s ∷ []) sources (split ∙ sym (append_assoc before (s ∷ []) sources)) sounds.1 fews.1)
+
 pub read_is_readable : TimesAreInRange → LawOfLength → WhatIsReadIsReadable
-read_is_readable times size p left no_clock good =
+read_is_readable times size p left good =
     let lists = lists_of p left in
-    let rows : fault_of_rows p left ≡ None = (none_first (fault_of_rows p left) (fault_of_clocks p left) good).0 in
-    let all : AllByRecursion IsRightList lists =
-    subst (AllByRecursion IsRightList) (sym (lists_alone p left no_clock)) (sources_right times p left [] p.sources (omega arith) rows) in
+    let parts = none_first (fault_of_rows p left) (fault_of_clocks p [] left) good in
+    let all : AllByRecursion IsRightList lists = each_right times p left parts.0 [] p.sources refl parts.0 parts.1 in
     let few = all_few lists all in
-    let one = size p left in
+    let one = size p [] left in
     let itags = p.few_itags in
     record { times = all_times_right lists all; values = all_values_right lists all; few = omega (arith, few, one, itags) }

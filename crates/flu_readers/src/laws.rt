@@ -1,18 +1,19 @@
-//! Laws of what is read where nodes of a plan are apart, of jobs without clocks. Each law is the contract of a function that does nothing.
+//! Laws of what is read where nodes of a plan are apart. Each law is the contract of a function that does nothing.
 
 ghost use Rattle.flu_readers.specs.Laws.{FilesThatAreReadMatter, GoodSourcesGiveStreams, GoodWhereRead, GoodPartsGiveStreams, ANodeReadsItsPart, TheRestIsRead};
 ghost use Rattle.flu_readers.specs.Laws.{SelectedPartsGiveTheReport, GoodSourcesGiveTheReport};
 ghost use Rattle.flu_readers.specs.OneJob.{JobsReadTheSameParts};
 
-/// Where the files of the sources that are read have the same bytes, what is read of them is the same, and the same defect is the first,
-/// whatever the other files have: each process may have files of its own.
+/// Where the files of the sources that are read have the same bytes, what is read of them is the same, their rows stand in the same places, and the same
+/// defect is the first, whatever the other files have: each process may have files of its own.
 pub fn files_that_are_read_matter()
     ensures { FilesThatAreReadMatter }
 {
+    flu_selected::selected_sources_are_read();
     flu_selected::closed_sources_have_no_defect();
 }
 
-/// Where no source has a defect, the lists of the itags are streams, and no source has a defect if only some are read.
+/// Where no source has a defect, the lists of the itags are streams; and in a job without clocks no source has a defect if only some are read.
 pub fn good_sources_give_streams()
     ensures streams { GoodSourcesGiveStreams }
     ensures read { GoodWhereRead }
@@ -25,32 +26,32 @@ pub fn good_sources_give_streams()
 pub fn good_parts_give_streams()
     ensures { GoodPartsGiveStreams }
 {
-    good_sources_give_streams();
     flu_selected::selected_sources_are_read();
     flu_selected::closed_sources_have_no_defect();
 }
 
-/// A node apart that reads its sources alone, and finds no defect in them, has all events of the itags that it needs.
+/// A node apart that reads its sources alone, and finds no defect in them, sends what it would send of all sources, though clocks tick for it among the
+/// rows alone that it reads.
 pub fn a_node_reads_its_part()
     ensures { ANodeReadsItsPart }
 {
-    good_sources_give_streams();
+    flu_contribution::laws::idle_events_dont_matter();
+    flu_contribution::laws::merged_events_rise_strictly();
+    flu_contribution::laws::merged_lists_agree();
     flu_selected::selected_sources_are_read();
-    flu_selected::closed_sources_have_no_defect();
 }
 
-/// One that combines and reads its sources alone, and finds no defect in them, has all events of the itags that are inside none of the nodes.
+/// One that combines and reads its sources alone, and finds no defect in them, has all events of the itags that are inside none of the nodes, where it
+/// knows the first and the last of the rows that the nodes read.
 pub fn the_rest_is_read()
     ensures { TheRestIsRead }
 {
-    good_sources_give_streams();
     flu_selected::selected_sources_are_read();
-    flu_selected::closed_sources_have_no_defect();
 }
 
 /// Where the nodes may be apart, none is within another, and each of them and the one that combines reads its sources alone and finds no
 /// defect in them, what the nodes send and the rest of the events give the final state and the report of all sources. The plan is valid for
-/// an accepted job. So it is where no source has a defect.
+/// an accepted job. So it is where no source of a job without clocks has a defect.
 pub fn selected_parts_give_the_report()
     ensures parts { SelectedPartsGiveTheReport }
     ensures good { GoodSourcesGiveTheReport }
@@ -64,7 +65,7 @@ pub fn selected_parts_give_the_report()
 }
 
 /// For programs of one job, which differ only in where the boxes of their expressions lie in memory, a node apart and the one that combines
-/// read the same sources, and the same of them.
+/// read the same sources, and the same of them, and the nodes tell the same.
 pub fn programs_of_a_job_read_the_same_parts()
     ensures { JobsReadTheSameParts }
 {

@@ -15,7 +15,6 @@ use Rattle.flu_model.specs.declared.jobs.Source.{Source}
 use Rattle.flu_model.specs.declared.jobs.Program.{Program}
 use Rattle.flu_model.specs.declared.moments.Timing.{Timing}
 use Rattle.flu_outside.specs.Outside.{Contents}
-use Rattle.flu_outside.specs.Taking.{bytes_left}
 use Rattle.flu_rows.specs.declared.row.RowForm.{RowForm}
 use Rattle.flu_rows.specs.declared.row.Row.{Row}
 use Rattle.flu_rows.specs.declared.rows.Next.{Next}
@@ -25,16 +24,17 @@ use Rattle.flu_streams.specs.declared.faults.SourceFault.{SourceFault}
 use Rattle.flu_streams.specs.declared.faults.Why.{Why}
 use Rattle.flu_streams.specs.declared.faults.Why.TheVariants.{AfterEnd, TooMany}
 use Rattle.flu_streams.specs.Before.{with_before, each_with_before, or_else, first_some}
-use Rattle.flu_streams.specs.Clocks.{ranks_among}
-use Rattle.flu_streams.specs.Good.{lines_in, rows_in, items_held, fault_of_source, fault_of_rows, fault_of_clocks, first_fault}
+use Rattle.flu_streams.specs.Clocks.{ticks_of, fault_among}
+use Rattle.flu_streams.specs.Good.{lines_in, rows_in, ranks_in, items_held, fault_of_source, fault_of_rows, fault_of_clocks, first_fault}
 use Rattle.flu_streams.specs.Tags.{width}
 use Rattle.flu_streams.specs.Tests.{rows_of, row_in, has_ended, times_of, items_in, items_of, where_true, test_range, test_tag, test_fields, test_item}
 use Rattle.flu_streams.specs.Tests.{test_time, test_items, fault_of, defect_of, first_of, first_defect}
 use Rattle.flu_selected.proofs.Ends.{end_read}
-use Rattle.flu_selected.proofs.Lists.{open_left, closed_left, open_rows, closed_rows}
-use Rattle.flu_selected.proofs.Names.{ClosesOthers, closes_others}
-use Rattle.flu_selected.proofs.NoClocks.{HaveFiles, have_files, lines_of_file, no_fault_among}
-use Rattle.flu_selected.specs.Laws.{LawOfDefects, GoodStayGood, closed_files, selected, read_items_in, read_items, read_fault}
+use Rattle.flu_selected.proofs.Lists.{closed_left, no_lines, open_lines, no_rows, open_rows, closed_rows, ranks_law}
+use Rattle.flu_selected.proofs.Names.{ClosesFile, ClosesOthers, closes_others}
+use Rattle.flu_selected.proofs.NoClocks.{lines_of_file, no_fault_among}
+use Rattle.flu_selected.specs.Laws.{LawOfDefects, GoodStayGood, closed_files, selected, read_ranks, read_items_in, read_items, read_fault}
+use Rattle.flu_selected.specs.Laws.{fault_of_read_rows, fault_of_read_clocks}
 use Rattle.flu_selected.specs.Selecting.{is_among, closed_at, end_line}
 
 -- ---- what is not there
@@ -194,68 +194,115 @@ held_push form left before s =
 abbrev fault_at : ℕ → Option (ℕ × Why) → Option SourceFault
 fault_at number defect = option_map (λ d. record { source = number; row = d.0; why = d.1 }) defect
 
+-- a clock has no lines, so no defect among them
+no_fault : (number : ℕ) (timing : Timing) (form : RowForm) (kinds : List Kind) (left : Contents) (s : Source) (held : ℕ) → is_clock s ≡ true
+    → fault_at number (first_of timing kinds s held (lines_in form left s)) ≡ None
+no_fault number timing form kinds left s held ticks = ap (λ lines. fault_at number (first_of timing kinds s held lines)) (no_lines form left s ticks)
+
+none_either : (b : Bool) (fault : Option SourceFault) → fault ≡ None → (if b then fault else None) ≡ None
+none_either true fault none = none
+none_either false fault none = refl
+
 fault_by : (timing : ℕ → Timing) (form : RowForm) (kinds : List Kind) (is_read : ℕ → Bool) (names : List (List ℕ)) (left : Contents) (before : List Source)
-    (s : Source) (b : Bool)
-    → is_clock s ≡ false → is_among names s.file ≡ not b → items_held form (closed_at names left) before ≡ read_items form is_read left before
+    (s : Source) (b clock : Bool)
+    → is_clock s ≡ clock → (is_clock s ≡ false → is_among names s.file ≡ not b)
+    → items_held form (closed_at names left) before ≡ read_items form is_read left before
     → items_held form (closed_at names left) before ≤ 16777216
     → fault_of_source timing form kinds (closed_at names left) before s
     ≡ (if b
-    then fault_at (length before) (first_defect (timing (length before)) form kinds s (read_items form is_read left before) (bytes_left left s.file))
+    then fault_at (length before) (first_of (timing (length before)) kinds s (read_items form is_read left before) (lines_in form left s))
     else None)
-fault_by timing form kinds is_read names left before s true file is same few =
+fault_by timing form kinds is_read names left before s b true ticks is same few =
+    no_fault (length before) (timing (length before)) form kinds (closed_at names left) s (items_held form (closed_at names left) before) ticks
+    ∙ sym (none_either b (fault_at (length before) (first_of (timing (length before)) kinds s (read_items form is_read left before) (lines_in form left s)))
+    (no_fault (length before) (timing (length before)) form kinds left s (read_items form is_read left before) ticks))
+fault_by timing form kinds is_read names left before s true false file is same few =
     ap (λ lines. fault_at (length before) (first_of (timing (length before)) kinds s (items_held form (closed_at names left) before) lines))
-    (lines_of_file form (closed_at names left) s file)
-    ∙ ap (λ held. fault_at (length before) (first_defect (timing (length before)) form kinds s held (bytes_left (closed_at names left) s.file))) same
-    ∙ ap (λ bytes. fault_at (length before) (first_defect (timing (length before)) form kinds s (read_items form is_read left before) (unwrap_or bytes [])))
-    (open_left names left s.file is)
-fault_by timing form kinds is_read names left before s false file is same few =
+    (open_lines form names left s (is file))
+    ∙ ap (λ held. fault_at (length before) (first_of (timing (length before)) kinds s held (lines_in form left s))) same
+fault_by timing form kinds is_read names left before s false false file is same few =
     ap (λ lines. fault_at (length before) (first_of (timing (length before)) kinds s (items_held form (closed_at names left) before) lines))
     (lines_of_file form (closed_at names left) s file)
     ∙ ap (λ bytes. fault_at (length before) (first_defect (timing (length before)) form kinds s (items_held form (closed_at names left) before)
     (unwrap_or bytes [])))
-    (closed_left names left s.file is)
+    (closed_left names left s.file (is file))
     ∙ ap (fault_at (length before)) (closed_sound (timing (length before)) form kinds s (items_held form (closed_at names left) before) few)
 
-items_by : (form : RowForm) (names : List (List ℕ)) (left : Contents) (s : Source) (b : Bool) → is_clock s ≡ false → is_among names s.file ≡ not b
+items_by : (form : RowForm) (names : List (List ℕ)) (left : Contents) (s : Source) (b clock : Bool) → is_clock s ≡ clock
+    → (is_clock s ≡ false → is_among names s.file ≡ not b)
     → items_of (width s) (rows_in form (closed_at names left) s) ≡ (if b then items_of (width s) (rows_in form left s) else 0)
-items_by form names left s true file is = ap (items_of (width s)) (open_rows form names left s is)
-items_by form names left s false file is = ap (items_of (width s)) (closed_rows form names left s file is)
+items_by form names left s true true ticks is =
+    ap (items_of (width s)) (no_rows form (closed_at names left) s ticks) ∙ sym (ap (items_of (width s)) (no_rows form left s ticks))
+items_by form names left s false true ticks is = ap (items_of (width s)) (no_rows form (closed_at names left) s ticks)
+items_by form names left s true false file is = ap (items_of (width s)) (open_rows form names left s (is file))
+items_by form names left s false false file is = ap (items_of (width s)) (closed_rows form names left s file (is file))
 
 -- ---- all sources
 behind_same : {X : Type 0} (o a b : Option X) → (o ≡ None → a ≡ b) → or_else o a ≡ or_else o b
 behind_same None a b same = same refl
 behind_same (Some x) a b same = refl
 
+-- one more source holds the same items
+held_same : (form : RowForm) (is_read : ℕ → Bool) (names : List (List ℕ)) (left : Contents) (before : List Source) (s : Source)
+    → ClosesFile is_read names (before, s) → items_held form (closed_at names left) before ≡ read_items form is_read left before
+    → items_held form (closed_at names left) (before ++ s ∷ []) ≡ read_items form is_read left (before ++ s ∷ [])
+held_same form is_read names left before s closes same =
+    let now = closed_at names left in
+    let items : items_of (width s) (rows_in form now s) ≡ read_items_in form is_read left (before, s) =
+    items_by form names left s (is_read (length before)) (is_clock s) refl closes in
+    held_push form now before s ∙ ap (λ n. n + items_of (width s) (rows_in form now s)) same ∙ ap (λ n. read_items form is_read left before + n) items
+    ∙ sym (read_push form is_read left before s)
+
+all_held_same : (form : RowForm) (is_read : ℕ → Bool) (names : List (List ℕ)) (left : Contents) (before sources : List Source)
+    → ClosesOthers is_read names (with_before before sources) → items_held form (closed_at names left) before ≡ read_items form is_read left before
+    → items_held form (closed_at names left) (before ++ sources) ≡ read_items form is_read left (before ++ sources)
+all_held_same form is_read names left before [] closes same = rw append-nil same
+all_held_same form is_read names left before (s ∷ rest) closes same =
+    subst (λ (all : List Source). items_held form (closed_at names left) all ≡ read_items form is_read left all) (append_assoc before (s ∷ []) rest)
+    (all_held_same form is_read names left (before ++ s ∷ []) rest closes.1 (held_same form is_read names left before s closes.0 same))
+
 faults_same : (timing : ℕ → Timing) (form : RowForm) (kinds : List Kind) (is_read : ℕ → Bool) (names : List (List ℕ)) (left : Contents)
     (before sources : List Source)
-    → HaveFiles sources → ClosesOthers is_read names (with_before before sources)
+    → ClosesOthers is_read names (with_before before sources)
     → items_held form (closed_at names left) before ≡ read_items form is_read left before
     → items_held form (closed_at names left) before ≤ 16777216
     → first_some (λ e. fault_of_source timing form kinds (closed_at names left) e.0 e.1) (with_before before sources)
     ≡ first_some (λ e. read_fault timing form kinds is_read left e.0 e.1) (with_before before sources)
-faults_same timing form kinds is_read names left before [] files closes same few = refl
-faults_same timing form kinds is_read names left before (s ∷ rest) files closes same few =
+faults_same timing form kinds is_read names left before [] closes same few = refl
+faults_same timing form kinds is_read names left before (s ∷ rest) closes same few =
     let now = closed_at names left in
     let held = items_held form now before in
     let here : fault_of_source timing form kinds now before s ≡ read_fault timing form kinds is_read left before s =
-    fault_by timing form kinds is_read names left before s (is_read (length before)) files.0 closes.0 same few in
-    let items : items_of (width s) (rows_in form now s) ≡ read_items_in form is_read left (before, s) =
-    items_by form names left s (is_read (length before)) files.0 closes.0 in
+    fault_by timing form kinds is_read names left before s (is_read (length before)) (is_clock s) refl closes.0 same few in
     let all_now : Option SourceFault =
     first_some (λ (e : List Source × Source). fault_of_source timing form kinds now e.0 e.1) (with_before (before ++ s ∷ []) rest) in
     let all_read : Option SourceFault =
     first_some (λ (e : List Source × Source). read_fault timing form kinds is_read left e.0 e.1) (with_before (before ++ s ∷ []) rest) in
     let same_now : items_held form now (before ++ s ∷ []) ≡ read_items form is_read left (before ++ s ∷ []) =
-    held_push form now before s ∙ ap (λ n. n + items_of (width s) (rows_in form now s)) same ∙ ap (λ n. read_items form is_read left before + n) items
-    ∙ sym (read_push form is_read left before s) in
+    held_same form is_read names left before s closes.0 same in
     let later : read_fault timing form kinds is_read left before s ≡ None → all_now ≡ all_read = λ none.
     let sound : first_of (timing (length before)) kinds s held (lines_in form now s) ≡ None =
     no_mapped (λ (d : ℕ × Why). record { source = length before; row = d.0; why = d.1 })
     (first_of (timing (length before)) kinds s held (lines_in form now s)) (here ∙ none) in
     let few_now : items_held form now (before ++ s ∷ []) ≤ 16777216 =
     omega (arith, held_push form now before s, source_few (timing (length before)) form kinds now s held few sound) in
-    faults_same timing form kinds is_read names left (before ++ s ∷ []) rest files.1 closes.1 same_now few_now in
+    faults_same timing form kinds is_read names left (before ++ s ∷ []) rest closes.1 same_now few_now in
     ap (λ fault. or_else fault all_now) here ∙ behind_same (read_fault timing form kinds is_read left before s) all_now all_read later
+
+-- the ticks are those among the rows that are read, and are counted behind the items of these
+clocks_same : (p : Program) (beside : List ℕ) (is_read : ℕ → Bool) (left : Contents)
+    → fault_of_clocks p beside (selected p is_read left) ≡ fault_of_read_clocks p beside is_read left
+clocks_same p beside is_read left =
+    let now = selected p is_read left in
+    ap (λ held. fault_among p.sources held (ticks_of p (beside ++ ranks_in p now)))
+    (all_held_same (form_of (job_of p)) is_read (closed_files p is_read) left [] p.sources (closes_others p is_read) refl)
+    ∙ ap (λ ranks. fault_among p.sources (read_items (form_of (job_of p)) is_read left p.sources) (ticks_of p (beside ++ ranks))) (ranks_law p is_read left)
+
+pub defects_law : LawOfDefects
+defects_law p beside is_read left =
+    ap (λ fault. or_else fault (fault_of_clocks p beside (selected p is_read left)))
+    (faults_same (timing_of p) (form_of (job_of p)) p.kinds is_read (closed_files p is_read) left [] p.sources (closes_others p is_read) refl (omega arith))
+    ∙ ap (or_else (fault_of_read_rows p is_read left)) (clocks_same p beside is_read left)
 
 -- ---- no clock adds a fault
 rows_few : (timing : ℕ → Timing) (form : RowForm) (kinds : List Kind) (left : Contents) (before sources : List Source) → items_held form left before ≤ 16777216
@@ -278,17 +325,11 @@ rows_few timing form kinds left before (s ∷ rest) few none =
 pub rows_alone : (p : Program) (left : Contents) → list_any is_clock p.sources ≡ false → first_fault p left ≡ fault_of_rows p left
 rows_alone p left no_clock = by_fault (fault_of_rows p left) refl
   where
-    by_fault : (o : Option SourceFault) → fault_of_rows p left ≡ o → or_else o (fault_of_clocks p left) ≡ o
+    by_fault : (o : Option SourceFault) → fault_of_rows p left ≡ o → or_else o (fault_of_clocks p [] left) ≡ o
     by_fault None none =
-        no_fault_among p (ranks_among p (λ d. rows_in (form_of (job_of p)) left d.1)) (items_held (form_of (job_of p)) left p.sources)
+        no_fault_among p (ranks_in p left) (items_held (form_of (job_of p)) left p.sources)
         (rows_few (timing_of p) (form_of (job_of p)) p.kinds left [] p.sources (omega arith) none) no_clock
     by_fault (Some f) is = refl
-
-pub defects_law : LawOfDefects
-defects_law p is_read left no_clock =
-    rows_alone p (selected p is_read left) no_clock
-    ∙ faults_same (timing_of p) (form_of (job_of p)) p.kinds is_read (closed_files p is_read) left [] p.sources (have_files p.sources no_clock)
-    (closes_others p is_read no_clock) refl (omega arith)
 
 -- ---- where no source has a defect
 read_few : (form : RowForm) (left : Contents) (s : Source) (b : Bool)
@@ -296,34 +337,38 @@ read_few : (form : RowForm) (left : Contents) (s : Source) (b : Bool)
 read_few form left s true = omega arith
 read_few form left s false = omega arith
 
-none_by : (b : Bool) (number : ℕ) (defect : Option (ℕ × Why)) → defect ≡ None → (if b then fault_at number defect else None) ≡ None
-none_by true number defect none = ap (fault_at number) none
-none_by false number defect none = refl
-
 read_sound : (timing : ℕ → Timing) (form : RowForm) (kinds : List Kind) (is_read : ℕ → Bool) (left : Contents) (before sources : List Source)
-    → HaveFiles sources → read_items form is_read left before ≤ items_held form left before
+    → read_items form is_read left before ≤ items_held form left before
     → first_some (λ e. fault_of_source timing form kinds left e.0 e.1) (with_before before sources) ≡ None
-    → first_some (λ e. read_fault timing form kinds is_read left e.0 e.1) (with_before before sources) ≡ None
-read_sound timing form kinds is_read left before [] files le none = refl
-read_sound timing form kinds is_read left before (s ∷ rest) files le none =
+    → (first_some (λ e. read_fault timing form kinds is_read left e.0 e.1) (with_before before sources) ≡ None)
+    × (read_items form is_read left (before ++ sources) ≤ items_held form left (before ++ sources))
+read_sound timing form kinds is_read left before [] le none = (refl, rw append-nil le)
+read_sound timing form kinds is_read left before (s ∷ rest) le none =
     let lines = lines_in form left s in
     let both = no_first (fault_of_source timing form kinds left before s)
     (first_some (λ (e : List Source × Source). fault_of_source timing form kinds left e.0 e.1) (with_before (before ++ s ∷ []) rest)) none in
     let sound : first_of (timing (length before)) kinds s (items_held form left before) lines ≡ None =
     no_mapped (λ (d : ℕ × Why). record { source = length before; row = d.0; why = d.1 })
     (first_of (timing (length before)) kinds s (items_held form left before) lines) both.0 in
-    let still : first_defect (timing (length before)) form kinds s (read_items form is_read left before) (bytes_left left s.file) ≡ None =
-    sym (ap (first_of (timing (length before)) kinds s (read_items form is_read left before)) (lines_of_file form left s files.0))
-    ∙ lines_still (timing (length before)) kinds s (read_items form is_read left before) (items_held form left before) [] lines le sound in
+    let still : first_of (timing (length before)) kinds s (read_items form is_read left before) lines ≡ None =
+    lines_still (timing (length before)) kinds s (read_items form is_read left before) (items_held form left before) [] lines le sound in
     let fewer : read_items_in form is_read left (before, s) ≤ items_of (width s) (rows_in form left s) = read_few form left s (is_read (length before)) in
     let le_now : read_items form is_read left (before ++ s ∷ []) ≤ items_held form left (before ++ s ∷ []) =
     omega (arith, read_push form is_read left before s, held_push form left before s, fewer, le) in
-    rw (none_by (is_read (length before)) (length before)
-    (first_defect (timing (length before)) form kinds s (read_items form is_read left before) (bytes_left left s.file)) still)
-    (read_sound timing form kinds is_read left (before ++ s ∷ []) rest files.1 le_now both.1)
+    let here : read_fault timing form kinds is_read left before s ≡ None =
+    none_either (is_read (length before)) (fault_at (length before) (first_of (timing (length before)) kinds s (read_items form is_read left before) lines))
+    (ap (fault_at (length before)) still) in
+    let later = read_sound timing form kinds is_read left (before ++ s ∷ []) rest le_now both.1 in (
+      rw here later.0,
+      subst (λ (all : List Source). read_items form is_read left all ≤ items_held form left all) (append_assoc before (s ∷ []) rest) later.1,
+    )
 
 pub good_stay_good : GoodStayGood
 good_stay_good p is_read left no_clock good =
-    defects_law p is_read left no_clock
-    ∙ read_sound (timing_of p) (form_of (job_of p)) p.kinds is_read left [] p.sources (have_files p.sources no_clock) (omega arith)
-    (sym (rows_alone p left no_clock) ∙ good)
+    let form = form_of (job_of p) in
+    let none : fault_of_rows p left ≡ None = sym (rows_alone p left no_clock) ∙ good in
+    let read = read_sound (timing_of p) form p.kinds is_read left [] p.sources (omega arith) none in
+    let few : items_held form left p.sources ≤ 16777216 = rows_few (timing_of p) form p.kinds left [] p.sources (omega arith) none in
+    let clocks : fault_of_read_clocks p [] is_read left ≡ None =
+    no_fault_among p (read_ranks p is_read left) (read_items form is_read left p.sources) (omega (arith, few, read.1)) no_clock in
+    defects_law p [] is_read left ∙ ap (λ fault. or_else fault (fault_of_read_clocks p [] is_read left)) read.0 ∙ clocks

@@ -2,6 +2,7 @@ mod Ends
 mod Keeping
 pub mod NoClocks
 mod Names
+mod Places
 mod Lists
 pub mod Faults
 mod ReadSources

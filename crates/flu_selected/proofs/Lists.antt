@@ -1,14 +1,14 @@
 -- The lists of the itags where the files of some sources are closed.
-use Rattle.std.proofs.Common.{◌≡◌, ℕ, zero, suc, ◌+◌, ◌-◌, ◌<◌, ◌∙◌, refl, sym, ap, Bool, true, false, not, List, [], ◌∷◌, ◌++◌, length, map}
-use Rattle.std.proofs.Common.{length-append, get_or, arith, inl, inr}
-use Rattle.std.specs.Prelude.{sum_by, if◌then◌else◌, Some, unwrap_or}
-use Rattle.std.specs.List.{flat_map}
-use Rattle.std.proofs.Math.ListN.{get_or-append}
-use Rattle.std.proofs.lemmas.List.{length-map, get_or-append_right}
+use Rattle.std.proofs.Common.{◌≡◌, ℕ, suc, ◌+◌, ◌<◌, ◌∙◌, refl, sym, ap, Bool, true, false, not, List, [], ◌∷◌, ◌++◌, length, map}
+use Rattle.std.proofs.Common.{length-append, get_or, arith, Option, Some}
+use Rattle.std.specs.Prelude.{sum_by, if◌then◌else◌, unwrap_or}
+use Rattle.std.specs.List.{flat_map, AllByRecursion}
+use Rattle.std.specs.Option.{option_map_or}
+use Rattle.std.proofs.lemmas.List.{length-map}
 use Rattle.std.proofs.lemmas.List.FromFn.{length-map-range_with_len, get_or-map-range_with_len}
-use Rattle.std.proofs.lemmas.Bool.{cases_lt}
-use Rattle.flu_model.specs.Erasure.{job_of}
+use Rattle.flu_lemmas.proofs.Elements.{all_map}
 use Rattle.flu_lemmas.proofs.Tests.{and_left, and_right, both}
+use Rattle.flu_model.specs.Erasure.{job_of}
 use Rattle.flu_model.specs.declared.events.Item.{Item}
 use Rattle.flu_model.specs.declared.events.Item.TheVariants.{End as EndItem}
 use Rattle.flu_model.specs.declared.events.Tag.{Tag}
@@ -16,26 +16,30 @@ use Rattle.flu_model.specs.declared.jobs.Kind.{Kind}
 use Rattle.flu_model.specs.declared.jobs.Source.{Source}
 use Rattle.flu_model.specs.declared.jobs.Program.{Program}
 use Rattle.flu_model.specs.declared.moments.Timing.{Timing}
-use Rattle.flu_model.specs.Itags.{count_of_itags, source_of_itag}
+use Rattle.flu_model.specs.Itags.{count_of_itags}
 use Rattle.flu_model.specs.Moments.{timing_of}
 use Rattle.flu_model.specs.Rules.{is_clock}
 use Rattle.flu_model.specs.Streaming.{is_stream_from, are_streams}
-use Rattle.flu_model.specs.Listing.{tag, tags_of_source, itags_of_sources}
+use Rattle.flu_model.specs.Listing.{tags_of_source, itags_of_sources}
 use Rattle.flu_outside.specs.Outside.{Contents}
+use Rattle.flu_outside.specs.Taking.{bytes_left}
 use Rattle.flu_rows.specs.declared.row.RowForm.{RowForm}
 use Rattle.flu_rows.specs.declared.row.Row.{Row}
 use Rattle.flu_rows.specs.declared.row.Row.TheVariants.{End}
 use Rattle.flu_rows.specs.Reading.{read_file}
 use Rattle.flu_rows.specs.Row.{form_of}
-use Rattle.flu_streams.specs.Before.{with_before}
-use Rattle.flu_streams.specs.Clocks.{Declared, items_of_ticks, lists_of_ticks}
-use Rattle.flu_streams.specs.Good.{rows_in, at_moments, items_at, lists_of_rows, lists_of_source, lists_of, ticks_in}
+use Rattle.flu_streams.specs.Before.{with_before, each_with_before}
+use Rattle.flu_streams.specs.Clocks.{Declared, ranks_of, items_of_ticks, lists_of_ticks}
+use Rattle.flu_streams.specs.Good.{lines_in, rows_in, ranks_in, at_moments, items_at, lists_of_rows, lists_of_source, lists_beside, lists_of, ticks_beside}
 use Rattle.flu_streams.specs.Tags.{width}
 use Rattle.flu_streams.specs.Tests.{rows_of}
+use Rattle.flu_streams.proofs.Moments.{moments_some}
+use Rattle.flu_streams.proofs.Ticking.{ticks_rise, stream_of_ticks}
 use Rattle.flu_selected.proofs.Ends.{end_read}
-use Rattle.flu_selected.proofs.Names.{ClosesOthers, closes_others}
-use Rattle.flu_selected.proofs.NoClocks.{HaveFiles, have_files, lines_of_file, lists_alone}
-use Rattle.flu_selected.specs.Laws.{LawOfLists, LawOfLength, StreamsStay, closed_files, selected}
+use Rattle.flu_selected.proofs.Names.{ClosesFile, closes_others}
+use Rattle.flu_selected.proofs.NoClocks.{lines_of_file, lists_of_file}
+use Rattle.flu_selected.proofs.Places.{IsOfSource, of_source, holds_there, number_of, those_before}
+use Rattle.flu_selected.specs.Laws.{LawOfRanks, LawOfLists, LawOfTicks, LawOfLength, StreamsStay, closed_files, selected, read_ranks_of}
 use Rattle.flu_selected.specs.Selecting.{is_among, closed_at, end_line}
 
 -- ---- the rows of one source
@@ -46,15 +50,26 @@ open_left names left name none = rw none refl
 pub closed_left : (names : List (List ℕ)) (left : Contents) (name : List ℕ) → is_among names name ≡ true → closed_at names left name ≡ Some end_line
 closed_left names left name there = rw there refl
 
+pub open_lines : (form : RowForm) (names : List (List ℕ)) (left : Contents) (s : Source) → is_among names s.file ≡ false
+    → lines_in form (closed_at names left) s ≡ lines_in form left s
+open_lines form names left s none = ap (λ bytes. if is_clock s then [] else read_file form (unwrap_or bytes [])) (open_left names left s.file none)
+
 pub open_rows : (form : RowForm) (names : List (List ℕ)) (left : Contents) (s : Source) → is_among names s.file ≡ false
     → rows_in form (closed_at names left) s ≡ rows_in form left s
-open_rows form names left s none = ap (λ bytes. rows_of (if is_clock s then [] else read_file form (unwrap_or bytes []))) (open_left names left s.file none)
+open_rows form names left s none = ap rows_of (open_lines form names left s none)
 
 pub closed_rows : (form : RowForm) (names : List (List ℕ)) (left : Contents) (s : Source) → is_clock s ≡ false → is_among names s.file ≡ true
     → rows_in form (closed_at names left) s ≡ End ∷ []
 closed_rows form names left s file there =
     ap rows_of (lines_of_file form (closed_at names left) s file)
     ∙ ap (λ bytes. rows_of (read_file form (unwrap_or bytes []))) (closed_left names left s.file there) ∙ ap rows_of (end_read form)
+
+-- a clock has no lines
+pub no_lines : (form : RowForm) (left : Contents) (s : Source) → is_clock s ≡ true → lines_in form left s ≡ []
+no_lines form left s ticks = ap (λ b. if b then [] else read_file form (bytes_left left s.file)) ticks
+
+pub no_rows : (form : RowForm) (left : Contents) (s : Source) → is_clock s ≡ true → rows_in form left s ≡ []
+no_rows form left s ticks = ap rows_of (no_lines form left s ticks)
 
 -- ---- the lists of one source
 length_of_rows : (timing : Timing) (kinds : List Kind) (s : Source) (first : ℕ) (rows : List Row) → length (lists_of_rows timing kinds s first rows) ≡ width s
@@ -64,11 +79,31 @@ end_alone : (timing : Timing) (kinds : List Kind) (s : Source) (first i : ℕ) �
     → get_or (lists_of_rows timing kinds s first (End ∷ [])) i [] ≡ EndItem ∷ []
 end_alone timing kinds s first i lt = get_or-map-range_with_len (items_at kinds s first (at_moments timing [] (End ∷ []))) 0 (width s) i (0 + i) [] lt refl
 
--- ---- the lists of all sources
-abbrev lists_from : (ℕ → Timing) → RowForm → List Kind → Contents → List Source → List Source → List (List Item)
-lists_from timing form kinds left before sources =
-    flat_map (λ e. lists_of_rows (timing (length e.0)) kinds e.1 (sum_by width e.0) (rows_in form left e.1)) (with_before before sources)
+-- ---- where the rows stand
+ranks_by : (p : Program) (is_read : ℕ → Bool) (left : Contents) (e : Declared) (b clock : Bool) → is_clock e.1 ≡ clock → is_read (length e.0) ≡ b
+    → ClosesFile is_read (closed_files p is_read) e
+    → ranks_of p (length e.0) (rows_in (form_of (job_of p)) (selected p is_read left) e.1)
+    ≡ (if b then ranks_of p (length e.0) (rows_in (form_of (job_of p)) left e.1) else [])
+ranks_by p is_read left e true true ticks read closes =
+    ap (ranks_of p (length e.0)) (no_rows (form_of (job_of p)) (selected p is_read left) e.1 ticks ∙ sym (no_rows (form_of (job_of p)) left e.1 ticks))
+ranks_by p is_read left e false true ticks read closes = ap (ranks_of p (length e.0)) (no_rows (form_of (job_of p)) (selected p is_read left) e.1 ticks)
+ranks_by p is_read left e true false file read closes =
+    ap (ranks_of p (length e.0)) (open_rows (form_of (job_of p)) (closed_files p is_read) left e.1 (closes file ∙ ap not read))
+ranks_by p is_read left e false false file read closes =
+    ap (ranks_of p (length e.0)) (closed_rows (form_of (job_of p)) (closed_files p is_read) left e.1 file (closes file ∙ ap not read))
 
+flat_same : {X Y : Type 0} (f g : X → List Y) (xs : List X) → AllByRecursion (λ x. f x ≡ g x) xs → flat_map f xs ≡ flat_map g xs
+flat_same f g [] same = refl
+flat_same f g (x ∷ xs) same = let here = same.0 in let more = flat_same f g xs same.1 in λ i. here i ++ more i
+
+pub ranks_law : LawOfRanks
+ranks_law p is_read left =
+    flat_same (λ (e : Declared). ranks_of p (length e.0) (rows_in (form_of (job_of p)) (selected p is_read left) e.1)) (read_ranks_of p is_read left)
+    (each_with_before p.sources)
+    (all_map (ClosesFile is_read (closed_files p is_read)) _ (each_with_before p.sources)
+    (λ e closes. ranks_by p is_read left e (is_read (length e.0)) (is_clock e.1) refl refl closes) (closes_others p is_read))
+
+-- ---- the lists of all sources
 length_of_source : (p : Program) (rows : List Row) (ticks : List ℕ) (e : Declared) → length (lists_of_source p rows ticks e) ≡ width e.1
 length_of_source p rows ticks e = by_clock (is_clock e.1)
   where
@@ -94,15 +129,45 @@ length_from p rows ticks before (s ∷ rest) n =
     omega arith
 
 pub length_law : LawOfLength
-length_law p left = length_from p (λ e. rows_in (form_of (job_of p)) left e.1) (ticks_in p left) [] p.sources 0
+length_law p beside left = length_from p (λ e. rows_in (form_of (job_of p)) left e.1) (ticks_beside p beside left) [] p.sources 0
 
+-- ---- the list of an itag
+module _ (p : Program) (beside : List ℕ) (left : Contents) (itag : ℕ) (is : IsOfSource p itag) where
+  abbrev timing : Timing
+  timing = timing_of p (length (those_before p itag))
+
+  abbrev ticks : List ℕ
+  ticks = ticks_beside p beside left (those_before p itag, is.source)
+
+  abbrev rows : List Row
+  rows = rows_in (form_of (job_of p)) left is.source
+
+  list_at : get_or (lists_beside p beside left) itag [] ≡ get_or (lists_of_source p rows ticks (those_before p itag, is.source)) is.place []
+  list_at =
+      is.list (λ e. lists_of_source p (rows_in (form_of (job_of p)) left e.1) (ticks_beside p beside left e) e)
+      (λ e. length_of_source p (rows_in (form_of (job_of p)) left e.1) (ticks_beside p beside left e) e)
+
+  -- of a source with a file the items of its rows
+  list_of_file : is_clock is.source ≡ false
+      → get_or (lists_beside p beside left) itag []
+      ≡ get_or (lists_of_rows timing p.kinds is.source (sum_by width (those_before p itag)) rows) is.place []
+  list_of_file file = list_at ∙ ap (λ lists. get_or lists is.place []) (lists_of_file p rows ticks (those_before p itag, is.source) file)
+
+  -- and of a clock its ticks
+  list_of_clock : is_clock is.source ≡ true → get_or (lists_beside p beside left) itag [] ≡ items_of_ticks (timing_of p (number_of p itag)) itag ticks
+  list_of_clock ticks_there =
+      list_at
+      ∙ ap (λ b. get_or (if b then lists_of_ticks timing is.source (sum_by width (those_before p itag)) ticks
+      else lists_of_rows timing p.kinds is.source (sum_by width (those_before p itag)) rows) is.place []) ticks_there
+      ∙ get_or-map-range_with_len (λ place. items_of_ticks timing (sum_by width (those_before p itag) + place) ticks) 0 (width is.source) is.place
+      (0 + is.place) [] is.inside refl
+      ∙ ap (λ n. items_of_ticks timing n ticks) (let same : sum_by width (those_before p itag) + (0 + is.place) ≡ sum_by width (those_before p itag) + is.place = omega arith in same)
+      ∙ ap (λ n. items_of_ticks timing n ticks) (sym is.first) ∙ ap (λ n. items_of_ticks (timing_of p n) itag ticks) is.count
+
+-- ---- where the files of some sources are closed
 -- the list of an itag: what a read source gives, and else the end alone
 abbrev list_if : Bool → List Item → List Item
 list_if b items = if b then items else EndItem ∷ []
-
--- the number of the source of an itag, from the itags of a source on
-abbrev source_in : ℕ → List Source → ℕ → ℕ
-source_in n sources i = (get_or (itags_of_sources n sources) i (tag 0 0, 0)).1
 
 here_same : (timing : Timing) (form : RowForm) (kinds : List Kind) (names : List (List ℕ)) (left : Contents) (s : Source) (first i : ℕ) (b : Bool)
     → is_clock s ≡ false → is_among names s.file ≡ not b → i < width s
@@ -114,57 +179,28 @@ here_same timing form kinds names left s first i false file is lt =
     ap (λ rows. get_or (lists_of_rows timing kinds s first rows) i []) (closed_rows form names left s file is)
     ∙ end_alone timing kinds s first i lt
 
-mine_source : (tags : List Tag) (n i : ℕ) (rest : List (Tag × ℕ)) → i < length tags → (get_or (map (λ t. (t, n)) tags ++ rest) i (tag 0 0, 0)).1 ≡ n
-mine_source [] n i rest lt = absurd (omega arith)
-mine_source (t ∷ tags) n zero rest lt = refl
-mine_source (t ∷ tags) n (suc i) rest lt = mine_source tags n i rest (omega arith)
-
-lists_same : (timing : ℕ → Timing) (form : RowForm) (kinds : List Kind) (is_read : ℕ → Bool) (names : List (List ℕ)) (left : Contents)
-    (before sources : List Source) (i : ℕ)
-    → HaveFiles sources → ClosesOthers is_read names (with_before before sources) → i < length (itags_of_sources (length before) sources)
-    → get_or (lists_from timing form kinds (closed_at names left) before sources) i []
-    ≡ list_if (is_read (source_in (length before) sources i)) (get_or (lists_from timing form kinds left before sources) i [])
-lists_same timing form kinds is_read names left before [] i files closes lt = absurd (omega arith)
-lists_same timing form kinds is_read names left before (s ∷ rest) i files closes lt =
-    let n = length before in
-    let first = sum_by width before in
-    let front : Contents → List (List Item) = λ x. lists_of_rows (timing n) kinds s first (rows_in form x s) in
-    let back : Contents → List (List Item) = λ x. lists_from timing form kinds x (before ++ s ∷ []) rest in
-    let mine : List (Tag × ℕ) = map (λ (t : Tag). (t, n)) (tags_of_source s) in
-    let mine_len : length mine ≡ width s = length-map (tags_of_source s) (λ (t : Tag). (t, n)) in
-    let front_len : (x : Contents) → length (front x) ≡ width s = λ x. length_of_rows (timing n) kinds s first (rows_in form x s) in
-    let now = closed_at names left in
-    let Goal : Type 0 = get_or (lists_from timing form kinds now before (s ∷ rest)) i []
-    ≡ list_if (is_read (source_in n (s ∷ rest) i)) (get_or (lists_from timing form kinds left before (s ∷ rest)) i []) in
-    elim (cases_lt i (width s)) as (λ c. Goal) [
-      | inl inside ↦
-          let left_now : i < length (front now) = omega (arith, front_len now) in
-          let left_was : i < length (front left) = omega (arith, front_len left) in
-          get_or-append (front now) (back now) [] i left_now ∙ here_same (timing n) form kinds names left s first i (is_read n) files.0 closes.0 inside
-          ∙ ap (λ items. list_if (is_read n) items) (sym (get_or-append (front left) (back left) [] i left_was))
-          ∙ ap (λ number. list_if (is_read number) (get_or (lists_from timing form kinds left before (s ∷ rest)) i []))
-          (sym (mine_source (tags_of_source s) n i (itags_of_sources (n + 1) rest) inside))
-      | inr past ↦
-          let number : length (before ++ s ∷ []) ≡ n + 1 = length-append before (s ∷ []) in
-          let all : length (itags_of_sources n (s ∷ rest)) ≡ length mine + length (itags_of_sources (n + 1) rest) =
-          length-append mine (itags_of_sources (n + 1) rest) in
-          let more : i - width s < length (itags_of_sources (length (before ++ s ∷ [])) rest) = rw number (omega arith) in
-          let later = lists_same timing form kinds is_read names left (before ++ s ∷ []) rest (i - width s) files.1 closes.1 more in
-          let there : get_or (itags_of_sources n (s ∷ rest)) i (tag 0 0, 0) ≡ get_or (itags_of_sources (n + 1) rest) (i - width s) (tag 0 0, 0) =
-          get_or-append_right mine (itags_of_sources (n + 1) rest) (width s) i (tag 0 0, 0) mine_len past in
-          get_or-append_right (front now) (back now) (width s) i [] (front_len now) past ∙ later
-          ∙ ap (λ number. list_if (is_read (source_in number rest (i - width s))) (get_or (back left) (i - width s) [])) number
-          ∙ ap (λ (pair : Tag × ℕ). list_if (is_read pair.1) (get_or (back left) (i - width s) [])) (sym there)
-          ∙ ap (λ items. list_if (is_read (source_in n (s ∷ rest) i)) items)
-          (sym (get_or-append_right (front left) (back left) (width s) i [] (front_len left) past))
-    ]
+file_same : (p : Program) (is_read : ℕ → Bool) (beside : List ℕ) (left : Contents) (itag : ℕ) (is : IsOfSource p itag) → is_clock is.source ≡ false
+    → get_or (lists_beside p beside (selected p is_read left)) itag [] ≡ list_if (is_read (number_of p itag)) (get_or (lists_of p left) itag [])
+file_same p is_read beside left itag is file =
+    let earlier = those_before p itag in
+    let closes = holds_there p itag is (ClosesFile is_read (closed_files p is_read)) (closes_others p is_read) file in
+    list_of_file p beside (selected p is_read left) itag is file
+    ∙ here_same (timing_of p (length earlier)) (form_of (job_of p)) p.kinds (closed_files p is_read) left is.source (sum_by width earlier) is.place
+    (is_read (length earlier)) file closes is.inside
+    ∙ ap (list_if (is_read (length earlier))) (sym (list_of_file p [] left itag is file))
+    ∙ ap (λ n. list_if (is_read n) (get_or (lists_of p left) itag [])) is.count
 
 pub lists_law : LawOfLists
-lists_law p is_read left itag no_clock lt =
-    ap (λ lists. get_or lists itag []) (lists_alone p (selected p is_read left) no_clock)
-    ∙ lists_same (timing_of p) (form_of (job_of p)) p.kinds is_read (closed_files p is_read) left [] p.sources itag (have_files p.sources no_clock)
-    (closes_others p is_read no_clock) lt
-    ∙ ap (λ lists. list_if (is_read (source_of_itag p (record { 0 = itag }))) (get_or lists itag [])) (sym (lists_alone p left no_clock))
+lists_law p is_read beside left itag lt none =
+    let is = of_source p itag lt in
+    file_same p is_read beside left itag is (sym (ap (λ (o : Option Source). option_map_or is_clock o false) is.at) ∙ none)
+
+pub ticks_law : LawOfTicks
+ticks_law p beside left itag s lt at ticks =
+    let is = of_source p itag lt in
+    let same : is.source ≡ s = (let both : Some is.source ≡ Some s = sym is.at ∙ at in cc) in
+    list_of_clock p beside left itag is (ap is_clock same ∙ ticks)
+    ∙ ap (λ source. items_of_ticks (timing_of p (number_of p itag)) itag (ticks_beside p beside left (those_before p itag, source))) same
 
 -- ---- streams
 streams_by_place : (from : ℕ) (lists others : List (List Item)) → length others ≡ length lists
@@ -190,12 +226,30 @@ stream_if : (b : Bool) (itag : ℕ) (items : List Item) → is_stream_from itag 
 stream_if true itag items is = is
 stream_if false itag items is = refl
 
-pub streams_stay : StreamsStay
-streams_stay p is_read left no_clock all =
+-- ticks are a stream, among whatever rows
+still_stream : (p : Program) (is_read : ℕ → Bool) (beside : List ℕ) (left : Contents) (itag : ℕ) (is : IsOfSource p itag) (clock : Bool)
+    → is_clock is.source ≡ clock → is_stream_from itag 0 (get_or (lists_of p left) itag []) ≡ true
+    → is_stream_from itag 0 (get_or (lists_beside p beside (selected p is_read left)) itag []) ≡ true
+still_stream p is_read beside left itag is true ticks was =
+    let n = number_of p itag in
     let now = selected p is_read left in
-    let len : length (lists_of p left) ≡ count_of_itags p = length_law p left in
+    ap (is_stream_from itag 0) (list_of_clock p beside now itag is ticks)
+    ∙ stream_of_ticks (timing_of p n) itag 0 0 (ticks_beside p beside now (those_before p itag, is.source)) (moments_some p)
+    (ticks_rise p n is.source (beside ++ ranks_in p now) is.at) (omega arith)
+still_stream p is_read beside left itag is false file was =
+    ap (is_stream_from itag 0) (file_same p is_read beside left itag is file)
+    ∙ stream_if (is_read (number_of p itag)) itag (get_or (lists_of p left) itag []) was
+
+pub streams_stay : StreamsStay
+streams_stay p is_read beside left all =
+    let now = lists_beside p beside (selected p is_read left) in
+    let len : length (lists_of p left) ≡ count_of_itags p = length_law p [] left in
     let each : (i : ℕ) → i < length (lists_of p left) → is_stream_from (0 + i) 0 (get_or (lists_of p left) i []) ≡ true
-    → is_stream_from (0 + i) 0 (get_or (lists_of p now) i []) ≡ true =
-    λ i lt is. ap (is_stream_from (0 + i) 0) (lists_law p is_read left i no_clock (omega arith))
-    ∙ stream_if (is_read (source_of_itag p (record { 0 = i }))) (0 + i) (get_or (lists_of p left) i []) is in
-    streams_by_place 0 (lists_of p left) (lists_of p now) (length_law p now ∙ sym len) each all
+    → is_stream_from (0 + i) 0 (get_or now i []) ≡ true =
+    λ i lt was.
+    let is = of_source p i (omega arith) in
+    let here : 0 + i ≡ i = omega arith in
+    ap (λ n. is_stream_from n 0 (get_or now i [])) here
+    ∙ still_stream p is_read beside left i is (is_clock is.source) refl
+    (sym (ap (λ n. is_stream_from n 0 (get_or (lists_of p left) i [])) here) ∙ was) in
+    streams_by_place 0 (lists_of p left) now (length_law p beside (selected p is_read left) ∙ sym len) each all

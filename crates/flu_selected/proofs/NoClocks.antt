@@ -1,4 +1,4 @@
--- A job without clocks: each of its sources has a file, so what is read of the sources is what is read of their files.
+-- Sources that have files, and a job without clocks, where each source has one: what is read of its sources is what is read of their files.
 use Rattle.std.proofs.Common.{◌≡◌, ℕ, ◌+◌, ◌-◌, ◌≤◌, ◌∙◌, refl, ap, Bool, false, List, [], ◌∷◌, ◌++◌, length, map, Option, Some, None, arith}
 use Rattle.std.specs.Prelude.{nat_lt, is_some, sum_by, if◌then◌else◌}
 use Rattle.std.specs.List.{list_any, flat_map, cons_option, AllByRecursion}
@@ -22,7 +22,7 @@ use Rattle.flu_streams.specs.declared.faults.Why.TheVariants.{TooMany}
 use Rattle.flu_streams.specs.Before.{with_before, each_with_before, first_some, or_else}
 use Rattle.flu_streams.specs.Clocks.{Declared, ticks_of, lists_of_ticks, count_of_ticks, fault_of_ticks, fault_among}
 use Rattle.flu_streams.specs.Files.{files_of}
-use Rattle.flu_streams.specs.Good.{lines_in, rows_in, lists_of_rows, lists_of_source, lists_of, ticks_in}
+use Rattle.flu_streams.specs.Good.{lines_in, rows_in, lists_of_rows, lists_of_source, lists_of, ticks_beside}
 use Rattle.flu_streams.specs.LoopGathering.{lists_of_files}
 use Rattle.flu_streams.specs.Tags.{width}
 use Rattle.flu_streams.proofs.Befores.{with_before-append}
@@ -46,7 +46,7 @@ pub lines_of_file : (form : RowForm) (left : Contents) (s : Source) → is_clock
 lines_of_file form left s file = ap (λ b. if b then [] else read_file form (bytes_left left s.file)) file
 
 -- ---- the lists
-lists_of_file : (p : Program) (rows : List Row) (ticks : List ℕ) (e : Declared) → is_clock e.1 ≡ false
+pub lists_of_file : (p : Program) (rows : List Row) (ticks : List ℕ) (e : Declared) → is_clock e.1 ≡ false
     → lists_of_source p rows ticks e ≡ lists_of_rows (timing_of p (length e.0)) p.kinds e.1 (sum_by width e.0) rows
 lists_of_file p rows ticks e file =
     ap (λ b. if b then lists_of_ticks (timing_of p (length e.0)) e.1 (sum_by width e.0) ticks
@@ -66,7 +66,7 @@ lists_of_rest p rows ticks before (s ∷ rest) files =
 pub lists_alone : (p : Program) (left : Contents) → list_any is_clock p.sources ≡ false
     → lists_of p left ≡ lists_of_files (timing_of p) (form_of (job_of p)) p.kinds left p.sources
 lists_alone p left no_clock =
-    lists_of_rest p (λ e. rows_in (form_of (job_of p)) left e.1) (ticks_in p left) [] p.sources (have_files p.sources no_clock)
+    lists_of_rest p (λ e. rows_in (form_of (job_of p)) left e.1) (ticks_beside p [] left) [] p.sources (have_files p.sources no_clock)
 
 -- ---- no clock has too many ticks
 none_mapped : {X Y : Type 0} (f : X → Y) (o : Option X) (other : Y) → is_some o ≡ false → option_map_or f o other ≡ other

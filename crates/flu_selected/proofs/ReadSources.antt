@@ -1,9 +1,9 @@
 -- What reading the selected sources does to the files, from what it does to files of which the others are closed.
 use Rattle.std.proofs.Common.{◌≡◌, ℕ, ◌+◌, ◌<◌, ◌≤◌, ◌∙◌, refl, sym, ap, subst, Bool, true, false, List, [], ◌∷◌, ◌++◌, length, take, get_or, arith}
 use Rattle.std.proofs.Common.{Option, Some, None, Result, Ok, Err, inl, inr}
-use Rattle.std.specs.Prelude.{IsSome, is_some, OnOk, IfOk, IfErr, if◌then◌else◌}
+use Rattle.std.specs.Prelude.{IsSome, is_some, is_none, not, ◌&&◌, OnOk, IfOk, IfErr, if◌then◌else◌}
 use Rattle.std.specs.Option.{option_or}
-use Rattle.std.specs.List.{filter_map, list_any, cons_option, Contains}
+use Rattle.std.specs.List.{filter_map, cons_option, Contains}
 use Rattle.std.proofs.lemmas.Bool.{cases_Bool}
 use Rattle.std.proofs.lemmas.List.{append-nil, take_more, length-take-le}
 use Rattle.std.proofs.lemmas.List.Elements.{filter_map-append}
@@ -12,14 +12,14 @@ use Rattle.flu_lemmas.specs.Named.{IsThere, CountApart, TookFronts, IsReadOut}
 use Rattle.flu_lemmas.specs.Told.{WhereTold}
 use Rattle.flu_model.specs.declared.jobs.Source.{Source}
 use Rattle.flu_model.specs.declared.jobs.Program.{Program}
-use Rattle.flu_model.specs.Rules.{is_clock}
+use Rattle.flu_model.specs.Rules.{file_of_source}
 use Rattle.flu_outside.specs.Outside.{Contents}
 use Rattle.flu_streams.specs.declared.faults.GatherFault.{GatherFault}
 use Rattle.flu_streams.specs.declared.faults.GatherFault.TheVariants.{Source as SourceFaulty, ReadFault, NoMemory}
 use Rattle.flu_streams.specs.Before.{each_with_before}
-use Rattle.flu_streams.specs.Faults.{IsFirstFault, HidesNothing}
+use Rattle.flu_streams.specs.Faults.{IsFirstFaultBeside, HidesNothing}
 use Rattle.flu_streams.specs.Files.{files_of, LeavesOthers, CountsOfNames, AreReadOut}
-use Rattle.flu_streams.specs.Good.{AreGood, first_fault}
+use Rattle.flu_streams.specs.Good.{first_fault_beside}
 use Rattle.flu_selected.proofs.Faults.{defects_law, before-push}
 use Rattle.flu_selected.proofs.Keeping.{not_some}
 use Rattle.flu_selected.proofs.Lists.{open_left, closed_left}
@@ -29,9 +29,9 @@ use Rattle.flu_selected.specs.Origin.{ClosedStay}
 use Rattle.flu_selected.specs.Selecting.{end_line, with_closed, is_among, whole_lines, left_beside, counts_beside}
 
 -- ---- the files that are closed
-pub files_more : (is_read : List Bool) (sources : List Source) (i : ℕ) (x : Source) → i < length sources → x ≡ get_or sources i x
+files_more : (is_read : List Bool) (sources : List Source) (i : ℕ) (x : Source) → i < length sources → x ≡ get_or sources i x
     → filter_map (closed_file (reads is_read)) (each_with_before (take (i + 1) sources))
-    ≡ filter_map (closed_file (reads is_read)) (each_with_before (take i sources)) ++ cons_option (if reads is_read i then None else Some x.file) []
+    ≡ filter_map (closed_file (reads is_read)) (each_with_before (take i sources)) ++ cons_option (if reads is_read i then None else file_of_source x) []
 files_more is_read sources i x lt is =
     let cut : take (i + 1) sources ≡ take i sources ++ x ∷ [] = take_more sources i x lt ∙ ap (λ (y : Source). take i sources ++ y ∷ []) (sym is) in
     let size : length (take i sources) ≡ i = length-take-le i sources (omega arith) in
@@ -39,22 +39,39 @@ files_more is_read sources i x lt is =
     ∙ ap (filter_map (closed_file (reads is_read))) (before-push [] (take i sources) x)
     ∙ filter_map-append (closed_file (reads is_read)) (each_with_before (take i sources)) ((take i sources, x) ∷ [])
     ∙ ap (λ (n : ℕ). filter_map (closed_file (reads is_read)) (each_with_before (take i sources))
-    ++ cons_option (if reads is_read n then None else Some x.file) []) size
+    ++ cons_option (if reads is_read n then None else file_of_source x) []) size
 
-pub files_skipped : (is_read : List Bool) (sources : List Source) (i : ℕ) (x : Source) → i < length sources → x ≡ get_or sources i x → reads is_read i ≡ true
+pub files_skipped : (is_read : List Bool) (sources : List Source) (i : ℕ) (x : Source) → i < length sources → x ≡ get_or sources i x
+    → (is_none x.every && not (reads is_read i)) ≡ false
     → filter_map (closed_file (reads is_read)) (each_with_before (take (i + 1) sources))
     ≡ filter_map (closed_file (reads is_read)) (each_with_before (take i sources))
-files_skipped is_read sources i x lt is read =
+files_skipped is_read sources i x lt is open_file =
     files_more is_read sources i x lt is
-    ∙ ap (λ b. filter_map (closed_file (reads is_read)) (each_with_before (take i sources)) ++ cons_option (if b then None else Some x.file) []) read
+    ∙ ap (λ file. filter_map (closed_file (reads is_read)) (each_with_before (take i sources)) ++ cons_option file [])
+    (by_tests (reads is_read i) x.every open_file)
     ∙ append-nil (filter_map (closed_file (reads is_read)) (each_with_before (take i sources)))
+  where
+    by_tests : (b : Bool) (every : Option ℕ) → (is_none every && not b) ≡ false
+        → (if b then None else (if is_some every then None else Some x.file)) ≡ None
+    by_tests true every none = refl
+    by_tests false (Some n) none = refl
+    by_tests false None none = cc
 
-pub files_added : (is_read : List Bool) (sources : List Source) (i : ℕ) (x : Source) → i < length sources → x ≡ get_or sources i x → reads is_read i ≡ false
+pub files_added : (is_read : List Bool) (sources : List Source) (i : ℕ) (x : Source) → i < length sources → x ≡ get_or sources i x
+    → (is_none x.every && not (reads is_read i)) ≡ true
     → filter_map (closed_file (reads is_read)) (each_with_before (take (i + 1) sources))
     ≡ filter_map (closed_file (reads is_read)) (each_with_before (take i sources)) ++ x.file ∷ []
-files_added is_read sources i x lt is unread =
+files_added is_read sources i x lt is closed =
     files_more is_read sources i x lt is
-    ∙ ap (λ b. filter_map (closed_file (reads is_read)) (each_with_before (take i sources)) ++ cons_option (if b then None else Some x.file) []) unread
+    ∙ ap (λ file. filter_map (closed_file (reads is_read)) (each_with_before (take i sources)) ++ cons_option file [])
+    (by_tests (reads is_read i) x.every closed)
+  where
+    by_tests : (b : Bool) (every : Option ℕ) → (is_none every && not b) ≡ true
+        → (if b then None else (if is_some every then None else Some x.file)) ≡ Some x.file
+    by_tests false None there = refl
+    by_tests false (Some n) there = cc
+    by_tests true None there = cc
+    by_tests true (Some n) there = cc
 
 -- a name has the line where it is closed
 pub closed_of_lines : (names : List (List ℕ)) (name : List ℕ) → is_some (whole_lines names name) ≡ is_among names name
@@ -116,23 +133,23 @@ module _ (p : Program) (is_read : ℕ → Bool) (start a final b : Option Conten
       (subst (λ (f : Option Contents). WhereTold (left_beside a (whole_lines (closed_files p is_read))) f P) final_is
       (subst (λ (s : Option Contents). WhereTold s final P) start_is t))
 
-  pub good_read : list_any is_clock p.sources ≡ false → WhereTold start final (λ old new. AreGood p old)
-      → WhereTold a b (λ old new. first_read_fault p is_read old ≡ None)
-  good_read no_clock t =
-      told_weaker (λ x y. AreGood p (selected p is_read x)) (λ x y. first_read_fault p is_read x ≡ None) a b
-      (λ x y good. sym (defects_law p is_read x no_clock) ∙ good) (told (λ old new. AreGood p old) t)
+  pub good_read : (beside : List ℕ) → WhereTold start final (λ old new. first_fault_beside p beside old ≡ None)
+      → WhereTold a b (λ old new. first_read_fault p beside is_read old ≡ None)
+  good_read beside t =
+      told_weaker (λ x y. first_fault_beside p beside (selected p is_read x) ≡ None) (λ x y. first_read_fault p beside is_read x ≡ None) a b
+      (λ x y good. sym (defects_law p beside is_read x) ∙ good) (told (λ old new. first_fault_beside p beside old ≡ None) t)
 
   pub of_read : (P : Contents → Type 0) → WhereTold start final (λ old new. P old) → WhereTold a b (λ old new. P (selected p is_read old))
   of_read P t = told (λ old new. P old) t
 
-  pub fault_read : list_any is_clock p.sources ≡ false → (e : GatherFault) → IsFirstFault p start final e → IsFirstReadFault p is_read a b e
-  fault_read no_clock (SourceFaulty f) t = (
+  pub fault_read : (beside : List ℕ) (e : GatherFault) → IsFirstFaultBeside p beside start final e → IsFirstReadFault p beside is_read a b e
+  fault_read beside (SourceFaulty f) t = (
     t.0,
-    told_weaker (λ x y. first_fault p (selected p is_read x) ≡ Some f) (λ x y. first_read_fault p is_read x ≡ Some f) a b
-        (λ x y is. sym (defects_law p is_read x no_clock) ∙ is) (told (λ old new. first_fault p old ≡ Some f) t.1),
+    told_weaker (λ x y. first_fault_beside p beside (selected p is_read x) ≡ Some f) (λ x y. first_read_fault p beside is_read x ≡ Some f) a b
+        (λ x y is. sym (defects_law p beside is_read x) ∙ is) (told (λ old new. first_fault_beside p beside old ≡ Some f) t.1),
   )
-  fault_read no_clock ReadFault t = tt
-  fault_read no_clock NoMemory t = tt
+  fault_read beside ReadFault t = tt
+  fault_read beside NoMemory t = tt
 
   read_out_by : (b' : Option Contents) → final ≡ left_beside b' now → AreReadOut (files_of p.sources) final → ReadAreOut p is_read b'
   read_out_by None is out name read = tt

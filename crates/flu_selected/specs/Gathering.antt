@@ -11,7 +11,7 @@ use Rattle.flu_streams.specs.declared.faults.GatherFault.{GatherFault}
 use Rattle.flu_streams.specs.declared.faults.GatherFault.TheVariants.{Source as SourceFaulty, ReadFault, NoMemory}
 use Rattle.flu_streams.specs.Faults.{HidesNothing}
 use Rattle.flu_streams.specs.Files.{files_of}
-use Rattle.flu_streams.specs.Good.{lists_of}
+use Rattle.flu_streams.specs.Good.{lists_beside}
 use Rattle.flu_selected.specs.Laws.{closed_files, selected, first_read_fault}
 use Rattle.flu_selected.specs.Selecting.{is_among, whole_lines, left_beside, counts_beside}
 
@@ -23,13 +23,13 @@ reads is_read number = slice_index_or is_read number false
 abbrev pub IsRead : Program → (ℕ → Bool) → List ℕ → Type 0
 IsRead p is_read name = Contains (files_of p.sources) name × (is_among (closed_files p is_read) name ≡ false)
 
--- no source that is read has a defect
-abbrev pub ReadAreGood : Program → (ℕ → Bool) → Option Contents → Option Contents → Type 0
-ReadAreGood p is_read left left' = WhereTold left left' (λ old new. first_read_fault p is_read old ≡ None)
+-- no source that is read has a defect; clocks tick among rows elsewhere too
+abbrev pub ReadAreGood : Program → List ℕ → (ℕ → Bool) → Option Contents → Option Contents → Type 0
+ReadAreGood p beside is_read left left' = WhereTold left left' (λ old new. first_read_fault p beside is_read old ≡ None)
 
 -- the streams have the lists of the sources that are read
-abbrev pub AreReadLists : Program → (ℕ → Bool) → Option Contents → Option Contents → Streams → Type 0
-AreReadLists p is_read left left' streams = WhereTold left left' (λ old new. listed streams ≡ lists_of p (selected p is_read old))
+abbrev pub AreReadLists : Program → List ℕ → (ℕ → Bool) → Option Contents → Option Contents → Streams → Type 0
+AreReadLists p beside is_read left left' streams = WhereTold left left' (λ old new. listed streams ≡ lists_beside p beside (selected p is_read old))
 
 -- all names but the files of the sources that are read have what they had
 abbrev pub LeavesUnread : Program → (ℕ → Bool) → Contents → Contents → Type 0
@@ -52,11 +52,11 @@ abbrev pub ReadRose : Program → (ℕ → Bool) → Option Contents → (List �
 ReadRose p is_read left old new = IsSome left → (name : List ℕ) × IsRead p is_read name × Rose (old name) (new name)
 
 -- a fault of a source is the first of the read ones, and names a declared source
-abbrev pub IsFirstReadFault : Program → (ℕ → Bool) → Option Contents → Option Contents → GatherFault → Type 0
-IsFirstReadFault p is_read left left' (SourceFaulty f) =
-    (f.source < length p.sources) × WhereTold left left' (λ was now. first_read_fault p is_read was ≡ Some f)
-IsFirstReadFault p is_read left left' ReadFault = ⊤
-IsFirstReadFault p is_read left left' NoMemory = ⊤
+abbrev pub IsFirstReadFault : Program → List ℕ → (ℕ → Bool) → Option Contents → Option Contents → GatherFault → Type 0
+IsFirstReadFault p beside is_read left left' (SourceFaulty f) =
+    (f.source < length p.sources) × WhereTold left left' (λ was now. first_read_fault p beside is_read was ≡ Some f)
+IsFirstReadFault p beside is_read left left' ReadFault = ⊤
+IsFirstReadFault p beside is_read left left' NoMemory = ⊤
 
 -- a read fault hides nothing that was taken, where the files of the sources that are not read are closed, at the end with these lines left
 pub record HidesNoReadDefect (p : Program) (is_read : ℕ → Bool) (left left' : Option Contents) (old new : List ℕ → ℕ) : Type 0 where

@@ -5,3 +5,4 @@ pub mod Shared
 pub mod Laws
 pub mod Gathering
 pub mod OneJob
+pub mod Spans

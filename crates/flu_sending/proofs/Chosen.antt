@@ -1,14 +1,15 @@
 -- The first and the last time of items that are looked at one after another.
 use Rattle.std.proofs.Common.{◌≡◌, ℕ, ◌+◌, ◌<◌, min, max, Some, List, [], ◌∷◌, ◌++◌, length, take, get_or, refl, sym, ap, ◌∙◌, arith}
 use Rattle.std.specs.Prelude.{Option}
-use Rattle.std.specs.List.{reduce, fold}
+use Rattle.std.specs.List.{flat_map, range_with_len, reduce, fold}
 use Rattle.std.proofs.lemmas.Grind.{flat_map-append}
 use Rattle.std.proofs.lemmas.List.{append-nil, take_more}
 use Rattle.std.proofs.lemmas.List.Elements.{filter_map-append}
 use Rattle.std.proofs.lemmas.List.Sums.{fold-append}
+use Rattle.flu_lemmas.proofs.Ranges.{range_append}
 use Rattle.flu_model.specs.declared.events.Item.{Item}
 use Rattle.flu_model.specs.declared.events.Item.TheVariants.{Event as EventItem, Beat, End}
-use Rattle.flu_sending.specs.Lines.{time_of, times_of, all_times}
+use Rattle.flu_sending.specs.Lines.{time_of, times_of}
 use Rattle.flu_sending.specs.LoopSending.{chosen}
 
 pub min_assoc : (a b c : ℕ) → min (min a b) c ≡ min a (min b c)
@@ -46,15 +47,14 @@ module _ (choose : ℕ → ℕ → ℕ) (assoc : (a b c : ℕ) → choose (choos
       ∙ reduce-append (times_of (take i items)) (times_of (item ∷ []))
       ∙ ap (chosen choose (reduce choose (times_of (take i items)))) (time_alone item))
 
-  -- one list more
-  pub list_more : (lists : List (List Item)) (i : ℕ) (items : List Item) (before here after : Option ℕ) → i < length lists
-      → before ≡ reduce choose (all_times (take i lists)) → items ≡ get_or lists i [] → here ≡ reduce choose (times_of items)
-      → after ≡ chosen choose before here → after ≡ reduce choose (all_times (take (i + 1) lists))
-  list_more lists i items before here after lt e is f g =
-      let next : List Item = get_or lists i [] in
+  -- the times of one itag more; `times` says which each itag has
+  pub itag_more : (times : ℕ → List ℕ) (i : ℕ) (before here after : Option ℕ) → before ≡ reduce choose (flat_map times (range_with_len 0 i))
+      → here ≡ reduce choose (times i) → after ≡ chosen choose before here → after ≡ reduce choose (flat_map times (range_with_len 0 (i + 1)))
+  itag_more times i before here after e f g =
+      let earlier = range_with_len 0 i in
+      let none : 0 + i ≡ i = omega arith in
       g
       ∙ (λ j. chosen choose (e j) (f j))
-      ∙ ap (λ (xs : List Item). chosen choose (reduce choose (all_times (take i lists))) (reduce choose (times_of xs))) is
-      ∙ sym (ap (λ (ls : List (List Item)). reduce choose (all_times ls)) (take_more lists i [] lt)
-      ∙ ap (reduce choose) (flat_map-append times_of (take i lists) (next ∷ []) ∙ ap (λ ts. all_times (take i lists) ++ ts) (append-nil (times_of next)))
-      ∙ reduce-append (all_times (take i lists)) (times_of next))
+      ∙ sym (ap (λ is. reduce choose (flat_map times is)) (range_append 0 i 1 ∙ ap (λ k. earlier ++ range_with_len k 1) none)
+      ∙ ap (reduce choose) (flat_map-append times earlier (i ∷ []) ∙ ap (λ ts. flat_map times earlier ++ ts) (append-nil (times i)))
+      ∙ reduce-append (flat_map times earlier) (times i))

@@ -1,7 +1,7 @@
 -- What holds of the events of streams holds of their merged list.
-use Rattle.std.proofs.Common.{◌≡◌, ◌≤◌, ◌<◌, ◌+◌, ℕ, Bool, true, false, cond, List, [], ◌∷◌, length, max, arith}
-use Rattle.std.specs.Prelude.{◌==◌}
-use Rattle.std.specs.List.{AllByRecursion, fold, reduce}
+use Rattle.std.proofs.Common.{◌≡◌, ◌≤◌, ◌<◌, ◌+◌, ℕ, zero, suc, Bool, true, false, cond, List, [], ◌∷◌, length, max, arith}
+use Rattle.std.specs.Prelude.{◌==◌, slice_index_or}
+use Rattle.std.specs.List.{AllByRecursion, flat_map, fold, range_with_len, reduce}
 use Rattle.std.proofs.lemmas.List.Sorted.{length_permutation}
 use Rattle.flu_lemmas.specs.Sorting.{put_in_order, in_order}
 use Rattle.flu_lemmas.proofs.Elements.{all_append, all_front, all_back}
@@ -10,10 +10,13 @@ use Rattle.flu_lemmas.proofs.Tests.{and_left, and_right, true_eq}
 use Rattle.flu_model.specs.declared.events.Event.{Event}
 use Rattle.flu_model.specs.declared.events.Item.{Item}
 use Rattle.flu_model.specs.declared.events.Item.TheVariants.{Event as EventItem, Beat, End}
+use Rattle.flu_model.specs.declared.jobs.Program.{Program}
+use Rattle.flu_model.specs.Itags.{count_of_itags}
 use Rattle.flu_model.specs.Merging.{is_before, events_of, all_events, merged}
 use Rattle.flu_model.specs.Streaming.{is_stream_from, are_streams}
+use Rattle.flu_apart.specs.Classes.{has_ticks}
 use Rattle.flu_partial.specs.Partial.{IsTime, IsTimeOrNone}
-use Rattle.flu_sending.specs.Lines.{times_of, all_times}
+use Rattle.flu_sending.specs.Lines.{times_of, all_times, times_of_itag, row_times}
 
 -- ---- lists in order
 put_all : {X : Type 0} (P : X → Type 0) (before : X → X → Bool) (x : X) (ys : List X) → P x → AllByRecursion P ys → AllByRecursion P (put_in_order before x ys)
@@ -66,6 +69,27 @@ event_times [] all = tt
 event_times (items ∷ lists) all =
     all_append (λ (x : Event). IsTime x.time) (events_of items) (all_events lists) (times_in items (all_front IsTime (times_of items) (all_times lists) all))
     (event_times lists (all_back IsTime (times_of items) (all_times lists) all))
+
+-- those of one itag, by its number
+times_at : (lists : List (List Item)) (i : ℕ) → AllByRecursion IsTime (all_times lists) → AllByRecursion IsTime (times_of (slice_index_or lists i []))
+times_at [] i all = tt
+times_at (items ∷ lists) zero all = all_front IsTime (times_of items) (all_times lists) all
+times_at (items ∷ lists) (suc i) all = times_at lists i (all_back IsTime (times_of items) (all_times lists) all)
+
+-- the times of the rows are among all
+pub row_times_low : (p : Program) (lists : List (List Item)) → AllByRecursion IsTime (all_times lists) → AllByRecursion IsTime (row_times p lists)
+row_times_low p lists all = of_itags (range_with_len 0 (count_of_itags p))
+  where
+    of_itag : (i : ℕ) → AllByRecursion IsTime (times_of_itag p lists i)
+    of_itag i =
+        elim (has_ticks p i) as (λ b. AllByRecursion IsTime (cond b [] (times_of (slice_index_or lists i [])))) [
+          | true ↦ tt
+          | false ↦ times_at lists i all
+        ]
+
+    of_itags : (is : List ℕ) → AllByRecursion IsTime (flat_map (times_of_itag p lists) is)
+    of_itags [] = tt
+    of_itags (i ∷ is) = all_append IsTime (times_of_itag p lists i) (flat_map (times_of_itag p lists) is) (of_itag i) (of_itags is)
 
 greatest_time : (t : ℕ) (ts : List ℕ) → IsTime t → AllByRecursion IsTime ts → IsTime (fold max t ts)
 greatest_time t [] low all = low

@@ -24,8 +24,8 @@ use Rattle.flu_partial.specs.Partial.{IsTime, IsTimeOrNone}
 use Rattle.flu_save.specs.Checkpoint.{HasWordWidth}
 use Rattle.flu_handover.specs.Handing.{IsListed}
 use Rattle.flu_sending.specs.Laws.{HasLine, WhatIsSentCanBeHandedOver}
-use Rattle.flu_sending.specs.Lines.{all_times, last_time}
-use Rattle.flu_sending.proofs.Merged.{all_merged, merged_in_range, event_times, last_in_range, length_merged}
+use Rattle.flu_sending.specs.Lines.{row_times, last_time}
+use Rattle.flu_sending.proofs.Merged.{all_merged, merged_in_range, event_times, row_times_low, last_in_range, length_merged}
 use Rattle.flu_sending.proofs.Sorts.{within_sorts, outside_sorts}
 use Rattle.flu_sending.proofs.Widths.{TagsFit, AreWords, update_words}
 
@@ -136,8 +136,8 @@ module _ (sorts : KeepsSorts) (fit : TagsFit) (p : Program) (nodes : List Node) 
 
 pub can_be_handed_over : KeepsSorts → TagsFit → WhatIsSentCanBeHandedOver
 can_be_handed_over sorts fit p nodes w lists one streams readable =
-    let last = last_time lists in
-    let low : IsTimeOrNone last = last_in_range (all_times lists) readable.times in
+    let last = last_time p lists in
+    let low : IsTimeOrNone last = last_in_range (row_times p lists) (row_times_low p lists readable.times) in
     let xs = merged lists in
     let times : AllByRecursion (λ (x : Event). IsTime x.time) xs = all_merged (λ (x : Event). IsTime x.time) lists (event_times lists readable.times) in
     let values : AllByRecursion (λ (x : Event). FitsSigned w64 x.value) xs =

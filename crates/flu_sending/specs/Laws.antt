@@ -17,7 +17,7 @@ use Rattle.flu_partial.specs.Order.{AreRest}
 use Rattle.flu_partial.specs.Partial.{IsTime}
 use Rattle.flu_handover.specs.Handing.{line_of, IsSendable}
 use Rattle.flu_handover.specs.Laws.{IsInRange}
-use Rattle.flu_sending.specs.Lines.{all_times, last_time, lines_of, sent_by}
+use Rattle.flu_sending.specs.Lines.{all_times, row_times, last_time, lines_of, sent_by}
 use Rattle.flu_sending.specs.Texts.{IsUtf8Output, NamesAreUtf8, TemplatesAreUtf8}
 
 -- items as code holds them: their times are below 2^63, their events have values of 64 bits, and there are fewer than 2^64 events
@@ -36,7 +36,7 @@ abbrev pub WhatIsSentCanBeHandedOver : Type 0
 WhatIsSentCanBeHandedOver =
     (p : Program) (nodes : List Node) (w : ℕ) (lists : List (List Item))
     → length lists ≡ count_of_itags p → IsTrue (are_streams 0 lists) → AreReadable lists
-    → AllByRecursion (HasLine p (last_time lists)) (sent_by p nodes w lists)
+    → AllByRecursion (HasLine p (last_time p lists)) (sent_by p nodes w lists)
 
 -- WHAT IS SENT IS DETERMINED by the events inside and above, in their order
 abbrev pub SentByNeeded : Type 0
@@ -45,7 +45,7 @@ SentByNeeded =
     → filter (is_needed p nodes w) (merged lists) ≡ filter (is_needed p nodes w) (merged others)
     → sent_by p nodes w lists ≡ sent_by p nodes w others
 
--- so by streams that have all events of the itags that the node needs: it sends of them what it would send of all streams
+-- so by streams that are a part for the node: it sends of them what it would send of the whole
 abbrev pub SentByParts : Type 0
 SentByParts =
     (p : Program) (nodes : List Node) (w : ℕ) (whole part : List (List Item))
@@ -58,8 +58,10 @@ SentLinesMayCome =
     (p : Program) (nodes : List Node) (w : ℕ) (last : Option ℕ) (lists : List (List Item))
     → RiseStrictly (merged lists) → AreRest Head (map (line_of p last) (sent_by p nodes w lists))
 
--- PROGRAMS OF ONE JOB differ only in where the boxes of their expressions lie in memory: a node sends the same, in the same lines
+-- PROGRAMS OF ONE JOB differ only in where the boxes of their expressions lie in memory: a node sends the same, in the same lines, and the rows of
+-- the same streams have the same times
 pub record SendTheSame (p q : Program) : Type 0 where
+  pub times : row_times p ≡ row_times q
   pub lines : lines_of p ≡ lines_of q
   pub sent : sent_by p ≡ sent_by q
 

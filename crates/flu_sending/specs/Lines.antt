@@ -1,12 +1,14 @@
 -- WHAT A NODE APART SENDS of the streams that it has read, and the lines of it.
-use Rattle.std.specs.Prelude.{ℕ, min, max, Option, Some, None, List}
-use Rattle.std.specs.List.{filter_map, flat_map, reduce}
+use Rattle.std.specs.Prelude.{ℕ, min, max, Option, Some, None, List, [], slice_index_or, if◌then◌else◌}
+use Rattle.std.specs.List.{filter_map, flat_map, range_with_len, reduce}
 use Rattle.flu_model.specs.declared.events.Item.{Item}
 use Rattle.flu_model.specs.declared.events.Item.TheVariants.{Event as EventItem, Beat, End}
 use Rattle.flu_model.specs.declared.jobs.Program.{Program}
 use Rattle.flu_model.specs.declared.plans.Node.{Node}
 use Rattle.flu_model.specs.Contents.{nothing_held}
+use Rattle.flu_model.specs.Itags.{count_of_itags}
 use Rattle.flu_model.specs.Merging.{merged}
+use Rattle.flu_apart.specs.Classes.{has_ticks}
 use Rattle.flu_contribution.specs.Contributions.{Contribution, contributions}
 use Rattle.flu_contribution.specs.Sending.{sent}
 use Rattle.flu_partial.specs.Partial.{contribution_text, line_of as text_line}
@@ -27,12 +29,19 @@ times_of items = filter_map time_of items
 abbrev pub all_times : List (List Item) → List ℕ
 all_times lists = flat_map times_of lists
 
--- THE FIRST AND THE LAST TIME of some streams: the least and the greatest time of their events and heartbeats; none where there are none
-abbrev pub first_time : List (List Item) → Option ℕ
-first_time lists = reduce min (all_times lists)
+-- the times of the rows: those of the itags of sources with a file. The ticks of clocks follow these.
+abbrev pub times_of_itag : Program → List (List Item) → ℕ → List ℕ
+times_of_itag p lists i = if has_ticks p i then [] else times_of (slice_index_or lists i [])
 
-abbrev pub last_time : List (List Item) → Option ℕ
-last_time lists = reduce max (all_times lists)
+abbrev pub row_times : Program → List (List Item) → List ℕ
+row_times p lists = flat_map (times_of_itag p lists) (range_with_len 0 (count_of_itags p))
+
+-- THE FIRST AND THE LAST TIME of some streams: the least and the greatest time of the rows; none where there are none
+abbrev pub first_time : Program → List (List Item) → Option ℕ
+first_time p lists = reduce min (row_times p lists)
+
+abbrev pub last_time : Program → List (List Item) → Option ℕ
+last_time p lists = reduce max (row_times p lists)
 
 -- ---- what is sent
 

@@ -2,9 +2,7 @@
 
 ghost use Rattle.flu_sending.specs.Laws.{SentByNeeded, SentByParts, SentLinesMayCome, SentTextsAreUtf8, WhatIsSentCanBeHandedOver, JobsSendTheSame};
 
-use flu_contribution::laws::{
-    merged_lists_agree, only_needed_events_matter, programs_of_a_job_contribute_the_same,
-};
+use flu_contribution::laws::{only_needed_events_matter, programs_of_a_job_contribute_the_same};
 use flu_laws::{programs_of_a_job_are_alike, updates_are_changes};
 use flu_model::laws::itags_have_tags;
 
@@ -18,15 +16,13 @@ pub fn what_is_sent_can_be_handed_over()
     itags_have_tags();
 }
 
-/// What a node sends is determined by the events inside it and above it, in their order. So streams that have all events of the itags that it
-/// needs are enough for it: it sends what it would send of all streams. Only the last time, which stands in the last line, is that of the
-/// streams that it has read.
+/// What a node sends is determined by the events inside it and above it, in their order; and of streams that are a part for it, it sends what it
+/// would send of the whole. Only the last time, which stands in the last line, is that of the streams that it has read.
 pub fn lines_are_determined()
     ensures events { SentByNeeded }
     ensures parts { SentByParts }
 {
     only_needed_events_matter();
-    merged_lists_agree();
 }
 
 /// The lines of what a node sends come in the order of a partial, where the merged events rise strictly: each names a later event than the one
@@ -36,7 +32,7 @@ pub fn sent_lines_may_come()
 {}
 
 /// For programs of one job, which differ only in where the boxes of their expressions lie in memory, a node sends the same of the same
-/// streams, in the same lines.
+/// streams, in the same lines, and the rows of these streams have the same times.
 pub fn programs_of_a_job_send_the_same()
     ensures { JobsSendTheSame }
 {

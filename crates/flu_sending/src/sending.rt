@@ -155,7 +155,7 @@ pub fn push_sent(
     requires valid { IsValidFor (program_of c.now) v.now }
     requires lists { length (listed streams.now) ≡ count_of_itags (program_of c.now) }
     ensures { OnOk result (out.new.items ≡ out.old.items
-        ++ lines_of (program_of c.now) (last_time (listed streams.now)) (sent_by (program_of c.now) (plan_of v.now).nodes w (listed streams.now))) }
+        ++ lines_of (program_of c.now) (last_time (program_of c.now) (listed streams.now)) (sent_by (program_of c.now) (plan_of v.now).nodes w (listed streams.now))) }
 {
     let p = c.program();
     let part = Part {

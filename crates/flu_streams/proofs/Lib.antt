@@ -10,6 +10,7 @@ pub mod Streamings
 pub mod SourceFiles
 pub mod Turns
 pub mod Placing
+pub mod Beside
 pub mod Between
 pub mod Inlets
 pub mod Keyed

@@ -34,7 +34,7 @@ use Rattle.flu_streams.specs.declared.faults.Why.{Why}
 use Rattle.flu_streams.specs.declared.faults.Why.TheVariants.{BadRow, UnknownTag, UnknownItem, AfterEnd}
 use Rattle.flu_streams.specs.Before.{each_with_before, first_some, or_else}
 use Rattle.flu_streams.specs.Clocks.{Declared, lists_of_ticks, count_of_ticks, fault_of_ticks}
-use Rattle.flu_streams.specs.Good.{lines_in, rows_in, items_held, event_of, item_in, at_moments, in_time_order, lists_of_rows, lists_of, first_fault}
+use Rattle.flu_streams.specs.Good.{lines_in, rows_in, items_held, event_of, item_in, at_moments, in_time_order, lists_of_rows, ranks_in, lists_beside, first_fault_beside}
 use Rattle.flu_streams.specs.OneJob.{ReadRowsAlike, ReadTheSame}
 use Rattle.flu_streams.specs.Rounds.{row_fault, line_defect, defect_in}
 use Rattle.flu_streams.specs.Tags.{kind_named, key_named, tag_named, place_named, given, given_by, given_to, is_known, width}
@@ -192,13 +192,13 @@ ranks_by j left =
     flat_map (λ (e : Declared). map (λ time. moment (length j.sources) 1 time (length e.0) 0) (times_of (rows_in (form_of j) left e.1)))
     (each_with_before j.sources)
 
-abbrev ticks_by : Job → Contents → Declared → List ℕ
-ticks_by j left e = option_map_or (λ every. ticks_among (length j.sources) 1 every (length e.0) (ranks_by j left)) e.1.every []
+abbrev ticks_by : Job → List ℕ → Contents → Declared → List ℕ
+ticks_by j beside left e = option_map_or (λ every. ticks_among (length j.sources) 1 every (length e.0) (beside ++ ranks_by j left)) e.1.every []
 
-abbrev clock_fault : Job → Contents → Option SourceFault
-clock_fault j left =
-    first_some (λ (e : Declared). fault_of_ticks (length e.0) (items_held (form_of j) left j.sources + count_of_ticks (ticks_by j left) e.0)
-    (ticks_by j left e))
+abbrev clock_fault : Job → List ℕ → Contents → Option SourceFault
+clock_fault j beside left =
+    first_some (λ (e : Declared). fault_of_ticks (length e.0) (items_held (form_of j) left j.sources + count_of_ticks (ticks_by j beside left) e.0)
+    (ticks_by j beside left e))
     (each_with_before j.sources)
 
 module _ (p q : Program) (same : IsSameJob p q) where
@@ -208,18 +208,26 @@ module _ (p q : Program) (same : IsSameJob p q) where
   alike_lines : (timing : Timing) → first_of timing p.kinds ≡ first_of timing q.kinds
   alike_lines = same_first_of p.kinds q.kinds (ap (λ j. j.kinds) same)
 
-  same_faults : first_fault p ≡ first_fault q
-  same_faults = λ i left. or_else
+  same_ranks : ranks_in p ≡ ranks_in q
+  same_ranks = λ i left. ranks_by (same i) left
+
+  same_faults : first_fault_beside p ≡ first_fault_beside q
+  same_faults = λ i beside left. or_else
       (first_some (λ (e : Declared). option_map (λ (d : ℕ × Why). record { source = length e.0; row = d.0; why = d.1 })
       (alike_lines (timing_in (same i) (length e.0)) i e.1 (items_held (form_of (same i)) left e.0) (lines_in (form_of (same i)) left e.1)))
       (each_with_before (same i).sources))
-      (clock_fault (same i) left)
+      (clock_fault (same i) beside left)
 
-  same_lists : lists_of p ≡ lists_of q
-  same_lists = λ i left. flat_map (λ (e : Declared).
-      if is_clock e.1 then lists_of_ticks (timing_in (same i) (length e.0)) e.1 (sum_by width e.0) (ticks_by (same i) left e)
+  same_lists : lists_beside p ≡ lists_beside q
+  same_lists = λ i beside left. flat_map (λ (e : Declared).
+      if is_clock e.1 then lists_of_ticks (timing_in (same i) (length e.0)) e.1 (sum_by width e.0) (ticks_by (same i) beside left e)
       else alike_rows.lists (timing_in (same i) (length e.0)) i e.1 (sum_by width e.0) (rows_in (form_of (same i)) left e.1))
       (each_with_before (same i).sources)
 
 pub jobs_read_the_same : (p q : Program) → IsSameJob p q → ReadTheSame p q
-jobs_read_the_same p q same = record { rows = alike_rows p q same; faults = same_faults p q same; lists = same_lists p q same }
+jobs_read_the_same p q same = record {
+  rows = alike_rows p q same;
+  ranks = same_ranks p q same;
+  faults = same_faults p q same;
+  lists = same_lists p q same;
+}

@@ -25,7 +25,7 @@ use Rattle.flu_streams.specs.declared.clocks.Span.{Span}
 use Rattle.flu_streams.specs.declared.faults.SourceFault.{SourceFault}
 use Rattle.flu_streams.specs.declared.faults.Why.TheVariants.{TooMany}
 use Rattle.flu_streams.specs.Before.{with_before, each_with_before, first_some, or_else}
-use Rattle.flu_streams.specs.Clocks.{Declared, ranks_among, ticks_of, items_of_ticks, lists_of_ticks, count_of_ticks, fault_of_ticks, fault_among}
+use Rattle.flu_streams.specs.Clocks.{Declared, ticks_of, items_of_ticks, lists_of_ticks, count_of_ticks, fault_of_ticks, fault_among}
 use Rattle.flu_streams.specs.Good.{at_moments, items_at, lists_of_rows, lists_of_source}
 use Rattle.flu_streams.specs.LoopClocks.{HasSpan, ranks_in}
 use Rattle.flu_streams.specs.Rounds.{is_within}
@@ -105,10 +105,10 @@ all_within : (ticks : List ℕ) → filter (is_within None Closed) ticks ≡ tic
 all_within [] = refl
 all_within (t ∷ ticks) = ap (λ rest. t ∷ rest) (all_within ticks)
 
-pub found_ticks : (p : Program) (rows : Declared → List Row) (span : Option Span) (i : ℕ) (s : Source) (ticks : List ℕ) → HasSpan span (ranks_among p rows)
-    → ticks ≡ filter (is_within None Closed) (ticks_of p (ranks_in span) (take i p.sources, s)) → ticks ≡ ticks_of p (ranks_among p rows) (take i p.sources, s)
-found_ticks p rows span i s ticks has is =
-    is ∙ all_within (ticks_of p (ranks_in span) (take i p.sources, s)) ∙ span_tells p span (ranks_among p rows) (take i p.sources, s) has
+pub found_ticks : (p : Program) (ranks : List ℕ) (span : Option Span) (i : ℕ) (s : Source) (ticks : List ℕ) → HasSpan span ranks
+    → ticks ≡ filter (is_within None Closed) (ticks_of p (ranks_in span) (take i p.sources, s)) → ticks ≡ ticks_of p ranks (take i p.sources, s)
+found_ticks p ranks span i s ticks has is =
+    is ∙ all_within (ticks_of p (ranks_in span) (take i p.sources, s)) ∙ span_tells p span ranks (take i p.sources, s) has
 
 pub ticks_alone : (p : Program) (span : Option Span) (i : ℕ) (s : Source) (ticks : List ℕ)
     → ticks ≡ filter (is_within None Closed) (ticks_of p (ranks_in span) (take i p.sources, s)) → ticks ≡ ticks_of p (ranks_in span) (take i p.sources, s)
@@ -135,18 +135,18 @@ many_ticks : (number held : ℕ) (ticks : List ℕ) → 16777216 < held + length
 many_ticks number held ticks lt =
     ap (λ (b : Bool). if b then Some (fault_at number (16777217 - held)) else None) (lt_true 16777216 (held + length ticks) lt)
 
--- ---- the lists with the ticks of the first sources
-pub record AreTicked (p : Program) (rows : Declared → List Row) (earlier later : List Source) (held now : ℕ) (lists : List (List Item)) : Type 0 where
-  pub lists_are : lists ≡ flat_map (λ e. lists_of_source p (rows e) (ticks_of p (ranks_among p rows) e) e) (each_with_before earlier)
+-- ---- the lists with the ticks of the first sources, among rows that stand there
+pub record AreTicked (p : Program) (ranks : List ℕ) (rows : Declared → List Row) (earlier later : List Source) (held now : ℕ) (lists : List (List Item)) : Type 0 where
+  pub lists_are : lists ≡ flat_map (λ e. lists_of_source p (rows e) (ticks_of p ranks e) e) (each_with_before earlier)
       ++ flat_map (λ e. lists_of_rows (timing_of p (length e.0)) p.kinds e.1 (sum_by width e.0) (rows e)) (with_before earlier later)
-  pub count : now ≡ held + count_of_ticks (ticks_of p (ranks_among p rows)) earlier
-  pub none : first_some (λ e. fault_of_ticks (length e.0) (held + count_of_ticks (ticks_of p (ranks_among p rows)) e.0) (ticks_of p (ranks_among p rows) e))
+  pub count : now ≡ held + count_of_ticks (ticks_of p ranks) earlier
+  pub none : first_some (λ e. fault_of_ticks (length e.0) (held + count_of_ticks (ticks_of p ranks) e.0) (ticks_of p ranks e))
       (each_with_before earlier) ≡ None
 
-module _ (p : Program) (rows : Declared → List Row) (earlier later : List Source) (s : Source) (held now : ℕ) (lists : List (List Item))
-    (is : AreTicked p rows earlier (s ∷ later) held now lists) where
+module _ (p : Program) (ranks : List ℕ) (rows : Declared → List Row) (earlier later : List Source) (s : Source) (held now : ℕ) (lists : List (List Item))
+    (is : AreTicked p ranks rows earlier (s ∷ later) held now lists) where
   abbrev ticks : Declared → List ℕ
-  ticks = ticks_of p (ranks_among p rows)
+  ticks = ticks_of p ranks
 
   abbrev fault_in : Declared → Option SourceFault
   fault_in e = fault_of_ticks (length e.0) (held + count_of_ticks ticks e.0) (ticks e)
@@ -161,9 +161,9 @@ module _ (p : Program) (rows : Declared → List Row) (earlier later : List Sour
   with_all e = lists_of_source p (rows e) (ticks e) e
 
   -- a source with a file stays as it is
-  pub goes_on : is_clock s ≡ false → now ≤ 16777216 → AreTicked p rows (earlier ++ s ∷ []) later held now lists
+  pub goes_on : is_clock s ≡ false → now ≤ 16777216 → AreTicked p ranks rows (earlier ++ s ∷ []) later held now lists
   goes_on file few =
-      let none = ap length (no_ticks p (ranks_among p rows) (earlier, s) file) in
+      let none = ap length (no_ticks p ranks (earlier, s) file) in
       let count = is.count in
       let rest = flat_map with_rows (with_before (earlier ++ s ∷ []) later) in
       record {
@@ -178,7 +178,7 @@ module _ (p : Program) (rows : Declared → List Row) (earlier later : List Sour
   -- a clock gets its ticks
   pub ticks_on : (items : List Item) → is_clock s ≡ true → width s ≡ 1 → now + length (ticks (earlier, s)) ≤ 16777216
       → items ≡ items_of_ticks (timing_of p (length earlier)) (sum_by width earlier) (ticks (earlier, s))
-      → AreTicked p rows (earlier ++ s ∷ []) later held (now + length (ticks (earlier, s))) (set lists (sum_by width earlier) items)
+      → AreTicked p ranks rows (earlier ++ s ∷ []) later held (now + length (ticks (earlier, s))) (set lists (sum_by width earlier) items)
   ticks_on items clock one few own =
       let count = is.count in
       let front = flat_map with_all (each_with_before earlier) in
@@ -214,10 +214,10 @@ module _ (p : Program) (rows : Declared → List Row) (earlier later : List Sour
       ∙ ap (λ (r : ℕ). Some (fault_at number r)) same)
 
 -- at first no source has its ticks, and at last each
-pub ticks_start : (p : Program) (rows : Declared → List Row) (held : ℕ) (lists : List (List Item))
+pub ticks_start : (p : Program) (ranks : List ℕ) (rows : Declared → List Row) (held : ℕ) (lists : List (List Item))
     → lists ≡ flat_map (λ e. lists_of_rows (timing_of p (length e.0)) p.kinds e.1 (sum_by width e.0) (rows e)) (each_with_before p.sources)
-    → AreTicked p rows [] p.sources held held lists
-ticks_start p rows held lists is = record { lists_are = is; count = omega arith; none = refl }
+    → AreTicked p ranks rows [] p.sources held held lists
+ticks_start p ranks rows held lists is = record { lists_are = is; count = omega arith; none = refl }
 
 -- ---- one source after those before it
 pub rest_here : (sources items : List Source) (i : ℕ) (s : Source) → items ≡ sources → i < length items → s ≡ get_or items i s
@@ -239,8 +239,8 @@ first_within p earlier later s split =
     let rest = sum_by-append width (s ∷ []) later in
     omega (arith, all, own, parts, rest)
 
-pub as_ticked : (p : Program) (rows : Declared → List Row) (earlier earlier' later : List Source) (held now now' : ℕ) (lists lists' : List (List Item))
-    → earlier' ≡ earlier → now' ≡ now → lists' ≡ lists → AreTicked p rows earlier later held now lists → AreTicked p rows earlier' later held now' lists'
-as_ticked p rows earlier earlier' later held now now' lists lists' e n l is =
-    subst (λ x. AreTicked p rows x later held now' lists') (sym e)
-    (subst (λ x. AreTicked p rows earlier later held x lists') (sym n) (subst (AreTicked p rows earlier later held now) (sym l) is))
+pub as_ticked : (p : Program) (ranks : List ℕ) (rows : Declared → List Row) (earlier earlier' later : List Source) (held now now' : ℕ) (lists lists' : List (List Item))
+    → earlier' ≡ earlier → now' ≡ now → lists' ≡ lists → AreTicked p ranks rows earlier later held now lists → AreTicked p ranks rows earlier' later held now' lists'
+as_ticked p ranks rows earlier earlier' later held now now' lists lists' e n l is =
+    subst (λ x. AreTicked p ranks rows x later held now' lists') (sym e)
+    (subst (λ x. AreTicked p ranks rows earlier later held x lists') (sym n) (subst (AreTicked p ranks rows earlier later held now) (sym l) is))

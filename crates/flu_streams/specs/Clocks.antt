@@ -1,5 +1,5 @@
 -- CLOCKS: sources without a file, whose ticks follow the rows of the files (`docs/LANGUAGE.md`, "Clocks").
-use Rattle.std.specs.Prelude.{ℕ, ◌+◌, ◌-◌, pos, nat_lt, Option, Some, None, List, [], ◌∷◌, ◌++◌, map, length, sum_by, if◌then◌else◌}
+use Rattle.std.specs.Prelude.{ℕ, ◌+◌, ◌-◌, ◌/◌, ◌<◌, All, pos, nat_lt, Bool, false, slice_get, Option, Some, None, List, [], ◌∷◌, ◌++◌, map, length, sum_by, if◌then◌else◌}
 use Rattle.std.specs.List.{flat_map, range_with_len}
 use Rattle.std.specs.Option.{option_map_or}
 use Rattle.flu_model.specs.declared.events.Item.{Item}
@@ -7,7 +7,9 @@ use Rattle.flu_model.specs.declared.events.Item.TheVariants.{Event as EventItem,
 use Rattle.flu_model.specs.declared.jobs.Program.{Program}
 use Rattle.flu_model.specs.declared.jobs.Source.{Source}
 use Rattle.flu_model.specs.declared.moments.Timing.{Timing}
-use Rattle.flu_model.specs.Moments.{moment_at}
+use Rattle.flu_model.specs.Itags.{source_of_itag}
+use Rattle.flu_model.specs.Moments.{moment_at, end_of_times}
+use Rattle.flu_model.specs.Rules.{is_clock}
 use Rattle.flu_moments.specs.Clocks.{ticks_among}
 use Rattle.flu_moments.specs.Moments.{moment}
 use Rattle.flu_rows.specs.declared.row.Row.{Row}
@@ -30,9 +32,18 @@ ranks_of p number rows = map (λ time. moment (length p.sources) 1 time number 0
 abbrev pub ranks_among : Program → (Declared → List Row) → List ℕ
 ranks_among p rows = flat_map (λ e. ranks_of p (length e.0) (rows e)) (each_with_before p.sources)
 
+-- rows that stand there have times that rows may have
+abbrev pub AreEarly : Program → List ℕ → Type 0
+AreEarly p ranks = All (λ rank. rank / length p.sources < end_of_times p) ranks
+
 -- THE TICKS of a source among rows that stand there; only a clock has any
 abbrev pub ticks_of : Program → List ℕ → Declared → List ℕ
 ticks_of p ranks e = option_map_or (λ every. ticks_among (length p.sources) 1 every (length e.0) ranks) e.1.every []
+
+-- ---- itags
+-- whether the events of the itag with this number are ticks: its source is a clock
+abbrev pub has_ticks : Program → ℕ → Bool
+has_ticks p i = option_map_or is_clock (slice_get p.sources (source_of_itag p (record { 0 = i }))) false
 
 -- ---- items
 -- a tick is an event without item and value, at the first moment that its clock has at its time

@@ -1,5 +1,5 @@
 -- What a fault of the sources says: the first defect of all, and that a read fault hides none.
-use Rattle.std.specs.Prelude.{◌≡◌, ◌<◌, ℕ, false, Option, Some, None, List, ◌∷◌, ◌++◌, length, ⊤}
+use Rattle.std.specs.Prelude.{◌≡◌, ◌<◌, ℕ, false, Option, Some, None, List, [], ◌∷◌, ◌++◌, length, ⊤}
 use Rattle.flu_model.specs.Erasure.{job_of}
 use Rattle.flu_model.specs.declared.jobs.Kind.{Kind}
 use Rattle.flu_model.specs.declared.jobs.Source.{Source}
@@ -17,7 +17,7 @@ use Rattle.flu_streams.specs.declared.faults.GatherFault.{GatherFault}
 use Rattle.flu_streams.specs.declared.faults.GatherFault.TheVariants.{Source as SourceFaulty, ReadFault, NoMemory}
 use Rattle.flu_streams.specs.Before.{each_with_before, first_some}
 use Rattle.flu_streams.specs.Tests.{first_of}
-use Rattle.flu_streams.specs.Good.{lines_in, items_held, fault_of_source, first_fault}
+use Rattle.flu_streams.specs.Good.{lines_in, items_held, fault_of_source, first_fault_beside}
 
 -- the lines that a source had are what was read of it, and what is still to be read
 abbrev pub WasRead : RowForm → Source → List Next → List Next → Contents → Type 0
@@ -46,8 +46,12 @@ pub record HidesNothing (p : Program) (old new : Option Contents) (before now : 
   pub undecided : IsUndecided place.taken
   pub told : WhereTold old new (λ was now. StopsWithout (timing_of p) (form_of (job_of p)) p.kinds earlier source read (ahead place now) was)
 
--- a fault of a source is the first of all, and names a declared source
+-- a fault of a source is the first of all, and names a declared source; clocks tick among rows elsewhere too that stand there
+abbrev pub IsFirstFaultBeside : Program → List ℕ → Option Contents → Option Contents → GatherFault → Type 0
+IsFirstFaultBeside p beside left left' (SourceFaulty f) =
+    (f.source < length p.sources) × WhereTold left left' (λ was now. first_fault_beside p beside was ≡ Some f)
+IsFirstFaultBeside p beside left left' ReadFault = ⊤
+IsFirstFaultBeside p beside left left' NoMemory = ⊤
+
 abbrev pub IsFirstFault : Program → Option Contents → Option Contents → GatherFault → Type 0
-IsFirstFault p left left' (SourceFaulty f) = (f.source < length p.sources) × WhereTold left left' (λ was now. first_fault p was ≡ Some f)
-IsFirstFault p left left' ReadFault = ⊤
-IsFirstFault p left left' NoMemory = ⊤
+IsFirstFault p left left' fault = IsFirstFaultBeside p [] left left' fault

@@ -51,17 +51,27 @@ fault_of_source timing form kinds left earlier s =
 abbrev pub fault_of_rows : Program → Contents → Option SourceFault
 fault_of_rows p left = first_some (λ e. fault_of_source (timing_of p) (form_of (job_of p)) p.kinds left e.0 e.1) (each_with_before p.sources)
 
--- the ticks of the clocks among the rows of the files
+-- where the rows of the files stand
+abbrev pub ranks_in : Program → Contents → List ℕ
+ranks_in p left = ranks_among p (λ d. rows_in (form_of (job_of p)) left d.1)
+
+-- the ticks of the clocks among the rows of the files, and among rows elsewhere that stand there
+abbrev pub ticks_beside : Program → List ℕ → Contents → Declared → List ℕ
+ticks_beside p beside left e = ticks_of p (beside ++ ranks_in p left) e
+
 abbrev pub ticks_in : Program → Contents → Declared → List ℕ
-ticks_in p left e = ticks_of p (ranks_among p (λ d. rows_in (form_of (job_of p)) left d.1)) e
+ticks_in p left e = ticks_beside p [] left e
 
 -- the fault of clocks: their ticks are counted behind the rows of all files
-abbrev pub fault_of_clocks : Program → Contents → Option SourceFault
-fault_of_clocks p left = fault_among p.sources (items_held (form_of (job_of p)) left p.sources) (ticks_in p left)
+abbrev pub fault_of_clocks : Program → List ℕ → Contents → Option SourceFault
+fault_of_clocks p beside left = fault_among p.sources (items_held (form_of (job_of p)) left p.sources) (ticks_beside p beside left)
 
 -- THE FIRST FAULT: that of rows, or else that of clocks
+abbrev pub first_fault_beside : Program → List ℕ → Contents → Option SourceFault
+first_fault_beside p beside left = or_else (fault_of_rows p left) (fault_of_clocks p beside left)
+
 abbrev pub first_fault : Program → Contents → Option SourceFault
-first_fault p left = or_else (fault_of_rows p left) (fault_of_clocks p left)
+first_fault p left = first_fault_beside p [] left
 
 -- GOOD SOURCES: none has a defect, and no clock too many ticks
 abbrev pub AreGood : Program → Contents → Type 0
@@ -122,7 +132,11 @@ lists_of_source p rows ticks e =
 abbrev pub lists_of_sources : Program → (Declared → List Row) → (Declared → List ℕ) → List (List Item)
 lists_of_sources p rows ticks = flat_map (λ e. lists_of_source p (rows e) (ticks e) e) (each_with_before p.sources)
 
+-- the lists of good sources, where clocks tick among rows elsewhere too that stand there
+abbrev pub lists_beside : Program → List ℕ → Contents → List (List Item)
+lists_beside p beside left = lists_of_sources p (λ e. rows_in (form_of (job_of p)) left e.1) (ticks_beside p beside left)
+
 -- THE LISTS OF GOOD SOURCES: for each itag, by its number, its events and all heartbeats of its source at their moments, sorted by these, and
 -- the end; for that of a clock its ticks at their moments, and the end
 abbrev pub lists_of : Program → Contents → List (List Item)
-lists_of p left = lists_of_sources p (λ e. rows_in (form_of (job_of p)) left e.1) (ticks_in p left)
+lists_of p left = lists_beside p [] left

@@ -82,25 +82,26 @@ abbrev pub lists_of_files : (ℕ → Timing) → RowForm → List Kind → Conte
 lists_of_files timing form kinds left sources =
     flat_map (λ e. lists_of_rows (timing (length e.0)) kinds e.1 (sum_by width e.0) (rows_in form left e.1)) (each_with_before sources)
 
--- these are the rows of all sources by their lists, a clock has none, and their span is known
-pub record HasRows (p : Program) (gathered : Gathered) (rows : Declared → List Row) : Type 0 where
+-- these are the rows of all sources by their lists, a clock has none, and their span with that of rows elsewhere is known
+pub record HasRows (p : Program) (beside : List ℕ) (gathered : Gathered) (rows : Declared → List Row) : Type 0 where
   pub lists : lists_in gathered.lists
       ≡ flat_map (λ e. lists_of_rows (timing_of p (length e.0)) p.kinds e.1 (sum_by width e.0) (rows e)) (each_with_before p.sources)
   pub clocks : (e : Declared) → is_clock e.1 ≡ true → rows e ≡ []
-  pub span : list_any is_clock p.sources ≡ true → HasSpan gathered.span (ranks_among p rows)
+  pub span : list_any is_clock p.sources ≡ true → HasSpan gathered.span (beside ++ ranks_among p rows)
 
 -- the lists of all sources with the ticks of the clocks
-abbrev pub HasTicks : Program → Gathered → Streams → Type 0
-HasTicks p gathered streams = (rows : Declared → List Row) → HasRows p gathered rows
-    → (listed streams ≡ lists_of_sources p rows (ticks_of p (ranks_among p rows))) ×
-    (fault_among p.sources gathered.held (ticks_of p (ranks_among p rows)) ≡ None)
+abbrev pub HasTicks : Program → List ℕ → Gathered → Streams → Type 0
+HasTicks p beside gathered streams = (rows : Declared → List Row) → HasRows p beside gathered rows
+    → (listed streams ≡ lists_of_sources p rows (ticks_of p (beside ++ ranks_among p rows))) ×
+    (fault_among p.sources gathered.held (ticks_of p (beside ++ ranks_among p rows)) ≡ None)
 
 -- a fault is that of a clock
-abbrev pub IsTickFault : Program → Gathered → GatherFault → Type 0
-IsTickFault p gathered (SourceFaulty f) = (f.source < length p.sources)
-    × ((rows : Declared → List Row) → HasRows p gathered rows → fault_among p.sources gathered.held (ticks_of p (ranks_among p rows)) ≡ Some f)
-IsTickFault p gathered ReadFault = ⊥
-IsTickFault p gathered NoMemory = ⊤
+abbrev pub IsTickFault : Program → List ℕ → Gathered → GatherFault → Type 0
+IsTickFault p beside gathered (SourceFaulty f) = (f.source < length p.sources)
+    × ((rows : Declared → List Row) → HasRows p beside gathered rows
+    → fault_among p.sources gathered.held (ticks_of p (beside ++ ranks_among p rows)) ≡ Some f)
+IsTickFault p beside gathered ReadFault = ⊥
+IsTickFault p beside gathered NoMemory = ⊤
 
 -- a fault is the first one of rows
 abbrev pub IsRowFault : Program → Option Contents → Option Contents → GatherFault → Type 0

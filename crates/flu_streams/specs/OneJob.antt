@@ -5,7 +5,7 @@ use Rattle.flu_model.specs.declared.jobs.Program.{Program}
 use Rattle.flu_model.specs.declared.moments.Timing.{Timing}
 use Rattle.flu_model.specs.Erasure.{IsSameJob}
 use Rattle.flu_rows.specs.declared.row.RowForm.{RowForm}
-use Rattle.flu_streams.specs.Good.{lists_of_rows, first_fault, lists_of}
+use Rattle.flu_streams.specs.Good.{lists_of_rows, ranks_in, first_fault_beside, lists_beside}
 use Rattle.flu_streams.specs.Rounds.{defect_in}
 use Rattle.flu_streams.specs.Tests.{first_defect}
 
@@ -18,8 +18,9 @@ pub record ReadRowsAlike (kinds others : List Kind) : Type 0 where
 -- and so are the first fault of all sources and the lists of items of all itags
 pub record ReadTheSame (p q : Program) : Type 0 where
   pub rows : ReadRowsAlike p.kinds q.kinds
-  pub faults : first_fault p ≡ first_fault q
-  pub lists : lists_of p ≡ lists_of q
+  pub ranks : ranks_in p ≡ ranks_in q
+  pub faults : first_fault_beside p ≡ first_fault_beside q
+  pub lists : lists_beside p ≡ lists_beside q
 
 -- LAW OF JOBS
 abbrev pub JobsReadTheSame : Type 0

@@ -1,11 +1,11 @@
 //! The ticks of clocks among the rows that were read of all sources.
 
-ghost use Rattle.std.specs.Prelude.{◌≡◌, ◌≤◌, ◌<◌, ◌+◌, ◌/◌, ◌^◌, ℕ, Option, Some, None, All, length, slice_get, take, IfOk};
+ghost use Rattle.std.specs.Prelude.{◌≡◌, ◌≤◌, ◌<◌, ◌+◌, ◌/◌, ◌^◌, ◌++◌, ℕ, List, Option, Some, None, All, length, slice_get, take, IfOk};
 ghost use Rattle.std.specs.List.{filter, list_any};
 ghost use Rattle.flu_model.specs.Rules.{is_clock};
 ghost use Rattle.flu_model.specs.Moments.{IsTiming, end_of_times, limit_of_times};
-ghost use Rattle.flu_streams.specs.Clocks.{ticks_of, items_of_ticks};
-ghost use Rattle.flu_streams.specs.LoopClocks.{IsEarly, span_with, ranks_in};
+ghost use Rattle.flu_streams.specs.Clocks.{AreEarly, ticks_of, items_of_ticks};
+ghost use Rattle.flu_streams.specs.LoopClocks.{HasSpan, IsEarly, span_to, span_with, ranks_in};
 ghost use Rattle.flu_streams.specs.Rounds.{is_within};
 
 use crate::border::Border;
@@ -50,16 +50,37 @@ pub(crate) fn span_with(
     };
     let low = first * sources + u64::from(number);
     let high = last * sources + u64::from(number);
+    Some(span_to(span, low, high))
+}
+
+// A span with rows from the first and to the last of these ranks.
+fn span_to(span: Option<Span>, low: u64, high: u64) -> Span
+    ensures { Some result ≡ span_to span low high }
+{
     match span {
-        None => Some(Span {
+        None => Span {
             first: low,
             last: high,
-        }),
-        Some(span) => Some(Span {
+        },
+        Some(span) => Span {
             first: span.first.min(low),
             last: span.last.max(high),
-        }),
+        },
     }
+}
+
+/// A span with rows elsewhere, which stand there.
+pub(crate) fn span_beside(p: &Program, beside: &[u64], span: Option<Span>) -> Option<Span>
+    requires rows { AreEarly p.now beside.now }
+    requires early { IsEarly (length p.now.sources) (end_of_times p.now) span }
+    ensures span { (ranks : List ℕ) → HasSpan span ranks → HasSpan result (beside.now ++ ranks) }
+    ensures early { IsEarly (length p.now.sources) (end_of_times p.now) result }
+{
+    let mut span = span;
+    for rank in beside {
+        span = Some(span_to(span, *rank, *rank));
+    }
+    span
 }
 
 /// The ticks of a source above one border and up to another, among rows with this span. Only a clock has any.

@@ -23,4 +23,4 @@ pub use laws::{
     programs_of_a_job_read_the_same, rounds_are_counted_in_turn, rounds_are_folded_in_turn,
     rounds_begin_and_end, rounds_hold_few, rounds_meet_what_is_there,
 };
-pub use reading::gather;
+pub use reading::{gather, gather_beside};

@@ -1,6 +1,6 @@
 //! Reading all sources.
 
-ghost use Rattle.std.specs.Prelude.{◌≡◌, ◌≢◌, ◌≤◌, ◌<◌, ◌+◌, ◌/◌, ◌^◌, ℕ, Some, length, vec_len, true, false, IsTrue, OnOk, IfOk, IfErr, IsErrOf, Err};
+ghost use Rattle.std.specs.Prelude.{◌≡◌, ◌≢◌, ◌≤◌, ◌<◌, ◌+◌, ◌/◌, ◌^◌, ◌++◌, ℕ, List, Some, None, length, vec_len, true, false, IsTrue, OnOk, IfOk, IfErr, IsErrOf, Err};
 ghost use Rattle.flu_model.specs.Itags.{count_of_itags};
 ghost use Rattle.flu_model.specs.Listed.{listed};
 ghost use Rattle.flu_model.specs.Moments.{IsTiming, end_of_times, timing_of};
@@ -8,11 +8,11 @@ ghost use Rattle.flu_model.specs.Rules.{is_clock};
 ghost use Rattle.flu_outside.specs.Outside.{WhereTold, Rose, SameCounts};
 ghost use Rattle.flu_outside.specs.Taking.{TakesFrom, TookFronts, CountsOf, IsReadOut};
 ghost use Rattle.flu_streams.specs.Files.{files_of, LeavesOthers, CountsOfNames, OneRose, AreReadOut};
-ghost use Rattle.flu_streams.specs.Faults.{IsFirstFault, HidesNothing};
+ghost use Rattle.flu_streams.specs.Faults.{IsFirstFault, IsFirstFaultBeside, HidesNothing};
 ghost use Rattle.flu_streams.specs.LoopGathering.{span_among, AddsSource, IsFaultOf, HidesNoDefect, IsGathered, HasTicks, IsTickFault, IsRowFault};
 ghost use Rattle.flu_streams.specs.LoopClocks.{HasSpan, IsEarly};
-ghost use Rattle.flu_streams.specs.Clocks.{ranks_among};
-ghost use Rattle.flu_streams.specs.Good.{AreGood, rows_in, lists_of};
+ghost use Rattle.flu_streams.specs.Clocks.{ranks_among, AreEarly};
+ghost use Rattle.flu_streams.specs.Good.{AreGood, rows_in, lists_of, first_fault_beside, lists_beside};
 ghost use Rattle.flu_streams.specs.Lists.{lists_in};
 ghost use Rattle.flu_model.specs.Erasure.{job_of};
 ghost use Rattle.flu_model.specs.Streaming.{are_streams};
@@ -21,7 +21,7 @@ ghost use Rattle.std.specs.List.{list_any};
 ghost use Rattle.flu_streams.specs.Tags.{width};
 
 use crate::border::Border;
-use crate::clocks::{Span, has_clocks, items_of_ticks, span_with, ticks_within};
+use crate::clocks::{Span, has_clocks, items_of_ticks, span_beside, span_with, ticks_within};
 use crate::faults::{GatherFault, SourceFault, Why};
 use crate::gathered::Gathered;
 use crate::inlet::Inlet;
@@ -59,11 +59,55 @@ pub fn gather<F: Files>(alloc: Global, p: &Program, files: &mut F) -> Result<Str
     ensures hides { IsErrOf result GatherFault.ReadFault → HidesNothing p.now (F.left files.old) (F.left files.new) (F.faults files.old) (F.faults files.new) }
     ensures cause { IsErrOf result GatherFault.ReadFault → OneRose (files_of p.now.sources) (F.faults files.old) (F.faults files.new) }
 {
+    gather_beside(alloc, p, &[], files)
+}
+
+/// The same where more rows of the sources are read elsewhere: clocks tick among these too. `beside` says where they stand among the rows of all
+/// sources, each by its time and its source: at `time * sources + source`. The first and the last of them are enough.
+pub fn gather_beside<F: Files>(
+    alloc: Global,
+    p: &Program,
+    beside: &[u64],
+    files: &mut F,
+) -> Result<Streams, GatherFault>
+    requires early { AreEarly p.now beside.now }
+    ensures good { OnOk result (WhereTold (F.left files.old) (F.left files.new) (λ old new. first_fault_beside p.now beside.now old ≡ None)) }
+    ensures lists { IfOk result (λ streams. WhereTold (F.left files.old) (F.left files.new) (λ old new. listed streams ≡ lists_beside p.now beside.now old)) }
+    ensures itags { IfOk result (λ streams. length (listed streams) ≡ count_of_itags p.now) }
+    ensures read_out { OnOk result (AreReadOut (files_of p.now.sources) (F.left files.new)) }
+
+    ensures fault { IfErr result (IsFirstFaultBeside p.now beside.now (F.left files.old) (F.left files.new)) }
+
+    ensures fronts { WhereTold (F.left files.old) (F.left files.new) TookFronts }
+    ensures others { WhereTold (F.left files.old) (F.left files.new) (LeavesOthers (files_of p.now.sources)) }
+    ensures counts { CountsOfNames (F.left files.old) (files_of p.now.sources) (F.faults files.old) (F.faults files.new) }
+    ensures quiet { result ≢ Err GatherFault.ReadFault → SameCounts (F.faults files.old) (F.faults files.new) }
+    ensures puts { SameCounts (F.put_faults files.old) (F.put_faults files.new) }
+    ensures hides { IsErrOf result GatherFault.ReadFault → HidesNothing p.now (F.left files.old) (F.left files.new) (F.faults files.old) (F.faults files.new) }
+    ensures cause { IsErrOf result GatherFault.ReadFault → OneRose (files_of p.now.sources) (F.faults files.old) (F.faults files.new) }
+{
     let gathered = match read_all(alloc, p, files) {
         Ok(gathered) => gathered,
         Err(fault) => return Err(fault),
     };
-    with_ticks(alloc, p, gathered)
+    with_ticks(alloc, p, with_rows_beside(p, beside, gathered))
+}
+
+// What was read, with the span of the rows elsewhere too.
+fn with_rows_beside(p: &Program, beside: &[u64], gathered: Gathered) -> Gathered
+    requires rows { AreEarly p.now beside.now }
+    requires early { IsEarly (length p.now.sources) (end_of_times p.now) gathered.span }
+    ensures lists { result.lists ≡ gathered.lists }
+    ensures held { result.held ≡ gathered.held }
+    ensures span { (ranks : List ℕ) → HasSpan gathered.span ranks → HasSpan result.span (beside.now ++ ranks) }
+    ensures early { IsEarly (length p.now.sources) (end_of_times p.now) result.span }
+{
+    Gathered {
+        lists: gathered.lists,
+        held: gathered.held,
+        number: gathered.number,
+        span: span_beside(p, beside, gathered.span),
+    }
 }
 
 // Reads each source to its end, in declared order.
@@ -117,9 +161,9 @@ fn with_ticks(alloc: Global, p: &Program, gathered: Gathered) -> Result<Streams,
     requires len { vec_len gathered.lists ≡ count_of_itags p.now }
     requires streams { are_streams 0 (lists_in gathered.lists) ≡ true }
     requires early { IsEarly (length p.now.sources) (end_of_times p.now) gathered.span }
-    ensures ticks { IfOk result (HasTicks p.now gathered) }
+    ensures ticks { IfOk result (λ streams. (beside : List ℕ) → HasTicks p.now beside gathered streams) }
     ensures itags { IfOk result (λ streams. length (listed streams) ≡ count_of_itags p.now) }
-    ensures fault { IfErr result (IsTickFault p.now gathered) }
+    ensures fault { IfErr result (λ fault. (beside : List ℕ) → IsTickFault p.now beside gathered fault) }
 {
     let mut lists = gathered.lists;
     let mut held = gathered.held;

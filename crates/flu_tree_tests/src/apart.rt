@@ -115,7 +115,7 @@ node left: look@a
 node right: look@b
 ";
 
-/// Rides that a clock counts.
+/// Rides that a clock counts, whose itag the root owns.
 const CLOCKED: &str = "version 3
 cell rides sum
 tag ride none
@@ -209,14 +209,7 @@ fn nodes_that_may_not(rt: HostRuntime) -> Result<(), Fail> {
     let first = on(0, 0, 0, 0);
     check(&rt, alloc, LOOKS, "", LOOKS_PLAN, &[None, first, first])?;
     let clock = Some(Reason::Clock(2));
-    check(
-        &rt,
-        alloc,
-        CLOCKED,
-        "",
-        CLOCKED_PLAN,
-        &[clock, clock, clock],
-    )
+    check(&rt, alloc, CLOCKED, "", CLOCKED_PLAN, &[clock, None, None])
 }
 
 /// Whether the cells have these classes for a node of a plan.

@@ -9,13 +9,7 @@ use Rattle.flu_contribution.specs.Laws.{AreNodesApart}
 use Rattle.flu_joining.specs.Parts.{waiting_in_each}
 use Rattle.flu_combine.specs.Reading.{AreRead}
 use Rattle.flu_combine.proofs.Combinings.{combined_told, unread_told, cause_told, both_told, hides_behind}
-use Rattle.flu_combine.proofs.NoClocks.{no_clock_of}
 use Rattle.flu_combine.proofs.combining.combined_text.Goals as goal
-
-pub rest_text-requires-clause-no_clocks : goal.rest_text-requires-clause-no_clocks
-rest_text-requires-clause-no_clocks g c =
-    no_clock_of (program_of c.args.c.now) (plan_of c.args.v.now).nodes c.args.names.now c.in-Ok.field-0.nodes.items c.requires.some
-    c.in-Ok.ensures.as_many_nodes c.in-Ok.ensures.apart
 
 pub returns-in-Ok-clause-combined : goal.returns-in-Ok-clause-combined
 returns-in-Ok-clause-combined g c =
@@ -24,13 +18,16 @@ returns-in-Ok-clause-combined g c =
     let nodes = (plan_of c.args.v.now).nodes in
     let names = c.args.names.now in
     let queues = waiting_in_each c.in-Ok.field-0.queues.items in
+    let told = c.as_slice-in-Ok.result.now in
     let old = left c.args.files.now in
     let mid = left c.read_partials.new.files in
     let new = left c.rest_text.new.files in
     let apart = subst (AreNodesApart p nodes) (sym c.as_slice.ensures.value) c.in-Ok.ensures.apart in
-    let read = subst (λ (ws : List ℕ). WhereTold old mid (AreRead p nodes names ws queues)) (sym c.as_slice.ensures.value) c.in-Ok.ensures.read in
+    let read = subst (λ (ws : List ℕ). WhereTold old mid (AreRead p nodes names ws queues told)) (sym c.as_slice.ensures.value)
+    (subst (λ (ranks : List ℕ). WhereTold old mid (AreRead p nodes names c.in-Ok.field-0.nodes.items queues ranks)) (sym c.as_slice-in-Ok.ensures.value)
+    c.in-Ok.ensures.read) in
     IfOk-weaker c.rest_text.result _ _
-    (λ text rest. combined_told p nodes names c.as_slice.result.now queues text old mid new c.requires.some apart read rest c.rest_text.ensures.others)
+    (λ text rest. combined_told p nodes names c.as_slice.result.now queues told text old mid new c.requires.some apart read rest c.rest_text.ensures.others)
     c.rest_text.ensures.rest
 
 pub returns-in-Ok-clause-cause : goal.returns-in-Ok-clause-cause
@@ -41,13 +38,16 @@ returns-in-Ok-clause-cause g c =
     let nodes = (plan_of c.args.v.now).nodes in
     let names = c.args.names.now in
     let queues = waiting_in_each c.in-Ok.field-0.queues.items in
+    let told = c.as_slice-in-Ok.result.now in
     let old = left c.args.files.now in
     let mid = left c.read_partials.new.files in
     let new = left c.rest_text.new.files in
     let apart = subst (AreNodesApart p nodes) (sym c.as_slice.ensures.value) c.in-Ok.ensures.apart in
-    let read = subst (λ (ws : List ℕ). WhereTold old mid (AreRead p nodes names ws queues)) (sym c.as_slice.ensures.value) c.in-Ok.ensures.read in
+    let read = subst (λ (ws : List ℕ). WhereTold old mid (AreRead p nodes names ws queues told)) (sym c.as_slice.ensures.value)
+    (subst (λ (ranks : List ℕ). WhereTold old mid (AreRead p nodes names c.in-Ok.field-0.nodes.items queues ranks)) (sym c.as_slice-in-Ok.ensures.value)
+    c.in-Ok.ensures.read) in
     IfErr-weaker c.rest_text.result _ _
-    (λ fault is. cause_told p nodes names c.as_slice.result.now queues fault old mid new (faults c.args.files.now) (faults c.read_partials.new.files)
+    (λ fault is. cause_told p nodes names c.as_slice.result.now queues told fault old mid new (faults c.args.files.now) (faults c.read_partials.new.files)
     (faults c.rest_text.new.files) apart c.in-Ok.ensures.as_many read (c.in-Ok.ensures.quiet (λ e. (cc)))
     (both_told TookFronts mid new c.rest_text.ensures.fronts) is)
     c.rest_text.ensures.fault
@@ -64,11 +64,15 @@ returns-in-Ok-clause-others g c =
     let nodes = (plan_of c.args.v.now).nodes in
     let names = c.args.names.now in
     let queues = waiting_in_each c.in-Ok.field-0.queues.items in
+    let told = c.as_slice-in-Ok.result.now in
     let old = left c.args.files.now in
     let mid = left c.read_partials.new.files in
     let apart = subst (AreNodesApart p nodes) (sym c.as_slice.ensures.value) c.in-Ok.ensures.apart in
-    let read = subst (λ (ws : List ℕ). WhereTold old mid (AreRead p nodes names ws queues)) (sym c.as_slice.ensures.value) c.in-Ok.ensures.read in
-    unread_told p nodes names c.as_slice.result.now queues old mid (left c.rest_text.new.files) apart read c.in-Ok.ensures.others c.rest_text.ensures.others
+    let read = subst (λ (ws : List ℕ). WhereTold old mid (AreRead p nodes names ws queues told)) (sym c.as_slice.ensures.value)
+    (subst (λ (ranks : List ℕ). WhereTold old mid (AreRead p nodes names c.in-Ok.field-0.nodes.items queues ranks)) (sym c.as_slice-in-Ok.ensures.value)
+    c.in-Ok.ensures.read) in
+    unread_told p nodes names c.as_slice.result.now queues told old mid (left c.rest_text.new.files) apart read c.in-Ok.ensures.others
+    c.rest_text.ensures.others
 
 pub returns-in-Ok-clause-hides : goal.returns-in-Ok-clause-hides
 returns-in-Ok-clause-hides g c = λ is.
@@ -78,11 +82,14 @@ returns-in-Ok-clause-hides g c = λ is.
     let nodes = (plan_of c.args.v.now).nodes in
     let names = c.args.names.now in
     let queues = waiting_in_each c.in-Ok.field-0.queues.items in
+    let told = c.as_slice-in-Ok.result.now in
     let old = left c.args.files.now in
     let mid = left c.read_partials.new.files in
     let new = left c.rest_text.new.files in
     let apart = subst (AreNodesApart p nodes) (sym c.as_slice.ensures.value) c.in-Ok.ensures.apart in
-    let read = subst (λ (ws : List ℕ). WhereTold old mid (AreRead p nodes names ws queues)) (sym c.as_slice.ensures.value) c.in-Ok.ensures.read in
-    inr (hides_behind p nodes names c.as_slice.result.now queues old mid new (faults c.args.files.now) (faults c.read_partials.new.files)
+    let read = subst (λ (ws : List ℕ). WhereTold old mid (AreRead p nodes names ws queues told)) (sym c.as_slice.ensures.value)
+    (subst (λ (ranks : List ℕ). WhereTold old mid (AreRead p nodes names c.in-Ok.field-0.nodes.items queues ranks)) (sym c.as_slice-in-Ok.ensures.value)
+    c.in-Ok.ensures.read) in
+    inr (hides_behind p nodes names c.as_slice.result.now queues told old mid new (faults c.args.files.now) (faults c.read_partials.new.files)
     (faults c.rest_text.new.files) apart read (c.in-Ok.ensures.quiet (λ e. (cc)))
     (both_told TookFronts mid new c.rest_text.ensures.fronts) (c.rest_text.ensures.hides is))

@@ -9,14 +9,14 @@ use Rattle.flu_combine.proofs.gathering.gather_rest.Goals as goal
 pub returns-clause-good : goal.returns-clause-good
 returns-clause-good g c =
     let left = g.F.Files.left in
-    moved (λ q r. OnOk c.gather_selected.result (ReadAreGood q r (left c.args.files.now) (left c.gather_selected.new.files))) _ _ _ _ c.program.ensures
-    (ap reads c.as_slice.ensures ∙ c.sources_of_rest-read.ensures.read) c.gather_selected.ensures.good
+    moved (λ q r. OnOk c.gather_selected.result (ReadAreGood q c.args.told.now r (left c.args.files.now) (left c.gather_selected.new.files))) _ _ _ _
+    c.program.ensures (ap reads c.as_slice.ensures ∙ c.sources_of_rest-read.ensures.read) c.gather_selected.ensures.good
 
 pub returns-clause-lists : goal.returns-clause-lists
 returns-clause-lists g c =
     let left = g.F.Files.left in
-    moved (λ q r. IfOk c.gather_selected.result (AreReadLists q r (left c.args.files.now) (left c.gather_selected.new.files))) _ _ _ _ c.program.ensures
-    (ap reads c.as_slice.ensures ∙ c.sources_of_rest-read.ensures.read) c.gather_selected.ensures.lists
+    moved (λ q r. IfOk c.gather_selected.result (AreReadLists q c.args.told.now r (left c.args.files.now) (left c.gather_selected.new.files))) _ _ _ _
+    c.program.ensures (ap reads c.as_slice.ensures ∙ c.sources_of_rest-read.ensures.read) c.gather_selected.ensures.lists
 
 pub returns-clause-read_out : goal.returns-clause-read_out
 returns-clause-read_out g c =
@@ -27,8 +27,8 @@ returns-clause-read_out g c =
 pub returns-clause-fault : goal.returns-clause-fault
 returns-clause-fault g c =
     let left = g.F.Files.left in
-    moved (λ q r. IfErr c.gather_selected.result (IsFirstReadFault q r (left c.args.files.now) (left c.gather_selected.new.files))) _ _ _ _ c.program.ensures
-    (ap reads c.as_slice.ensures ∙ c.sources_of_rest-read.ensures.read) c.gather_selected.ensures.fault
+    moved (λ q r. IfErr c.gather_selected.result (IsFirstReadFault q c.args.told.now r (left c.args.files.now) (left c.gather_selected.new.files))) _ _ _ _
+    c.program.ensures (ap reads c.as_slice.ensures ∙ c.sources_of_rest-read.ensures.read) c.gather_selected.ensures.fault
 
 pub returns-clause-others : goal.returns-clause-others
 returns-clause-others g c =

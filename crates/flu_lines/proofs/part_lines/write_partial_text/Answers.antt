@@ -11,3 +11,8 @@ returns-in-TooLong g c = writes_as _ _ _ _ _ _ c.write_all.result
 pub returns-in-UnknownNode : goal.returns-in-UnknownNode
 returns-in-UnknownNode g c = writes_as _ _ _ _ _ _ c.write_all-in-UnknownNode.result
     (ap (λ defect. partial_defect_text c.args.program.now c.args.plan.now.nodes defect ++ codes "\n") (sym c.in-UnknownNode.is)) c.write_all-in-UnknownNode.ensures
+
+pub returns-in-WrongTimes : goal.returns-in-WrongTimes
+returns-in-WrongTimes g c = writes_as _ _ _ _ _ _ c.write_all-in-WrongTimes.result
+    (ap (λ defect. partial_defect_text c.args.program.now c.args.plan.now.nodes defect ++ codes "\n") (sym c.in-WrongTimes.is))
+    c.write_all-in-WrongTimes.ensures

@@ -1,4 +1,4 @@
-use Rattle.std.specs.Prelude.{OnOk, IfOk, IfErr, IsErrOf}
+use Rattle.std.specs.Prelude.{[], OnOk, IfOk, IfErr, IsErrOf}
 use Rattle.flu_outside.specs.Outside.{WhereTold}
 use Rattle.flu_streams.specs.declared.faults.GatherFault.TheVariants as faults
 use Rattle.flu_selected.specs.Gathering.{ReadAreGood, AreReadLists, ReadAreOut, IsFirstReadFault, LeavesUnread, CountsOfRead, HidesNone, ReadRose}
@@ -7,12 +7,12 @@ use Rattle.flu_node_run.proofs.gathering.gather_needed.Goals as goal
 
 pub returns-clause-good : goal.returns-clause-good
 returns-clause-good g c =
-    moved (λ x. OnOk c.gather_selected.result (ReadAreGood x.0 x.1 (g.F.Files.left c.args.files.now) (g.F.Files.left c.gather_selected.new.files)))
+    moved (λ x. OnOk c.gather_selected.result (ReadAreGood x.0 [] x.1 (g.F.Files.left c.args.files.now) (g.F.Files.left c.gather_selected.new.files)))
     _ _ _ _ c.program.ensures (is_read_as _ _ _ c.as_slice.ensures c.sources_of_node-read.ensures.read) c.gather_selected.ensures.good
 
 pub returns-clause-lists : goal.returns-clause-lists
 returns-clause-lists g c =
-    moved (λ x. IfOk c.gather_selected.result (AreReadLists x.0 x.1 (g.F.Files.left c.args.files.now) (g.F.Files.left c.gather_selected.new.files)))
+    moved (λ x. IfOk c.gather_selected.result (AreReadLists x.0 [] x.1 (g.F.Files.left c.args.files.now) (g.F.Files.left c.gather_selected.new.files)))
     _ _ _ _ c.program.ensures (is_read_as _ _ _ c.as_slice.ensures c.sources_of_node-read.ensures.read) c.gather_selected.ensures.lists
 
 pub returns-clause-read_out : goal.returns-clause-read_out
@@ -22,7 +22,7 @@ returns-clause-read_out g c =
 
 pub returns-clause-fault : goal.returns-clause-fault
 returns-clause-fault g c =
-    moved (λ x. IfErr c.gather_selected.result (IsFirstReadFault x.0 x.1 (g.F.Files.left c.args.files.now) (g.F.Files.left c.gather_selected.new.files)))
+    moved (λ x. IfErr c.gather_selected.result (IsFirstReadFault x.0 [] x.1 (g.F.Files.left c.args.files.now) (g.F.Files.left c.gather_selected.new.files)))
     _ _ _ _ c.program.ensures (is_read_as _ _ _ c.as_slice.ensures c.sources_of_node-read.ensures.read) c.gather_selected.ensures.fault
 
 pub returns-clause-others : goal.returns-clause-others

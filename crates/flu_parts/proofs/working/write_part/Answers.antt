@@ -3,9 +3,6 @@ use Rattle.flu_deps.specs.Validated.{plan_of}
 use Rattle.flu_parts.proofs.BehindTexts.{left_of_node}
 use Rattle.flu_parts.proofs.working.write_part.Goals as goal
 
-pub write_partial-requires-clause-no_clocks : goal.write_partial-requires-clause-no_clocks
-write_partial-requires-clause-no_clocks g c = c.in-Ok.ensures.node.may.no_clock
-
 pub returns-in-Ok-write_partial-clause-others : goal.returns-in-Ok-write_partial-clause-others
 returns-in-Ok-write_partial-clause-others g c job plan =
     left_of_node (program_of c.args.checked.now) (plan_of c.args.valid.now).nodes job plan c.args.node.now c.in-Ok.w c.in-Ok.ensures.node _ _

@@ -1,12 +1,16 @@
-use Rattle.flu_contribution.specs.Sharing.{needs_itag}
-use Rattle.flu_selected.specs.Laws.{selected}
+use Rattle.std.specs.Prelude.{[]}
 use Rattle.flu_readers.specs.Reading.{reads}
-use Rattle.flu_readers.proofs.Parts.{agree_on_read, read_streams}
+use Rattle.flu_selected.specs.Laws.{selected}
+use Rattle.flu_readers.proofs.Idle.{sends_alike}
 use Rattle.flu_readers.proofs.laws.a_node_reads_its_part.Goals as goal
 
 pub returns : goal.returns
-returns c = λ p nodes w left no_clock good. record {
-  length = c.selected_sources_are_read.ensures.length p (selected p (reads p nodes w) left);
-  streams = read_streams c.good_sources_give_streams.ensures.streams c.closed_sources_have_no_defect.ensures.first p (reads p nodes w) left no_clock good;
-  agree = agree_on_read c.selected_sources_are_read.ensures.lists c.selected_sources_are_read.ensures.length p (needs_itag p nodes w) left no_clock;
-}
+returns c = λ p nodes w left may all good.
+    let read = c.selected_sources_are_read.ensures in
+    let streams = read.streams p (reads p nodes w) [] left all in
+    record {
+      length = read.length p [] (selected p (reads p nodes w) left);
+      streams = streams;
+      sends = sends_alike read.ranks read.lists read.ticks read.length p nodes w left may all streams c.idle_events_dont_matter.ensures
+          c.merged_lists_agree.ensures.events c.merged_events_rise_strictly.ensures;
+    }

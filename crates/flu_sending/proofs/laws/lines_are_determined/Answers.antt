@@ -5,4 +5,4 @@ pub returns-clause-events : goal.returns-clause-events
 returns-clause-events c = by_needed c.only_needed_events_matter.ensures
 
 pub returns-clause-parts : goal.returns-clause-parts
-returns-clause-parts c = by_parts c.only_needed_events_matter.ensures c.merged_lists_agree.ensures
+returns-clause-parts c = by_parts

@@ -1,7 +1,7 @@
-use Rattle.std.proofs.Common.{◌≡◌, ◌<◌, ◌+◌, ◌++◌, ◌∷◌, [], List, None, length, vec_len, take, drop, true, false, sym, ap, subst, ◌∙◌, arith, refl}
+use Rattle.std.proofs.Common.{◌≡◌, ℕ, ◌≤◌, ◌<◌, ◌+◌, ◌++◌, ◌∷◌, [], List, None, length, vec_len, take, drop, true, false, sym, ap, subst, ◌∙◌, arith, refl}
 use Rattle.std.specs.Prelude.{slice_get, sum_by, set}
 use Rattle.std.specs.List.{flat_map, filter}
-use Rattle.std.proofs.lemmas.List.{length-map, map-set}
+use Rattle.std.proofs.lemmas.List.{append-nil, drop_all, length-map, map-set, take_all}
 use Rattle.std.proofs.lemmas.List.Sums.{sum_by-append}
 use Rattle.flu_model.specs.Listing.{listed_tags}
 use Rattle.flu_model.specs.Moments.{timing_of}
@@ -9,7 +9,9 @@ use Rattle.flu_model.specs.Rules.{is_clock}
 use Rattle.flu_model.specs.Streaming.{is_stream_from, are_streams}
 use Rattle.flu_rows.specs.declared.row.Row.{Row}
 use Rattle.flu_streams.specs.declared.border.Border.TheVariants.{Closed}
+use Rattle.flu_streams.specs.Before.{each_with_before}
 use Rattle.flu_streams.specs.Clocks.{Declared, ranks_among, ticks_of, items_of_ticks}
+use Rattle.flu_streams.specs.Good.{lists_of_source}
 use Rattle.flu_streams.specs.LoopClocks.{ranks_in}
 use Rattle.flu_streams.specs.LoopGathering.{IsTickFault, HasRows}
 use Rattle.flu_streams.specs.Lists.{lists_in}
@@ -51,16 +53,17 @@ returns-then-count-left-clause-fault c =
     c.loop-source.invariant.number c.ticks_within-ticks.ensures.ticks in
     let within : c.loop-source.number < length p.sources =
     (let number = c.loop-source.invariant.number in let same = ap length c.items-source-items.ensures in let lt = c.loop-source-test.true in omega arith) in
-    subst (IsTickFault p c.args.gathered) (sym c.too_many.ensures) (
+    λ beside. subst (IsTickFault p beside c.args.gathered) (sym c.too_many.ensures) (
       within,
       λ rows has.
-          let all = ap length (found_ticks p rows c.args.gathered.span i s c.ticks_within-ticks.result (has.span (any_clock p.sources i s at clock)) ticks) in
-          let is = subst (λ l. AreTicked p rows (take i p.sources) l c.args.gathered.held c.loop-source.held (lists_in c.loop-source.lists))
-          (rest_here p.sources items i s c.items-source-items.ensures c.loop-source-test.true c.source-item.is) (c.loop-source.invariant.ticked rows has) in
+          let ranks = beside ++ ranks_among p rows in
+          let all = ap length (found_ticks p ranks c.args.gathered.span i s c.ticks_within-ticks.result (has.span (any_clock p.sources i s at clock)) ticks) in
+          let is = subst (λ l. AreTicked p ranks rows (take i p.sources) l c.args.gathered.held c.loop-source.held (lists_in c.loop-source.lists))
+          (rest_here p.sources items i s c.items-source-items.ensures c.loop-source-test.true c.source-item.is) (c.loop-source.invariant.ticked beside rows has) in
           let count = c.count.ensures in
           let few = c.loop-source.invariant.few in
           let many = c.if-count-left.true in
-          ticks_stop p rows (take i p.sources) (drop (i + 1) p.sources) s c.args.gathered.held c.loop-source.held (lists_in c.loop-source.lists) is
+          ticks_stop p ranks rows (take i p.sources) (drop (i + 1) p.sources) s c.args.gathered.held c.loop-source.held (lists_in c.loop-source.lists) is
           c.loop-source.number _ t.split (c.loop-source.invariant.number ∙ t.size) few (omega (arith, all, count, many, few)) refl,
     )
 
@@ -104,15 +107,15 @@ first_next c =
     omega (arith, one, w, c.loop-source.invariant.first)
 
 -- what was known of the sources, of which this one is the next
-ticked_here : (c : goal.Joined-is_some) (rows : Declared → List Row) → HasRows c.args.p.now c.args.gathered rows
-    → AreTicked c.args.p.now rows (take c.loop-source.source-index c.args.p.now.sources)
+ticked_here : (c : goal.Joined-is_some) (beside : List ℕ) (rows : Declared → List Row) → HasRows c.args.p.now beside c.args.gathered rows
+    → AreTicked c.args.p.now (beside ++ ranks_among c.args.p.now rows) rows (take c.loop-source.source-index c.args.p.now.sources)
     (c.source-item.result ∷ drop (c.loop-source.source-index + 1) c.args.p.now.sources) c.args.gathered.held c.loop-source.held (lists_in c.loop-source.lists)
-ticked_here c rows has =
+ticked_here c beside rows has =
     let p = c.args.p.now in
     let i = c.loop-source.source-index in
-    subst (λ l. AreTicked p rows (take i p.sources) l c.args.gathered.held c.loop-source.held (lists_in c.loop-source.lists))
+    subst (λ l. AreTicked p (beside ++ ranks_among p rows) rows (take i p.sources) l c.args.gathered.held c.loop-source.held (lists_in c.loop-source.lists))
     (rest_here p.sources c.items-source-items.result.now i c.source-item.result c.items-source-items.ensures c.loop-source-test.true c.source-item.is)
-    (c.loop-source.invariant.ticked rows has)
+    (c.loop-source.invariant.ticked beside rows has)
 
 pub loop-source-preserved : goal.loop-source-preserved
 loop-source-preserved c = elim c.if-is_some.branch [
@@ -157,21 +160,22 @@ loop-source-preserved c = elim c.if-is_some.branch [
         len = ap vec_len w.lists-is ∙ c.loop-source.invariant.len;
         streams = ap (are_streams 0) lists_are
             ∙ streams_set 0 (sum_by width earlier) (lists_in c.loop-source.lists) items lt c.loop-source.invariant.streams stream;
-        ticked = λ rows has.
-            let found = found_ticks p rows c.args.gathered.span i s w.ticks_within-ticks.result (has.span (any_clock p.sources i s at clock)) ticks in
+        ticked = λ beside rows has.
+            let ranks = beside ++ ranks_among p rows in
+            let found = found_ticks p ranks c.args.gathered.span i s w.ticks_within-ticks.result (has.span (any_clock p.sources i s at clock)) ticks in
             let all = ap length found in
             let timing : w.timing_of.result ≡ timing_of p (length earlier) = w.timing_of.ensures.value
             ∙ ap (timing_of p) (c.loop-source.invariant.number ∙ t.size) in
-            let its : items ≡ items_of_ticks (timing_of p (length earlier)) (sum_by width earlier) (ticks_of p (ranks_among p rows) (earlier, s)) =
+            let its : items ≡ items_of_ticks (timing_of p (length earlier)) (sum_by width earlier) (ticks_of p ranks (earlier, s)) =
             own ∙ ap (λ x. items_of_ticks x c.loop-source.first w.ticks_within-ticks.result) timing
             ∙ ap (λ n. items_of_ticks (timing_of p (length earlier)) n w.ticks_within-ticks.result) first
             ∙ ap (items_of_ticks (timing_of p (length earlier)) (sum_by width earlier)) found in
-            as_ticked p rows (earlier ++ s ∷ []) (take (i + 1) p.sources) (drop (i + 1) p.sources) c.args.gathered.held
-            (c.loop-source.held + length (ticks_of p (ranks_among p rows) (earlier, s))) c.if-is_some.held
+            as_ticked p ranks rows (earlier ++ s ∷ []) (take (i + 1) p.sources) (drop (i + 1) p.sources) c.args.gathered.held
+            (c.loop-source.held + length (ticks_of p ranks (earlier, s))) c.if-is_some.held
             (set (lists_in c.loop-source.lists) (sum_by width earlier) items) (lists_in c.if-is_some.lists) t.more
             (omega (arith, sum, held, all)) lists_are
-            (ticks_on p rows earlier (drop (i + 1) p.sources) s c.args.gathered.held c.loop-source.held (lists_in c.loop-source.lists)
-            (ticked_here c rows has) items
+            (ticks_on p ranks rows earlier (drop (i + 1) p.sources) s c.args.gathered.held c.loop-source.held (lists_in c.loop-source.lists)
+            (ticked_here c beside rows has) items
             clock width_is (omega (arith, all, count, few, most)) its);
       }
   | else-is_some w ↦
@@ -187,10 +191,29 @@ loop-source-preserved c = elim c.if-is_some.branch [
         few = (let most = c.loop-source.invariant.few in let same = w.held-is in omega (arith, most, same));
         len = ap vec_len w.lists-is ∙ c.loop-source.invariant.len;
         streams = ap (λ lists. are_streams 0 (lists_in lists)) w.lists-is ∙ c.loop-source.invariant.streams;
-        ticked = λ rows has.
-            as_ticked p rows (earlier ++ s ∷ []) (take (i + 1) p.sources) (drop (i + 1) p.sources) c.args.gathered.held c.loop-source.held c.if-is_some.held
+        ticked = λ beside rows has.
+            let ranks = beside ++ ranks_among p rows in
+            as_ticked p ranks rows (earlier ++ s ∷ []) (take (i + 1) p.sources) (drop (i + 1) p.sources) c.args.gathered.held c.loop-source.held c.if-is_some.held
             (lists_in c.loop-source.lists) (lists_in c.if-is_some.lists) t.more w.held-is (ap lists_in w.lists-is)
-            (goes_on p rows earlier (drop (i + 1) p.sources) s c.args.gathered.held c.loop-source.held (lists_in c.loop-source.lists) (ticked_here c rows has)
+            (goes_on p ranks rows earlier (drop (i + 1) p.sources) s c.args.gathered.held c.loop-source.held (lists_in c.loop-source.lists) (ticked_here c beside rows has)
             file c.loop-source.invariant.few);
       }
 ]
+
+pub returns-clause-ticks : goal.returns-clause-ticks
+returns-clause-ticks c = λ beside rows has.
+    let p = c.args.p.now in
+    let i = c.loop-source.source-index in
+    let ranks = beside ++ ranks_among p rows in
+    let size = ap length c.items-source-items.ensures in
+    let past = c.loop-source-test.false in
+    let long : length p.sources ≤ i = omega (arith, size, past) in
+    let front : take i p.sources ≡ p.sources = take_all i p.sources long in
+    let behind : drop i p.sources ≡ [] = drop_all i p.sources long in
+    let is = subst (λ l. AreTicked p ranks rows p.sources l c.args.gathered.held c.loop-source.held (lists_in c.loop-source.lists)) behind
+    (subst (λ l. AreTicked p ranks rows l (drop i p.sources) c.args.gathered.held c.loop-source.held (lists_in c.loop-source.lists)) front
+    (c.loop-source.invariant.ticked beside rows has)) in (
+      c.new.ensures ∙ is.lists_are
+          ∙ append-nil (flat_map (λ e. lists_of_source p (rows e) (ticks_of p ranks e) e) (each_with_before p.sources)),
+      is.none,
+    )
